@@ -1,0 +1,95 @@
+-- Demands 2 and 3 as types. States the last two paragraphs of document 01, "What is kept". The values of these types are proved in the
+-- crate `history`.
+use Prim.Native.Nat.{ℕ, zero, suc, _+_, _≤_, _<_}
+use mathlib.Core.Path.{_≡_}
+use mathlib.Core.Logic.{_≢_, _⊎_, _↔_}
+use mathlib.Core.Bool.{Bool, true, false}
+use mathlib.Core.List.{List, [], _∷_, _++_}
+use lib.ListN.{length}
+use Rattle.model.specs.Bytes.{bytesOf, part}
+use Rattle.model.specs.Item.{frameImage}
+use Rattle.model.specs.State.{frameBytes}
+use Rattle.model.specs.Calls.{makeOf, inspectOf, loadOf, refusalOf}
+use Rattle.model.specs.AbstractLog.{Logged, AbstractLog, emptyLog, replay, lastPlace}
+use Rattle.model.specs.History.{Power, off, on, Machine, Event, freshMachine, allAllowed, run, logAfter}
+use Rattle.model.specs.declared.state.State.{State}
+
+-- A whole history: what Make was given, and the events after it.
+pub record History : Type 0 where
+  pub found : List ℕ
+  pub pages : ℕ
+  pub slots : ℕ
+  pub records : ℕ
+  pub notes : ℕ
+  pub events : List Event
+
+abbrev pub fresh : History → Machine
+fresh h = freshMachine (h .found) (h .pages) (h .slots) (h .records) (h .notes)
+
+-- "one Make, not refused, then a list of" events, each of them allowed
+pub record Legal (h : History) : Type 0 where
+  pub make : refusalOf (makeOf (h .found) (h .pages) (h .slots) (h .records) (h .notes) .answer) ≡ 0
+  pub events : allAllowed (fresh h) (h .events) ≡ true
+
+-- the machine that a history leaves, and the abstract log beside it
+unfoldable pub reached : History → Machine
+reached h = run (fresh h) (h .events)
+
+unfoldable pub logOf : History → AbstractLog
+logOf h = logAfter (fresh h) emptyLog (h .events)
+
+-- the durable changes (document 01: kept)
+abbrev pub keptOf : History → List Logged
+keptOf h = logOf h .durable
+
+-- ---- what inspection shows
+
+abbrev pub inspection : History → ℕ → List ℕ → ℕ
+inspection h p buffer = refusalOf (inspectOf (reached h .volume) p buffer .answer)
+
+-- "bytes 4 to 251 of the buffer": number and body
+abbrev pub shown : History → ℕ → List ℕ → List ℕ
+shown h p buffer = part (inspectOf (reached h .volume) p buffer .buffer) 4 248
+
+-- "For a page 1 to P and a buffer of 256 bytes it answers 7 exactly if the page is blank; otherwise it isn't refused, and bytes 4 to 251 of
+-- the buffer are the replay's number and body"
+pub record Inspects (h : History) (p : ℕ) (buffer : List ℕ) : Type 0 where
+  pub blank : (inspection h p buffer ≡ 7) ↔ (lastPlace p (keptOf h) ≡ 0)
+  pub kept : lastPlace p (keptOf h) ≢ 0
+      → (inspection h p buffer ≡ 0) × (shown h p buffer ≡ bytesOf 4 (lastPlace p (keptOf h)) ++ replay p (keptOf h))
+
+-- demand 2 of a Load in a machine that a history reaches: it is never refused 19, and where it is not refused the page has a durable change
+-- and the frame holds exactly the replay of its changes, durable and pending, check bytes zero
+pub record Loads (h : History) (m : List ℕ) (s : State) (p f : ℕ) : Type 0 where
+  pub unbroken : refusalOf (loadOf (reached h .volume) m s p f .answer) ≢ 19
+  pub loaded : refusalOf (loadOf (reached h .volume) m s p f .answer) ≡ 0
+      → (lastPlace p (keptOf h) ≢ 0)
+      × (frameBytes (loadOf (reached h .volume) m s p f .memory) f ≡ frameImage p (lastPlace p (keptOf h)) (replay p (keptOf h)))
+      × (lastPlace p (keptOf h ++ logOf h .pending) ≡ lastPlace p (keptOf h))
+      × (replay p (keptOf h ++ logOf h .pending) ≡ replay p (keptOf h))
+
+-- ---- two histories
+
+-- "all pages 1 to P agree in those bytes or give 7 in both", each with a buffer of its own
+abbrev pub Agree : History → History → List ℕ → List ℕ → ℕ → Type 0
+Agree h k x y p =
+    ((inspection h p x ≡ 7) × (inspection k p y ≡ 7)) ⊎ ((inspection h p x ≡ 0) × (inspection k p y ≡ 0) × (shown h p x ≡ shown k p y))
+
+-- a list is a beginning of another
+abbrev pub Begins : List Logged → List Logged → Type 0
+Begins k l = (r : List Logged) × (k ++ r ≡ l)
+
+-- ---- the claims
+
+pub record Demand2 : Type 0 where
+  pub inspects : (h : History) → Legal h → (p : ℕ) → 1 ≤ p → p ≤ h .pages → (buffer : List ℕ) → length buffer ≡ 256 → Inspects h p buffer
+  pub loads : (h : History) → Legal h → (m : List ℕ) (s : State) → reached h .power ≡ on m s → (p f : ℕ) → Loads h m s p f
+
+-- "If both kept lists, pages included, are beginnings of one list, then all pages 1 to P agree in those bytes or give 7 in both, exactly
+-- when the kept lists are equally long." The counts of slots, log records and notes, the memories and the buffers may differ.
+abbrev pub Demand3 : Type 0
+Demand3 =
+    (h k : History) → Legal h → Legal k → h .pages ≡ k .pages
+    → (l : List Logged) → Begins (keptOf h) l → Begins (keptOf k) l
+    → (x y : List ℕ) → length x ≡ 256 → length y ≡ 256
+    → ((p : ℕ) → 1 ≤ p → p ≤ h .pages → Agree h k x y p) ↔ (length (keptOf h) ≡ length (keptOf k))

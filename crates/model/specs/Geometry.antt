@@ -1,0 +1,95 @@
+-- A volume's heading, counts and length, and the place of each item in it. States document 01, "The volume and the memory":
+-- the four bytes 43 48 50 56, then each section after its count; P 1 to 64, B 0 to 128, L 1 to 1,024, N 0 to 1,024; the length.
+use Prim.Native.Nat.{ℕ, _+_, _-_, _*_}
+use mathlib.Core.Bool.{Bool, true, false, _&&_}
+use mathlib.Core.List.{List, [], _∷_, _++_}
+use lib.Dec.{eqb, leb}
+use lib.ListN.{length, replicate}
+use Rattle.model.specs.Tests.{all, within}
+use Rattle.model.specs.Bytes.{le, bytesOf, field, byteAt, part, splice, startsWith}
+use Rattle.model.specs.declared.geometry.Geometry.{Geometry}
+
+-- the magic (document 01: the four bytes that a volume starts with)
+abbrev pub magic : List ℕ
+magic = 0x43 ∷ 0x48 ∷ 0x50 ∷ 0x56 ∷ []
+
+-- where the counts of slots, log records and notes stand; that of pages stands at 4
+abbrev pub slotCountAt : ℕ → ℕ
+slotCountAt p = 8 + 256 * p
+
+abbrev pub recordCountAt : ℕ → ℕ → ℕ
+recordCountAt p b = 12 + 256 * p + 256 * b
+
+abbrev pub noteCountAt : ℕ → ℕ → ℕ → ℕ
+noteCountAt p b l = 16 + 256 * p + 256 * b + 64 * l
+
+-- the length of a volume with these counts
+abbrev pub lengthFor : ℕ → ℕ → ℕ → ℕ → ℕ
+lengthFor p b l n = 20 + 256 * p + 256 * b + 64 * l + 16 * n
+
+abbrev pub pagesOf : List ℕ → ℕ
+pagesOf v = field 4 4 v
+
+abbrev pub slotsOf : List ℕ → ℕ
+slotsOf v = field 4 (slotCountAt (pagesOf v)) v
+
+abbrev pub recordsOf : List ℕ → ℕ
+recordsOf v = field 4 (recordCountAt (pagesOf v) (slotsOf v)) v
+
+abbrev pub notesOf : List ℕ → ℕ
+notesOf v = field 4 (noteCountAt (pagesOf v) (slotsOf v) (recordsOf v)) v
+
+-- what a volume's heading says; where the volume is not valid the numbers mean nothing
+unfoldable pub geometryOf : List ℕ → Geometry
+geometryOf v = record { tag = byteAt v 3; pages = pagesOf v; slots = slotsOf v; records = recordsOf v; notes = notesOf v }
+
+-- the counts that a volume may have
+unfoldable pub validCounts : ℕ → ℕ → ℕ → ℕ → Bool
+validCounts p b l n = all (within 64 p ∷ leb b 128 ∷ within 1024 l ∷ leb n 1024 ∷ [])
+
+-- heading, counts and length are right (refusal 1 is that they are not)
+unfoldable pub validVolume : List ℕ → Bool
+validVolume v =
+    all
+    (startsWith magic v ∷ validCounts (pagesOf v) (slotsOf v) (recordsOf v) (notesOf v)
+    ∷ eqb (length v) (lengthFor (pagesOf v) (slotsOf v) (recordsOf v) (notesOf v)) ∷ [])
+
+-- a fresh volume: headings and zeros
+unfoldable pub emptyVolume : ℕ → ℕ → ℕ → ℕ → List ℕ
+emptyVolume p b l n =
+    magic ++ (bytesOf 4 p ++ (replicate (256 * p) 0 ++ (bytesOf 4 b ++ (replicate (256 * b) 0
+    ++ (bytesOf 4 l ++ (replicate (64 * l) 0 ++ (bytesOf 4 n ++ replicate (16 * n) 0)))))))
+
+-- An item of a volume: a page's image, a backup slot's image, a log slot or a note slot, each counted from 1.
+pub data Place : Type 0 where
+  pageAt : ℕ → Place
+  slotAt : ℕ → Place
+  recordAt : ℕ → Place
+  noteAt : ℕ → Place
+
+abbrev pub width : Place → ℕ
+width (pageAt i) = 256
+width (slotAt i) = 256
+width (recordAt i) = 64
+width (noteAt i) = 16
+
+-- where an item starts
+abbrev pub start : Geometry → Place → ℕ
+start g (pageAt i) = 8 + 256 * (i - 1)
+start g (slotAt i) = 12 + 256 * g .pages + 256 * (i - 1)
+start g (recordAt i) = 16 + 256 * g .pages + 256 * g .slots + 64 * (i - 1)
+start g (noteAt i) = 20 + 256 * g .pages + 256 * g .slots + 64 * g .records + 16 * (i - 1)
+
+-- an item's bytes, and a volume with an item stored
+unfoldable pub item : Geometry → List ℕ → Place → List ℕ
+item g v at = part v (start g at) (width at)
+
+unfoldable pub store : Geometry → List ℕ → Place → List ℕ → List ℕ
+store g v at xs = splice v (start g at) xs
+
+-- the slots that log record n and note n go to; a ring would put other numbers here
+abbrev pub logSlot : Geometry → ℕ → Place
+logSlot g n = recordAt n
+
+abbrev pub noteSlot : Geometry → ℕ → Place
+noteSlot g n = noteAt n

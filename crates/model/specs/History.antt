@@ -1,0 +1,207 @@
+-- Histories: the machine, its events and its steps, and which events may come. States document 01's paragraphs "For 2 and 3 they have a
+-- history" and "A cut falls between calls or within one", and the damage that demand 3 speaks of.
+use Prim.Native.Nat.{ℕ, zero, suc, _+_}
+use mathlib.Core.Bool.{Bool, true, false, cond, _&&_, _||_, not}
+use mathlib.Core.List.{List, [], _∷_, _++_}
+use lib.Dec.{eqb, leb, ltb}
+use lib.ListN.{length}
+use Rattle.model.specs.Tests.{all, firstOf, within}
+use Rattle.model.specs.Bytes.{sameBytes}
+use Rattle.model.specs.Checksum.{sealed, imageSealed}
+use Rattle.model.specs.Geometry.{Place, pageAt, slotAt, recordAt, noteAt, width, geometryOf, store}
+use Rattle.model.specs.Change.{lengthOf, offsetOf, fillOf}
+use Rattle.model.specs.Item.{validImage, validSomewhere}
+use Rattle.model.specs.Index.{slotUsed}
+use Rattle.model.specs.Scan.{indexOf}
+use Rattle.model.specs.Refusals.{restartRows}
+use Rattle.model.specs.Calls.{StoredItem, nothing, oneItem, Outcome, volumeAfter, restartOf, makeOf, refusalOf, Call, begin, load, change, force, write, backup, note, rowsOf, outcomeOf}
+use Rattle.model.specs.AbstractLog.{AbstractLog, emptyLog, Left, old, new, torn, forget, stepCall, stepCut}
+use Rattle.model.specs.declared.geometry.Geometry.{Geometry}
+use Rattle.model.specs.declared.state.Entry.{Entry}
+use Rattle.model.specs.declared.state.State.{State}
+
+-- Memory and state live only while the power is on (document 01: after Make, a cut or a refused Restart there are none).
+pub data Power : Type 0 where
+  off : Power
+  on : List ℕ → State → Power
+
+-- The machine: its volume, its power, and, for the claim only, every item that calls stored, the newest first. Damage adds nothing to it.
+pub record Machine : Type 0 where
+  pub volume : List ℕ
+  pub power : Power
+  pub past : List StoredItem
+
+-- An event: a Restart with the memory lent (where the power is on it gets the memory as it is); a call; a crash (document 01: a cut) between
+-- calls or within one, with what it left of the item; damage to a page's or a slot's image.
+pub data Event : Type 0 where
+  restart : List ℕ → Event
+  perform : Call → Event
+  crash : Event
+  crashIn : Call → Left → Event
+  damage : Place → List ℕ → Event
+
+-- ---- the machine's step
+
+abbrev pub lent : Power → List ℕ → List ℕ
+lent off m = m
+lent (on m′ s) m = m′
+
+-- "no call that takes the state comes before a Restart that isn't refused": a refused one leaves the power off
+abbrev pub restarted : List ℕ → List ℕ → Power
+restarted v m = cond (eqb (firstOf (restartRows v m)) 0) (on (restartOf v m .memory) (restartOf v m .state)) off
+
+-- a call in a machine that is off is not allowed, and changes nothing
+abbrev pub callIn : Power → List ℕ → Call → List StoredItem → Machine
+callIn off v c past = record { volume = v; power = off; past = past }
+callIn (on m s) v c past =
+    let o = outcomeOf c v m s in
+    record { volume = volumeAfter v (o .stored); power = on (o .memory) (o .state); past = o .stored ∷ past }
+
+-- the volume after a crash that left the item so
+abbrev pub leftVolume : List ℕ → StoredItem → Left → List ℕ
+leftVolume v x old = v
+leftVolume v x new = volumeAfter v x
+leftVolume v nothing (torn xs) = v
+leftVolume v (oneItem at _) (torn xs) = volumeAfter v (oneItem at xs)
+
+-- "new (it counts as stored)"
+abbrev pub leftPast : StoredItem → Left → List StoredItem → List StoredItem
+leftPast x old past = past
+leftPast x new past = x ∷ past
+leftPast x (torn xs) past = past
+
+abbrev pub crashedIn : Power → List ℕ → Call → Left → List StoredItem → Machine
+crashedIn off v c l past = record { volume = v; power = off; past = past }
+crashedIn (on m s) v c l past =
+    let x = outcomeOf c v m s .stored in
+    record { volume = leftVolume v x l; power = off; past = leftPast x l past }
+
+unfoldable pub step : Machine → Event → Machine
+step w (restart m) = record { volume = w .volume; power = restarted (w .volume) (lent (w .power) m); past = w .past }
+step w (perform c) = callIn (w .power) (w .volume) c (w .past)
+step w crash = record { volume = w .volume; power = off; past = w .past }
+step w (crashIn c l) = crashedIn (w .power) (w .volume) c l (w .past)
+step w (damage at xs) = record { volume = store (geometryOf (w .volume)) (w .volume) at xs; power = w .power; past = w .past }
+
+-- ---- which events may come
+
+abbrev pub isOn : Power → Bool
+isOn off = false
+isOn (on m s) = true
+
+-- an item's check is right
+abbrev pub itemSealed : Geometry → Place → List ℕ → Bool
+itemSealed g (pageAt i) xs = imageSealed g xs
+itemSealed g (slotAt i) xs = imageSealed g xs
+itemSealed g (recordAt i) xs = sealed 60 xs
+itemSealed g (noteAt i) xs = sealed 12 xs
+
+-- "failing its check": bytes of the item's size that do
+abbrev pub tornFits : Geometry → StoredItem → Left → Bool
+tornFits g x old = true
+tornFits g x new = true
+tornFits g nothing (torn xs) = true
+tornFits g (oneItem at _) (torn xs) = eqb (length xs) (width at) && not (itemSealed g at xs)
+
+-- a payload is an array of 44; other arguments are any numbers
+abbrev pub payloadFits : Call → Bool
+payloadFits (begin page frame fill) = true
+payloadFits (load page frame) = true
+payloadFits (change page c payload) = eqb (length payload) 44
+payloadFits force = true
+payloadFits (write page) = true
+payloadFits (backup page slot) = true
+payloadFits note = true
+
+abbrev pub crashFits : Power → List ℕ → Call → Left → Bool
+crashFits off v c l = false
+crashFits (on m s) v c l = tornFits (geometryOf v) (outcomeOf c v m s .stored) l
+
+-- some page whose backup the index gives to slot b is the page that the image is valid as
+unfoldable pub validAsNoted : Geometry → ℕ → List ℕ → ℕ → List Entry → Bool
+validAsNoted g b xs p [] = false
+validAsNoted g b xs p (e ∷ es) = (eqb (e .slot) b && validImage g (suc p) xs) || validAsNoted g b xs (suc p) es
+
+-- an image passes in its place: a page's own as that page's; in a slot that the index gives a page, as that page's; in any other slot, as
+-- any page's. "For damage, the index is what the volume's notes give."
+abbrev pub passesAt : Geometry → List Entry → Place → List ℕ → Bool
+passesAt g index (pageAt p) xs = validImage g p xs
+passesAt g index (slotAt b) xs = cond (slotUsed b index) (validAsNoted g b xs 0 index) (validSomewhere g xs)
+passesAt g index (recordAt n) xs = true
+passesAt g index (noteAt n) xs = true
+
+-- damage hits images
+abbrev pub isImage : Geometry → Place → Bool
+isImage g (pageAt p) = within (g .pages) p
+isImage g (slotAt b) = within (g .slots) b
+isImage g (recordAt n) = false
+isImage g (noteAt n) = false
+
+abbrev pub samePlace : Place → Place → Bool
+samePlace (pageAt i) (pageAt j) = eqb i j
+samePlace (pageAt i) (slotAt j) = false
+samePlace (pageAt i) (recordAt j) = false
+samePlace (pageAt i) (noteAt j) = false
+samePlace (slotAt i) (pageAt j) = false
+samePlace (slotAt i) (slotAt j) = eqb i j
+samePlace (slotAt i) (recordAt j) = false
+samePlace (slotAt i) (noteAt j) = false
+samePlace (recordAt i) (pageAt j) = false
+samePlace (recordAt i) (slotAt j) = false
+samePlace (recordAt i) (recordAt j) = eqb i j
+samePlace (recordAt i) (noteAt j) = false
+samePlace (noteAt i) (pageAt j) = false
+samePlace (noteAt i) (slotAt j) = false
+samePlace (noteAt i) (recordAt j) = false
+samePlace (noteAt i) (noteAt j) = eqb i j
+
+-- these bytes were stored in that place by a call
+unfoldable pub storedBefore : Place → List ℕ → List StoredItem → Bool
+storedBefore at xs [] = false
+storedBefore at xs (nothing ∷ past) = storedBefore at xs past
+storedBefore at xs (oneItem at′ ys ∷ past) = (samePlace at at′ && sameBytes xs ys) || storedBefore at xs past
+
+-- damage leaves an image that does not pass, or one that was stored earlier in that place
+abbrev pub damageFits : Machine → Place → List ℕ → Bool
+damageFits w at xs =
+    let g = geometryOf (w .volume) in
+    all
+    (isImage g at ∷ eqb (length xs) 256 ∷ (not (passesAt g (indexOf g (w .volume)) at xs) || storedBefore at xs (w .past)) ∷ [])
+
+unfoldable pub allowed : Machine → Event → Bool
+allowed w (restart m) = true
+allowed w (perform c) = isOn (w .power) && payloadFits c
+allowed w crash = true
+allowed w (crashIn c l) = crashFits (w .power) (w .volume) c l && payloadFits c
+allowed w (damage at xs) = damageFits w at xs
+
+-- ---- whole histories
+
+-- whether the table refuses the event's call
+abbrev pub refusedIn : Power → List ℕ → Call → Bool
+refusedIn off v c = true
+refusedIn (on m s) v c = not (eqb (firstOf (rowsOf c v m s)) 0)
+
+-- the abstract log's step: "A cut (after that step) or a Restart not refused: waiting is emptied"
+unfoldable pub stepLog : Machine → AbstractLog → Event → AbstractLog
+stepLog w b (restart m) = cond (eqb (firstOf (restartRows (w .volume) (lent (w .power) m))) 0) (forget b) b
+stepLog w b (perform c) = cond (refusedIn (w .power) (w .volume) c) b (stepCall b c)
+stepLog w b crash = forget b
+stepLog w b (crashIn c l) = forget (cond (refusedIn (w .power) (w .volume) c) b (stepCut b c l))
+stepLog w b (damage at xs) = b
+
+-- the machine after Make
+unfoldable pub freshMachine : List ℕ → ℕ → ℕ → ℕ → ℕ → Machine
+freshMachine found p b l n = record { volume = makeOf found p b l n .volume; power = off; past = [] }
+
+unfoldable pub allAllowed : Machine → List Event → Bool
+allAllowed w [] = true
+allAllowed w (e ∷ es) = let rest = allAllowed (step w e) es in cond (allowed w e) rest false
+
+unfoldable pub run : Machine → List Event → Machine
+run w [] = w
+run w (e ∷ es) = run (step w e) es
+
+unfoldable pub logAfter : Machine → AbstractLog → List Event → AbstractLog
+logAfter w b [] = b
+logAfter w b (e ∷ es) = logAfter (step w e) (stepLog w b e) es

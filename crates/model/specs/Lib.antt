@@ -1,0 +1,15 @@
+pub mod Tests
+pub mod Bytes
+pub mod Checksum
+pub mod Geometry
+pub mod Change
+pub mod Item
+pub mod Index
+pub mod Scan
+pub mod Repair
+pub mod State
+pub mod Refusals
+pub mod Calls
+pub mod AbstractLog
+pub mod History
+pub mod Claim

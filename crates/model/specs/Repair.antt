@@ -1,0 +1,128 @@
+-- A page's class, the chain walk and the rebuilt page. States document 01, "Reading the disk": the four classes; the walk (own image, else
+-- the noted backup, else the record); the replay, oldest first; and refusal 19's condition.
+use Prim.Native.Nat.{ℕ, zero, suc}
+use mathlib.Core.Bool.{Bool, true, false, cond, _&&_}
+use mathlib.Core.List.{List, [], _∷_}
+use lib.Dec.{eqb, ltb}
+use lib.ListN.{length}
+use Rattle.model.specs.Tests.{all}
+use Rattle.model.specs.Checksum.{sealed}
+use Rattle.model.specs.Geometry.{Place, pageAt, slotAt, item, logSlot}
+use Rattle.model.specs.Change.{zeroBody}
+use Rattle.model.specs.Item.{imageLsn, imageBody, validImage, recordOf, recordLayout, isFormat, firstIsFormat, applyRecord, frameImage}
+use Rattle.model.specs.declared.geometry.Geometry.{Geometry}
+use Rattle.model.specs.declared.state.Entry.{Entry}
+use Rattle.model.specs.declared.answer.Class.{Class}
+use Rattle.model.specs.declared.answer.Class.the-variants.{Good, Behind, Stale, Failed}
+use Rattle.model.specs.declared.answer.Start.{Start}
+use Rattle.model.specs.declared.answer.Stop.{Stop}
+use Rattle.model.specs.declared.answer.Stop.the-variants.{Own, Backup, Format, Broken}
+use Rattle.model.specs.declared.answer.Repair.{Repair}
+
+-- "Good if n is the newest durable number; Behind if below that and at least the last written number; Stale if below the last
+-- written number; Failed if n is above the newest durable number"; and Failed where the image is not valid
+unfoldable pub classOf : Bool → ℕ → ℕ → ℕ → Class
+classOf valid n durable written =
+    cond valid (cond (eqb n durable) Good (cond (ltb durable n) Failed (cond (ltb n written) Stale Behind))) Failed
+
+-- All that a page's repair depends on: its own image, its durable and written lsn, the noted backup's lsn (0: none) and image, and the
+-- log's records by number.
+pub record View : Type 0 where
+  pub own : List ℕ
+  pub durable : ℕ
+  pub written : ℕ
+  pub backup : ℕ
+  pub copy : List ℕ
+  pub log : ℕ → List ℕ
+
+-- page p as the volume and its entry of the index show it; slot 0 is no backup
+abbrev pub viewOf : Geometry → List ℕ → Entry → ℕ → View
+viewOf g v e p =
+    record {
+      own = item g v (pageAt p);
+      durable = e .durable;
+      written = e .written;
+      backup = cond (eqb (e .slot) 0) 0 (e .backup);
+      copy = item g v (slotAt (e .slot));
+      log = λ n. item g v (logSlot g n);
+    }
+
+abbrev pub classIn : Geometry → ℕ → View → Class
+classIn g p w = classOf (validImage g p (w .own)) (imageLsn (w .own)) (w .durable) (w .written)
+
+-- the number at which the walk may stop at the own image, and at the backup; 0 is none, since the walk meets no 0
+abbrev pub ownStart : Geometry → ℕ → View → ℕ
+ownStart g p w = cond (validImage g p (w .own)) (imageLsn (w .own)) 0
+
+abbrev pub backupStart : Geometry → ℕ → View → ℕ
+backupStart g p w = cond (validImage g p (w .copy) && eqb (imageLsn (w .copy)) (w .backup)) (w .backup) 0
+
+-- record n as the walk for page p may read it (19 is that it may not): check, number, page and layout are right, the previous number is
+-- below its own, and 0 only in a format
+unfoldable pub chainRecord : ℕ → ℕ → List ℕ → Bool
+chainRecord p n r =
+    let e = recordOf r in
+    all (sealed 60 r ∷ eqb (e .lsn) n ∷ eqb (e .page) p ∷ recordLayout r ∷ ltb (e .prev) n ∷ firstIsFormat e ∷ [])
+
+-- where the walk stopped, and the numbers of the records to replay, newest first. A format at which it stopped is one of them.
+pub record Walk : Type 0 where
+  pub stop : Stop
+  pub chain : List ℕ
+
+abbrev pub stopAt : Stop → List ℕ → Walk
+stopAt s c = record { stop = s; chain = c }
+
+-- the walk of what is left, behind the numbers passed
+abbrev pub behind : List ℕ → Walk → Walk
+behind [] w = w
+behind (n ∷ ns) w = record { stop = behind ns w .stop; chain = n ∷ behind ns w .chain }
+
+-- the walk for page p from number n on; each previous number is below, so n steps are enough
+unfoldable pub walkFrom : ℕ → (ℕ → List ℕ) → ℕ → ℕ → ℕ → ℕ → Walk
+walkFrom zero log p own backup n = stopAt Broken []
+walkFrom (suc steps) log p own backup n =
+    let r = log n in
+    let rest = behind (n ∷ []) (walkFrom steps log p own backup (recordOf r .prev)) in
+    cond (eqb own n) (stopAt Own [])
+    (cond (eqb backup n) (stopAt Backup [])
+    (cond (chainRecord p n r) (cond (isFormat (recordOf r)) (stopAt Format (n ∷ [])) rest) (stopAt Broken [])))
+
+-- "The walk begins at the newest durable number"
+unfoldable pub walkOf : Geometry → ℕ → View → Walk
+walkOf g p w = walkFrom (w .durable) (w .log) p (ownStart g p w) (backupStart g p w) (w .durable)
+
+-- a chain's records replayed on a body, "oldest first"
+unfoldable pub replayChain : (ℕ → List ℕ) → List ℕ → List ℕ → List ℕ
+replayChain log [] body = body
+replayChain log (n ∷ ns) body = applyRecord (log n) (replayChain log ns body)
+
+-- the body on which a replay starts; a format replaces all of it
+abbrev pub startBody : Stop → View → List ℕ
+startBody Own w = imageBody (w .own)
+startBody Backup w = imageBody (w .copy)
+startBody Format w = zeroBody
+startBody Broken w = zeroBody
+
+-- the repaired page: its body, and its image as a frame holds it
+unfoldable pub rebuiltBody : Geometry → ℕ → View → List ℕ
+rebuiltBody g p w = replayChain (w .log) (walkOf g p w .chain) (startBody (walkOf g p w .stop) w)
+
+abbrev pub rebuilt : Geometry → ℕ → View → List ℕ
+rebuilt g p w = frameImage p (w .durable) (rebuiltBody g p w)
+
+-- the start that is answered; a broken walk is refused 19 by Load, and none is met after a clean scan
+abbrev pub startOf : Stop → Start
+startOf Own = Start.Own
+startOf Backup = Start.Backup
+startOf Format = Start.Format
+startOf Broken = Start.Format
+
+abbrev pub isBroken : Stop → Bool
+isBroken Own = false
+isBroken Backup = false
+isBroken Format = false
+isBroken Broken = true
+
+-- "The answer holds the class, the start and the count replayed"
+unfoldable pub repairOf : Geometry → ℕ → View → Repair
+repairOf g p w = record { class = classIn g p w; start = startOf (walkOf g p w .stop); count = length (walkOf g p w .chain) }
