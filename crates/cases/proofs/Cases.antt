@@ -1,0 +1,33 @@
+-- The rows of the table hold: one test, which the checker computes, and one law that turns it into each row's equation.
+use Prim.Native.Nat.{ℕ}
+use mathlib.Core.Path.{_≡_, refl, ap₂}
+use mathlib.Core.Bool.{Bool, true, false, _&&_}
+use mathlib.Core.List.{List, [], _∷_}
+use lib.Dec.{T, eqb, eqb→eq}
+use Rattle.cases.specs.Opened.{opened}
+use Rattle.cases.specs.Rows.{Row, same, every, Hold}
+use Rattle.cases.specs.Table.{kRows}
+
+left : (a b : Bool) → T (a && b) → T a
+left true b t = tt
+left false b t = t
+
+right : (a b : Bool) → T (a && b) → T b
+right true b t = t
+right false b t = absurd t
+
+equal : (xs ys : List ℕ) → T (same xs ys) → xs ≡ ys
+equal [] [] t = refl
+equal [] (y ∷ ys) t = absurd t
+equal (x ∷ xs) [] t = absurd t
+equal (x ∷ xs) (y ∷ ys) t = ap₂ _∷_ (eqb→eq x y (left (eqb x y) (same xs ys) t)) (equal xs ys (right (eqb x y) (same xs ys) t))
+
+all : (rs : List Row) → T (every rs) → Hold rs
+all [] t = tt
+all (r ∷ rs) t =
+    let here = same (r .found) (r .says) in
+    (equal (r .found) (r .says) (left here (every rs) t), all rs (right here (every rs) t))
+
+pub cases : Hold kRows
+unfolding opened kRows
+cases = all kRows tt

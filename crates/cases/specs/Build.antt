@@ -1,0 +1,116 @@
+-- What the worked cases are made of: answers as numbers, volumes built by `model`'s own encoders, machines reached by events.
+use Prim.Native.Nat.{ℕ, _+_, _*_}
+use mathlib.Core.Bool.{Bool, true, false}
+use mathlib.Core.List.{List, [], _∷_, _++_}
+use lib.ListN.{replicate, set}
+use Rattle.model.specs.Bytes.{part}
+use Rattle.model.specs.Checksum.{sealImage}
+use Rattle.model.specs.Geometry.{emptyVolume, lengthFor}
+use Rattle.model.specs.Item.{frameImage, noteBytes}
+use Rattle.model.specs.Calls.{StoredItem, oneItem, volumeAfter, inspectOf, Call, outcomeOf}
+use Rattle.model.specs.History.{Power, off, on, Machine, Event, freshMachine, run}
+use Rattle.model.specs.declared.geometry.Geometry.{Geometry}
+use Rattle.model.specs.declared.answer.Class.{Class}
+use Rattle.model.specs.declared.answer.Class.the-variants.{Good, Behind, Stale, Failed}
+use Rattle.model.specs.declared.answer.Start.{Start}
+use Rattle.model.specs.declared.answer.Start.the-variants.{Own, Backup, Format}
+use Rattle.model.specs.declared.answer.Repair.{Repair}
+use Rattle.model.specs.declared.answer.Answer.{Answer}
+use Rattle.model.specs.declared.answer.Answer.the-variants.{Refused, Nothing, Done, Repaired}
+
+-- ---- answers as numbers
+
+abbrev pub bit : Bool → ℕ
+bit false = 0
+bit true = 1
+
+abbrev pub classNumber : Class → ℕ
+classNumber Good = 1
+classNumber Behind = 2
+classNumber Stale = 3
+classNumber Failed = 4
+
+abbrev pub startNumber : Start → ℕ
+startNumber Own = 1
+startNumber Backup = 2
+startNumber Format = 3
+
+-- no two answers have the same numbers
+abbrev pub numbers : Answer → List ℕ
+numbers (Refused n) = 100 ∷ n ∷ []
+numbers Nothing = 101 ∷ []
+numbers Done = 102 ∷ []
+numbers (Repaired r) = 103 ∷ classNumber (r .class) ∷ startNumber (r .start) ∷ r .count ∷ []
+
+-- a page of this class, repaired from its own image, its backup or a format, and how many records were replayed
+abbrev pub fromOwn : Class → ℕ → List ℕ
+fromOwn c n = numbers (Repaired (record { class = c; start = Own; count = n }))
+
+abbrev pub fromBackup : Class → ℕ → List ℕ
+fromBackup c n = numbers (Repaired (record { class = c; start = Backup; count = n }))
+
+abbrev pub fromFormat : Class → ℕ → List ℕ
+fromFormat c n = numbers (Repaired (record { class = c; start = Format; count = n }))
+
+abbrev pub refused : ℕ → List ℕ
+refused n = numbers (Refused n)
+
+abbrev pub done : List ℕ
+done = numbers Done
+
+abbrev pub idle : List ℕ
+idle = numbers Nothing
+
+-- ---- items and volumes
+
+-- K5's counts
+abbrev pub small : Geometry
+small = record { tag = 0x56; pages = 2; slots = 1; records = 4; notes = 4 }
+
+-- an image of page p at a number, check set
+abbrev pub image : ℕ → ℕ → List ℕ → List ℕ
+image p lsn body = sealImage small (frameImage p lsn body)
+
+-- an item torn: one byte of it is another, so that its check is wrong
+abbrev pub broken : List ℕ → List ℕ
+broken xs = set xs 3 0xEE
+
+abbrev pub writtenNote : ℕ → ℕ → ℕ → List ℕ
+writtenNote k p lsn = noteBytes (record { number = k; page = p; kind = 1; slot = 0; lsn = lsn })
+
+abbrev pub backupNote : ℕ → ℕ → ℕ → ℕ → List ℕ
+backupNote k p slot lsn = noteBytes (record { number = k; page = p; kind = 2; slot = slot; lsn = lsn })
+
+-- a volume with items stored
+abbrev pub storedIn : List ℕ → List StoredItem → List ℕ
+storedIn v [] = v
+storedIn v (x ∷ xs) = storedIn (volumeAfter v x) xs
+
+abbrev pub smallVolume : List StoredItem → List ℕ
+smallVolume xs = storedIn (emptyVolume 2 1 4 4) xs
+
+-- ---- inspection
+
+abbrev pub buffer : List ℕ
+buffer = replicate 256 0xAA
+
+-- the answer, then bytes 4 to 13 of the buffer: the page lsn and the first of the body
+abbrev pub inspected : List ℕ → ℕ → List ℕ
+inspected v p = let i = inspectOf v p buffer in numbers (i .answer) ++ part (i .buffer) 4 10
+
+-- ---- machines
+
+abbrev pub memory : ℕ → List ℕ
+memory frames = replicate (1024 + 256 * frames) 0xCC
+
+-- the machine that events reach after Make with these counts
+abbrev pub reach : ℕ → ℕ → ℕ → ℕ → List Event → Machine
+reach p b l n es = run (freshMachine (replicate (lengthFor p b l n) 0xDD) p b l n) es
+
+-- what a call answers then; in a machine that is off there is no call
+abbrev pub askedIn : Power → List ℕ → Call → List ℕ
+askedIn off v c = []
+askedIn (on m s) v c = numbers (outcomeOf c v m s .answer)
+
+abbrev pub asked : Machine → Call → List ℕ
+asked w c = askedIn (w .power) (w .volume) c

@@ -1,0 +1,4 @@
+pub mod Opened
+pub mod Rows
+pub mod Build
+pub mod Table

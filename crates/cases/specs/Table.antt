@@ -1,0 +1,84 @@
+-- K1 to K12 of document 01, as rows. K6 to K12 have K5's counts and the records 1 format page 1, 2 format page 2, 3 put page 1.
+use Prim.Native.Nat.{ℕ}
+use mathlib.Core.Bool.{Bool, true, false}
+use mathlib.Core.List.{List, [], _∷_, _++_}
+use lib.ListN.{length, replicate, take}
+use Rattle.model.specs.Checksum.{checksum}
+use Rattle.model.specs.Geometry.{pageAt, slotAt, recordAt, noteAt, emptyVolume, validVolume, lengthFor}
+use Rattle.model.specs.Change.{zeroBody, fits, applyChange}
+use Rattle.model.specs.Item.{encodeChange, validImage}
+use Rattle.model.specs.Calls.{StoredItem, oneItem, makeOf, begin, change}
+use Rattle.model.specs.History.{Machine, restart, perform}
+use Rattle.model.specs.declared.change.Change.the-variants.{Format, Put, Slide}
+use Rattle.model.specs.declared.answer.Class.the-variants.{Good, Behind, Stale, Failed}
+use Rattle.cases.specs.Rows.{Row, row}
+use Rattle.cases.specs.Build.{bit, numbers, fromOwn, fromBackup, fromFormat, refused, done, small, image, broken, writtenNote, backupNote, smallVolume, buffer, inspected, memory, reach, asked}
+
+-- ---- what K6 to K12 share
+
+abbrev pub record1 : List ℕ
+record1 = encodeChange 1 0 1 (Format 7) []
+
+abbrev pub record2 : List ℕ
+record2 = encodeChange 2 0 2 (Format 9) []
+
+abbrev pub record3 : List ℕ
+record3 = encodeChange 3 1 1 (Put 1 2) (0x41 ∷ 0x42 ∷ [])
+
+-- the volume of K6 to K10, and of K11 and K12, whose record 3 is torn, with more stored
+abbrev pub whole : List StoredItem → List ℕ
+whole xs = smallVolume (oneItem (recordAt 1) record1 ∷ oneItem (recordAt 2) record2 ∷ oneItem (recordAt 3) record3 ∷ xs)
+
+abbrev pub cut : List StoredItem → List ℕ
+cut xs = smallVolume (oneItem (recordAt 1) record1 ∷ oneItem (recordAt 2) record2 ∷ oneItem (recordAt 3) (broken record3) ∷ xs)
+
+-- page 1's body at 1 and at 3, and its image at a number
+abbrev pub body1 : List ℕ
+body1 = replicate 244 7
+
+abbrev pub body3 : List ℕ
+body3 = 7 ∷ 0x41 ∷ 0x42 ∷ replicate 241 7
+
+abbrev pub own : ℕ → List ℕ → StoredItem
+own lsn body = oneItem (pageAt 1) (image 1 lsn body)
+
+abbrev pub ownFails : StoredItem
+ownFails = oneItem (pageAt 1) (broken (image 1 3 body3))
+
+-- bytes 4 to 13 of the buffer: page 1 at 1, at 3, or as it was lent
+abbrev pub at1 : List ℕ
+at1 = 1 ∷ 0 ∷ 0 ∷ 0 ∷ take 6 body1
+
+abbrev pub at3 : List ℕ
+at3 = 3 ∷ 0 ∷ 0 ∷ 0 ∷ take 6 body3
+
+abbrev pub asLent : List ℕ
+asLent = take 10 buffer
+
+-- page 1 in a frame
+abbrev pub begun : Machine
+begun = reach 2 1 4 4 (restart (memory 1) ∷ perform (begin 1 1 7) ∷ [])
+
+unfoldable pub kRows : List Row
+kRows =
+    row "K1" (checksum (1 ∷ 0 ∷ 2 ∷ 0 ∷ []) ∷ []) (393220 ∷ [])
+    ∷ row "K2" (checksum (replicate 252 0) ∷ bit (validImage small 0 (replicate 256 0)) ∷ []) (8257537 ∷ 0 ∷ [])
+    ∷ row "K3" (take 3 (applyChange (Slide 0 1) (0x41 ∷ []) (applyChange (Slide 0 1) (0x41 ∷ []) zeroBody))) (0x41 ∷ 0x41 ∷ 0 ∷ [])
+    ∷ row "K4 rule" (bit (fits (Put 200 44)) ∷ bit (fits (Put 201 44)) ∷ []) (1 ∷ 0 ∷ [])
+    ∷ row "K4 taken" (asked begun (change 1 (Put 200 44) (replicate 44 1))) done
+    ∷ row "K4 refused" (asked begun (change 1 (Put 201 44) (replicate 44 1))) (refused 6)
+    ∷ row "K5 taken" (numbers (makeOf (replicate 1108 0) 2 1 4 4 .answer)) done
+    ∷ row "K5 refused" (numbers (makeOf (replicate 1107 0) 2 1 4 4 .answer)) (refused 1)
+    ∷ row "K5 length"
+    (length (emptyVolume 2 1 4 4) ∷ bit (validVolume (emptyVolume 2 1 4 4)) ∷ bit (validVolume (take 1107 (emptyVolume 2 1 4 4))) ∷ [])
+    (1108 ∷ 1 ∷ 0 ∷ [])
+    ∷ row "K6" (inspected (whole (own 1 body1 ∷ [])) 1) (fromOwn Behind 1 ++ at3)
+    ∷ row "K7" (inspected (whole (own 1 body1 ∷ oneItem (noteAt 1) (writtenNote 1 1 3) ∷ [])) 1) (fromOwn Stale 1 ++ at3)
+    ∷ row "K8"
+    (inspected (whole (ownFails ∷ oneItem (slotAt 1) (image 1 3 body3) ∷ oneItem (noteAt 1) (backupNote 1 1 1 3) ∷ [])) 1)
+    (fromBackup Failed 0 ++ at3)
+    ∷ row "K9" (inspected (whole (ownFails ∷ [])) 1) (fromFormat Failed 2 ++ at3)
+    ∷ row "K10" (inspected (whole (own 4 body3 ∷ [])) 1) (fromFormat Failed 2 ++ at3)
+    ∷ row "K11" (inspected (cut (own 1 body1 ∷ [])) 1) (fromOwn Good 0 ++ at1)
+    ∷ row "K12" (inspected (cut (own 1 body1 ∷ oneItem (recordAt 4) (1 ∷ replicate 63 0) ∷ [])) 1) (refused 17 ++ asLent)
+    ∷ []
