@@ -1,0 +1,82 @@
+use borrow.Author.Needs.{needs}
+use denote.Ref.{now}
+use native.Mathlib.Numerals.{add-one, add-two, add-three}
+use native.Mathlib.Omega.{arith}
+use lib.ListN.{length-set}
+use Rattle.model.specs.Bytes.{bytesOf}
+use Rattle.codec.proofs.Stores.{sets-splice}
+use Rattle.codec.proofs.field.put32.Statement.{statement}
+use Rattle.codec.proofs.field.put32.Tie as tie
+use Rattle.codec.proofs.field.put32.Reads as reads
+use Rattle.codec.proofs.field.put32.Lts as lts
+
+-- src/field.rt:64:13
+cast-s : tie.Need-cast-s
+cast-s c = search needs
+
+-- src/field.rt:64:5
+slice-write-s : tie.Need-slice-write-s
+slice-write-s c = search needs
+
+-- src/field.rt:65:17
+cast-s-2 : tie.Need-cast-s-2
+cast-s-2 c = search needs
+
+-- src/field.rt:65:7
+add-s : tie.Need-add-s
+add-s c = search needs
+
+-- src/field.rt:65:5
+slice-write-s-2 : tie.Need-slice-write-s-2
+slice-write-s-2 c = simp length-set (omega arith)
+
+-- src/field.rt:66:17
+cast-s-3 : tie.Need-cast-s-3
+cast-s-3 c = search needs
+
+-- src/field.rt:66:7
+add-s-2 : tie.Need-add-s-2
+add-s-2 c = search needs
+
+-- src/field.rt:66:5
+slice-write-s-3 : tie.Need-slice-write-s-3
+slice-write-s-3 c = simp length-set (omega arith)
+
+-- src/field.rt:67:17
+cast-s-4 : tie.Need-cast-s-4
+cast-s-4 c = search needs
+
+-- src/field.rt:67:7
+add-s-3 : tie.Need-add-s-3
+add-s-3 c = search needs
+
+-- src/field.rt:67:5
+slice-write-s-4 : tie.Need-slice-write-s-4
+slice-write-s-4 c = simp length-set (omega arith)
+
+-- src/field.rt:60:1
+same-length : tie.Need-same-length
+same-length c = search needs
+
+-- src/field.rt:60:1
+returns : tie.Need-returns
+unfolding bytesOf
+returns c = rw (add-one, add-two, add-three) (sets-splice (bytesOf 4 (c .args .v)) (now (c .args .s)) (c .args .at) (omega arith))
+
+pub put32-spec : {M : Type 1} → statement M
+put32-spec =
+    tie.close
+    (tie.spec
+    cast-s
+    slice-write-s
+    cast-s-2
+    add-s
+    slice-write-s-2
+    cast-s-3
+    add-s-2
+    slice-write-s-3
+    cast-s-4
+    add-s-3
+    slice-write-s-4
+    same-length
+    returns)
