@@ -2,3 +2,9 @@ pub mod Tests
 pub mod Parts
 pub mod Fields
 pub mod Checksums
+pub mod Places
+pub mod Items
+pub mod Zeros
+pub mod Changes
+pub mod Notes
+pub mod EmptyVolume
