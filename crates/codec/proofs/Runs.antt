@@ -2,12 +2,18 @@
 use mathlib.Core.Path.{_≡_, refl, sym}
 use mathlib.Core.Bool.{Bool, true, false}
 use mathlib.Core.List.{List}
-use Prim.Native.Nat.{ℕ, _+_, _≤_, _<_}
+use Prim.Native.Nat.{ℕ, suc, _+_, _*_, _-_, _≤_, _<_}
+use native.Mathlib.Nat.{mul-add, mul-one}
 use native.Mathlib.Numerals.{add-one}
+use native.Mathlib.Omega.{arith}
 use borrow.Author.Tests.{eq-eqb, ne-eqb}
-use lib.ListN.{length, drop, getD, drop-of-length-le}
-use lib.Seq.{drop-cons}
-use Rattle.model.specs.Bytes.{allZero, startsWith}
+use lib.Dec.{eqb}
+use lib.ListN.{length, take, drop, getD, drop-of-length-le}
+use lib.Seq.{drop-cons, take-all}
+use Rattle.laws.proofs.Checksums.{run-goes}
+use Rattle.model.specs.Bytes.{field, part, allZero, startsWith}
+use Rattle.model.specs.Checksum.{checksum, sealed, sealedRun}
+use Rattle.codec.proofs.Stores.{field-past}
 
 -- ---- all bytes are zero
 
@@ -42,3 +48,22 @@ module _ (m s : List ℕ) (i : ℕ) (h : i < length m) where
 pub starts-end : (m s : List ℕ) (i : ℕ) → length m ≤ i → startsWith (drop i m) (drop i s) ≡ true
 unfolding startsWith
 starts-end m s i h = rw (drop-of-length-le m h)
+
+-- ---- an item and its checksum, and a run of items
+
+-- n is past the end: all bytes count, and the checksum's own read as 0
+pub sealed-past : (n : ℕ) (xs : List ℕ) → length xs < n → sealed n xs ≡ eqb (checksum xs) 0
+unfolding sealed
+sealed-past n xs h = rw (take-all n xs (omega arith), field-past 4 n xs (omega arith))
+
+-- one item of k that are passed, of m
+pub turn : (w m k : ℕ) → k < m → w * (m - k) ≡ w + w * (m - (k + 1))
+turn w m k h =
+    let e : m - k ≡ 1 + (m - (k + 1)) = omega arith in
+    rw (e, mul-add, mul-one)
+
+module _ (n m k : ℕ) (v : List ℕ) (at : ℕ) (h : k < m) where
+  pub run-on : sealed n (part v at (n + 4)) ≡ true → sealedRun n (m - k) v at ≡ suc (sealedRun n (m - (k + 1)) v (at + (n + 4)))
+  run-on e =
+      let s : m - k ≡ suc (m - (k + 1)) = omega arith in
+      rw s (run-goes n v (m - (k + 1)) at e)
