@@ -1,0 +1,26 @@
+-- How the numbers that are read from a heading make up the geometry and the verdict on the volume.
+use mathlib.Core.Path.{_≡_, refl, ap}
+use mathlib.Core.Bool.{Bool, true, false, _&&_}
+use mathlib.Core.List.{List}
+use Prim.Native.Nat.{ℕ, _+_, _*_}
+use lib.Dec.{eqb}
+use lib.ListN.{length}
+use Rattle.model.specs.Bytes.{field, byteAt, startsWith}
+use Rattle.model.specs.Geometry.{magic, slotCountAt, recordCountAt, noteCountAt, lengthFor, geometryOf, validCounts, validVolume}
+use Rattle.model.specs.declared.geometry.Geometry.{Geometry}
+
+module _ (v : List ℕ) where
+  pub geometry-read : (t p b l n : ℕ) → t ≡ byteAt v 3 → p ≡ field 4 4 v → b ≡ field 4 (slotCountAt p) v → l ≡ field 4 (recordCountAt p b) v
+      → n ≡ field 4 (noteCountAt p b l) v → _≡_ {A = Geometry} (record { tag = t; pages = p; slots = b; records = l; notes = n }) (geometryOf v)
+  unfolding geometryOf
+  geometry-read t p b l n et ep eb el en = cc
+
+  pub valid-not : startsWith magic v ≡ false → false ≡ validVolume v
+  unfolding validVolume
+  valid-not h = rw h
+
+  pub valid-read : (c : Bool) (n : ℕ) (g : Geometry) → startsWith magic v ≡ true → g ≡ geometryOf v
+      → c ≡ validCounts (g .pages) (g .slots) (g .records) (g .notes) → n ≡ lengthFor (g .pages) (g .slots) (g .records) (g .notes)
+      → (c && eqb (length v) n) ≡ validVolume v
+  unfolding validVolume geometryOf
+  valid-read c n g h eg ec en = rw (ec, en, eg, h)

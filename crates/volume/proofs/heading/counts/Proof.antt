@@ -1,0 +1,14 @@
+use mathlib.Core.Path.{refl}
+use Rattle.model.specs.Geometry.{validCounts}
+use Rattle.volume.proofs.heading.counts.Statement.{statement}
+use Rattle.volume.proofs.heading.counts.Tie as tie
+use Rattle.volume.proofs.heading.counts.Reads as reads
+use Rattle.volume.proofs.heading.counts.Lts as lts
+
+-- src/heading.rt:35:1
+returns : tie.Need-returns
+unfolding validCounts
+returns c = refl
+
+pub counts-spec : {M : Type 1} → statement M
+counts-spec = tie.close (tie.spec returns)

@@ -1,0 +1,41 @@
+use borrow.Author.Needs.{needs}
+use mathlib.Core.Path.{_∙_}
+use denote.Ref.{now}
+use Rattle.volume.proofs.Fresh.{make-refused, make-fits, make-done}
+use Rattle.volume.proofs.make.make.Statement.{statement}
+use Rattle.volume.proofs.make.make.Tie as tie
+use Rattle.volume.proofs.make.make.Reads as reads
+use Rattle.volume.proofs.make.make.Lts as lts
+use Rattle.volume.proofs.heading.counts.Reads as counts-reads
+use Rattle.volume.proofs.heading.size.Reads as size-reads
+use Rattle.volume.proofs.make.write.Reads as write-reads
+
+-- src/make.rt:32:16
+counts-requires : tie.Need-counts-requires
+counts-requires c κs = search needs
+
+-- src/make.rt:32:58
+size-requires : tie.Need-size-requires
+size-requires c κs = search needs
+
+-- src/make.rt:34:9
+returns : tie.Need-returns
+returns c = make-refused _ _ _ _ _ _ _ (c .before .before .counts .ensures) (c .before .size .ensures) (c .if1 .taken)
+
+-- src/make.rt:36:5
+write-requires : tie.Need-write-requires
+write-requires c κs = make-fits (now (c .before .before .before .before .before .args .v)) _ _ _ _ _ _ (c .before .before .before .counts .ensures) (c .before .before .size .ensures) (c .before .if1 .left)
+
+-- src/make.rt:29:1
+same-length : tie.Need-same-length
+same-length c = search needs
+
+-- src/make.rt:29:1
+returns-2 : tie.Need-returns-2
+returns-2 c =
+    let d = make-done _ _ _ _ _ _ _ (c .before .before .before .before .before .before .counts .ensures) (c .before .before .before .before .before .size .ensures) (c .before .before .before .before .if1 .left) in
+    (d .0, c .before .before .write .ensures ∙ d .1)
+
+pub make-spec : {M : Type 1} → statement M
+make-spec =
+    tie.close (tie.spec counts-requires size-requires returns write-requires same-length returns-2)

@@ -1,0 +1,58 @@
+// What a volume's heading says, and whether heading, counts and length are right. Reads of any bytes are safe.
+ghost use mathlib.Core.Path.{_≡_};
+ghost use Prim.Native.Nat.{_+_, _*_};
+ghost use lib.ListN.{length};
+ghost use Rattle.model.specs.Geometry.{magic, lengthFor, geometryOf, validCounts, validVolume};
+use codec::field;
+use codec::part;
+use model::geometry::Geometry;
+
+// The four bytes that a volume starts with.
+pub const MAGIC: [u8; 4] = *b"CHPV";
+
+// The geometry; where the volume is not valid the numbers mean nothing.
+pub fn geometry(v: &[u8]) -> Geometry
+    ensures { λ r. ⌜ r ≡ geometryOf (now (v .entry)) ⌝ }
+{
+    let tag = field::byte(v, 3);
+    let pages = field::u32at(v, 4);
+    let slots = field::u32at(v, 8 + 256 * (pages as usize));
+    let records = field::u32at(v, 12 + 256 * (pages as usize) + 256 * (slots as usize));
+    let notes = field::u32at(
+        v,
+        16 + 256 * (pages as usize) + 256 * (slots as usize) + 64 * (records as usize),
+    );
+    Geometry {
+        tag,
+        pages,
+        slots,
+        records,
+        notes,
+    }
+}
+
+// A volume may have these counts.
+pub fn counts(p: u32, b: u32, l: u32, n: u32) -> bool
+    ensures { λ r. ⌜ r ≡ validCounts p b l n ⌝ }
+{
+    ((1 <= p) & (p <= 64)) & ((b <= 128) & (((1 <= l) & (l <= 1024)) & (n <= 1024)))
+}
+
+// The length of a volume with these counts.
+pub fn size(p: u32, b: u32, l: u32, n: u32) -> usize
+    ensures { λ r. ⌜ r ≡ lengthFor p b l n ⌝ }
+{
+    20 + 256 * (p as usize) + 256 * (b as usize) + 64 * (l as usize) + 16 * (n as usize)
+}
+
+// Heading, counts and length are right.
+pub fn valid(v: &[u8]) -> bool
+    ensures { λ r. ⌜ r ≡ validVolume (now (v .entry)) ⌝ }
+{
+    if !part::starts(v, &MAGIC) {
+        return false;
+    }
+    let g = geometry(v);
+    let length = size(g.pages, g.slots, g.records, g.notes);
+    counts(g.pages, g.slots, g.records, g.notes) & (v.len() == length)
+}

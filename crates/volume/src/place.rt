@@ -1,0 +1,87 @@
+// The place of each item of a volume, and its bytes. Items are counted from 1; 0 has the place of 1.
+ghost use mathlib.Core.Path.{_≡_};
+ghost use Prim.Native.Nat.{_+_, _-_, _≤_};
+ghost use lib.ListN.{length};
+ghost use Rattle.model.specs.Bytes as bytes;
+ghost use Rattle.model.specs.Geometry.{pageAt, slotAt, recordAt, noteAt, start, item};
+use model::geometry::Geometry;
+
+// How many items stand before item i.
+fn before(i: u32) -> usize
+    ensures { λ r. ⌜ (r ≡ i - 1) × (r ≤ 4294967295) ⌝ }
+{
+    if i == 0 { 0 } else { (i - 1) as usize }
+}
+
+// Where a page's image starts.
+pub fn pageat(g: Geometry, i: u32) -> usize
+    ensures { λ r. ⌜ r ≡ start g (pageAt i) ⌝ }
+{
+    8 + 256 * before(i)
+}
+
+// Where a backup slot starts.
+pub fn slotat(g: Geometry, i: u32) -> usize
+    ensures { λ r. ⌜ r ≡ start g (slotAt i) ⌝ }
+{
+    12 + 256 * (g.pages as usize) + 256 * before(i)
+}
+
+// Where a log slot starts.
+pub fn recordat(g: Geometry, i: u32) -> usize
+    ensures { λ r. ⌜ r ≡ start g (recordAt i) ⌝ }
+{
+    16 + 256 * (g.pages as usize) + 256 * (g.slots as usize) + 64 * before(i)
+}
+
+// Where a note slot starts.
+pub fn noteat(g: Geometry, i: u32) -> usize
+    ensures { λ r. ⌜ r ≡ start g (noteAt i) ⌝ }
+{
+    20
+        + 256 * (g.pages as usize)
+        + 256 * (g.slots as usize)
+        + 64 * (g.records as usize)
+        + 16 * before(i)
+}
+
+// The bytes of a part.
+pub fn part(v: &[u8], at: usize, size: usize) -> &[u8]
+    requires { ⌜ at + size ≤ length (now v) ⌝ }
+    ensures { λ r. ⌜ now r ≡ bytes.part (now (v .entry)) at size ⌝ }
+{
+    let end = at + size;
+    &v[at..end]
+}
+
+// A page's image.
+pub fn page(v: &[u8], g: Geometry, i: u32) -> &[u8]
+    requires { ⌜ start g (pageAt i) + 256 ≤ length (now v) ⌝ }
+    ensures { λ r. ⌜ now r ≡ item g (now (v .entry)) (pageAt i) ⌝ }
+{
+    part(v, pageat(g, i), 256)
+}
+
+// A backup slot's image.
+pub fn slot(v: &[u8], g: Geometry, i: u32) -> &[u8]
+    requires { ⌜ start g (slotAt i) + 256 ≤ length (now v) ⌝ }
+    ensures { λ r. ⌜ now r ≡ item g (now (v .entry)) (slotAt i) ⌝ }
+{
+    part(v, slotat(g, i), 256)
+}
+
+// A log slot's bytes.
+pub fn record(v: &[u8], g: Geometry, i: u32) -> &[u8]
+    requires { ⌜ start g (recordAt i) + 64 ≤ length (now v) ⌝ }
+    ensures { λ r. ⌜ now r ≡ item g (now (v .entry)) (recordAt i) ⌝ }
+{
+    part(v, recordat(g, i), 64)
+}
+
+// A note slot's bytes.
+pub fn note(v: &[u8], g: Geometry, i: u32) -> &[u8]
+    requires { ⌜ start g (noteAt i) + 16 ≤ length (now v) ⌝ }
+    ensures { λ r. ⌜ now r ≡ item g (now (v .entry)) (noteAt i) ⌝ }
+{
+    part(v, noteat(g, i), 16)
+}
