@@ -8,15 +8,15 @@ use Rattle.cases.specs.Opened.{opened}
 use Rattle.cases.specs.Rows.{Row, same, every, Hold}
 use Rattle.cases.specs.Table.{kRows}
 
-left : (a b : Bool) → T (a && b) → T a
+pub left : (a b : Bool) → T (a && b) → T a
 left true b t = tt
 left false b t = t
 
-right : (a b : Bool) → T (a && b) → T b
+pub right : (a b : Bool) → T (a && b) → T b
 right true b t = t
 right false b t = absurd t
 
-equal : (xs ys : List ℕ) → T (same xs ys) → xs ≡ ys
+pub equal : (xs ys : List ℕ) → T (same xs ys) → xs ≡ ys
 equal [] [] t = refl
 equal [] (y ∷ ys) t = absurd t
 equal (x ∷ xs) [] t = absurd t

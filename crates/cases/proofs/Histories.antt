@@ -1,0 +1,80 @@
+-- The worked histories are as written: one test, which the checker computes, and one law that turns it into what it shows of each.
+use mathlib.Core.Path.{_≡_, refl, sym, ap, ap₂, _∙_}
+use mathlib.Core.Bool.{Bool, true, false, cond, _&&_}
+use mathlib.Core.List.{List, [], _∷_}
+use lib.Dec.{T, eqb, eqb→eq}
+use Rattle.model.specs.AbstractLog.{AbstractLog, emptyLog}
+use Rattle.model.specs.History.{Machine, Event, step, stepLog, allowed, allAllowed, run, logAfter}
+use Rattle.model.specs.Claim.{fresh, reached, logOf}
+use Rattle.cases.specs.Opened.{opened}
+use Rattle.cases.specs.Rows.{same}
+use Rattle.cases.specs.Worked.{Worked, historyOf, joined, makes, answerTo, answersOf, taleFrom, taleOf, saysAnswers, changes, pagesOf, allReplay, agrees, computes, allCompute, Computed, AllComputed}
+use Rattle.cases.specs.Histories.{histories}
+use Rattle.cases.proofs.Cases.{left, right, equal}
+
+holds : (b : Bool) → T b → b ≡ true
+holds true t = refl
+holds false t = absurd t
+
+-- ---- the one pass gives what `model`'s folds give
+
+ok : (w : Machine) (b : AbstractLog) (es : List Event) → taleFrom w b es .ok ≡ allAllowed w es
+unfolding allAllowed
+ok w b [] = refl
+ok w b (e ∷ es) = ap (λ r. cond (allowed w e) r false) (ok (step w e) (stepLog w b e) es)
+
+answered : (w : Machine) (b : AbstractLog) (es : List Event) → taleFrom w b es .answers ≡ answersOf w es
+answered w b [] = refl
+answered w b (e ∷ es) = ap (λ r. answerTo w e ∷ r) (answered (step w e) (stepLog w b e) es)
+
+machine : (w : Machine) (b : AbstractLog) (es : List Event) → taleFrom w b es .machine ≡ run w es
+unfolding run
+machine w b [] = refl
+machine w b (e ∷ es) = machine (step w e) (stepLog w b e) es
+
+log : (w : Machine) (b : AbstractLog) (es : List Event) → taleFrom w b es .log ≡ logAfter w b es
+unfolding logAfter
+log w b [] = refl
+log w b (e ∷ es) = log (step w e) (stepLog w b e) es
+
+-- ---- the law
+
+computed : (w : Worked) → T (computes w) → Computed w
+unfolding reached logOf
+computed w t =
+    let h = historyOf w in
+    let m = fresh h in
+    let a = taleOf h in
+    let told = same (joined (a .answers)) (saysAnswers w) in
+    let kept = same (changes (a .log .durable)) (changes (w .kept)) in
+    let seen = same (pagesOf w (a .machine .volume)) (joined (w .shows)) in
+    let replay = allReplay (w .pages) (a .machine .volume) (a .log .durable) in
+    let t1 = right (eqb (makes h) 0) (agrees w a) t in
+    let t2 = right (a .ok) (told && (kept && (seen && replay))) t1 in
+    let t3 = right told (kept && (seen && replay)) t2 in
+    let t4 = right kept (seen && replay) t3 in
+    record {
+      legal =
+          record {
+            make = eqb→eq (makes h) 0 (left (eqb (makes h) 0) (agrees w a) t);
+            events = sym (ok m emptyLog (h .events)) ∙ holds (a .ok) (left (a .ok) (told && (kept && (seen && replay))) t1);
+          };
+      answers = sym (ap joined (answered m emptyLog (h .events))) ∙ equal (joined (a .answers)) (saysAnswers w) (left told (kept && (seen && replay)) t2);
+      kept =
+          sym (ap (λ b. changes (b .durable)) (log m emptyLog (h .events)))
+          ∙ equal (changes (a .log .durable)) (changes (w .kept)) (left kept (seen && replay) t3);
+      pages =
+          sym (ap (λ x. pagesOf w (x .volume)) (machine m emptyLog (h .events)))
+          ∙ equal (pagesOf w (a .machine .volume)) (joined (w .shows)) (left seen replay t4);
+      replay =
+          sym (ap₂ (λ x b. allReplay (w .pages) (x .volume) (b .durable)) (machine m emptyLog (h .events)) (log m emptyLog (h .events)))
+          ∙ holds replay (right seen replay t4);
+    }
+
+all : (ws : List Worked) → T (allCompute ws) → AllComputed ws
+all [] t = tt
+all (w ∷ ws) t = (computed w (left (computes w) (allCompute ws) t), all ws (right (computes w) (allCompute ws) t))
+
+pub worked : AllComputed histories
+unfolding opened histories
+worked = all histories tt

@@ -1,0 +1,160 @@
+-- A worked history: each event with what it answers, what the history kept, and what inspection then shows of each page. `computes` tests
+-- it; `Computed` is what the test shows.
+use Prim.Native.Nat.{ℕ, zero, suc, _+_}
+use Prim.Native.String.{String}
+use mathlib.Core.Path.{_≡_}
+use mathlib.Core.Bool.{Bool, true, false, cond, _&&_}
+use mathlib.Core.List.{List, [], _∷_, _++_, map}
+use lib.Dec.{eqb}
+use lib.ListN.{length, replicate, take}
+use Rattle.model.specs.Bytes.{bytesOf, part}
+use Rattle.model.specs.Geometry.{lengthFor}
+use Rattle.model.specs.Change.{kindOf, lengthOf, offsetOf, fillOf}
+use Rattle.model.specs.Item.{imageLsn, imageBody}
+use Rattle.model.specs.Calls.{makeOf, inspectOf, restartOf, refusalOf, Inspected}
+use Rattle.model.specs.AbstractLog.{Logged, AbstractLog, emptyLog, lastPlace, replay}
+use Rattle.model.specs.History.{Machine, Event, restart, perform, crash, crashIn, damage, lent, step, allowed, stepLog}
+use Rattle.model.specs.Claim.{History, Legal, fresh, reached, keptOf}
+use Rattle.model.specs.declared.answer.Answer.{Answer}
+use Rattle.model.specs.declared.answer.Answer.the-variants.{Refused, Nothing, Done, Repaired}
+use Rattle.cases.specs.Rows.{same}
+use Rattle.cases.specs.Build.{numbers, buffer, asked}
+
+-- an event and what it answers; a crash and damage answer nothing
+pub record Told : Type 0 where
+  pub event : Event
+  pub answer : List ℕ
+
+abbrev pub told : Event → List ℕ → Told
+told e a = record { event = e; answer = a }
+
+abbrev pub quiet : Event → Told
+quiet e = told e []
+
+pub record Worked : Type 0 where
+  pub name : String
+  pub pages : ℕ
+  pub slots : ℕ
+  pub records : ℕ
+  pub notes : ℕ
+  pub events : List Told
+  pub kept : List Logged
+  pub shows : List (List ℕ)
+
+-- the history itself: Make found other bytes than zeros
+abbrev pub historyOf : Worked → History
+historyOf w =
+    record {
+      found = replicate (lengthFor (w .pages) (w .slots) (w .records) (w .notes)) 0xDD;
+      pages = w .pages;
+      slots = w .slots;
+      records = w .records;
+      notes = w .notes;
+      events = map (λ t. t .event) (w .events);
+    }
+
+-- ---- what is found
+
+-- lists joined, each behind its length, so that no border is lost
+abbrev pub joined : List (List ℕ) → List ℕ
+joined [] = []
+joined (xs ∷ xss) = length xs ∷ (xs ++ joined xss)
+
+abbrev pub answerTo : Machine → Event → List ℕ
+answerTo w (restart m) = numbers (restartOf (w .volume) (lent (w .power) m) .answer)
+answerTo w (perform c) = asked w c
+answerTo w crash = []
+answerTo w (crashIn c l) = []
+answerTo w (damage at xs) = []
+
+abbrev pub answersOf : Machine → List Event → List (List ℕ)
+answersOf w [] = []
+answersOf w (e ∷ es) = answerTo w e ∷ answersOf (step w e) es
+
+-- all that a history leaves, in one pass: that its events are allowed, their answers, the machine and the abstract log. (`allAllowed`, `run`
+-- and `logAfter` each make every step again.)
+pub record Tale : Type 0 where
+  pub ok : Bool
+  pub answers : List (List ℕ)
+  pub machine : Machine
+  pub log : AbstractLog
+
+abbrev pub taleFrom : Machine → AbstractLog → List Event → Tale
+taleFrom w b [] = record { ok = true; answers = []; machine = w; log = b }
+taleFrom w b (e ∷ es) =
+    let rest = taleFrom (step w e) (stepLog w b e) es in
+    record { ok = cond (allowed w e) (rest .ok) false; answers = answerTo w e ∷ rest .answers; machine = rest .machine; log = rest .log }
+
+abbrev pub taleOf : History → Tale
+taleOf h = taleFrom (fresh h) emptyLog (h .events)
+
+-- a change in the log: its page, kind, length, offset, fill and bytes
+abbrev pub loggedNumbers : Logged → List ℕ
+loggedNumbers c = c .page ∷ kindOf (c .change) ∷ lengthOf (c .change) ∷ offsetOf (c .change) ∷ fillOf (c .change) ∷ c .bytes
+
+-- what inspection shows: the answer; where a page is repaired, its number and the first of its body
+abbrev pub seen : Answer → List ℕ → List ℕ
+seen (Refused n) x = numbers (Refused n)
+seen Nothing x = numbers Nothing
+seen Done x = numbers Done
+seen (Repaired r) x = numbers (Repaired r) ++ (imageLsn x ∷ take 6 (imageBody x))
+
+abbrev pub pageSeen : List ℕ → ℕ → List ℕ
+pageSeen v p = let i = inspectOf v p buffer in seen (i .answer) (i .buffer)
+
+abbrev pub pagesSeen : ℕ → ℕ → List ℕ → List (List ℕ)
+pagesSeen zero p v = []
+pagesSeen (suc n) p v = pageSeen v p ∷ pagesSeen n (suc p) v
+
+-- demand 2 of page p of a volume: 7 where it is blank, else the replay's number and body, all of it
+abbrev pub replays : List ℕ → List Logged → ℕ → Bool
+replays v kept p =
+    let i = inspectOf v p buffer in
+    let n = lastPlace p kept in
+    cond (eqb n 0) (eqb (refusalOf (i .answer)) 7)
+    (eqb (refusalOf (i .answer)) 0 && same (part (i .buffer) 4 248) (bytesOf 4 n ++ replay p kept))
+
+abbrev pub allReplay : ℕ → List ℕ → List Logged → Bool
+allReplay zero v kept = true
+allReplay (suc n) v kept = replays v kept (suc n) && allReplay n v kept
+
+-- ---- the test and the statement
+
+abbrev pub makes : History → ℕ
+makes h = refusalOf (makeOf (h .found) (h .pages) (h .slots) (h .records) (h .notes) .answer)
+
+abbrev pub answers : History → List ℕ
+answers h = joined (answersOf (fresh h) (h .events))
+
+abbrev pub saysAnswers : Worked → List ℕ
+saysAnswers w = joined (map (λ t. t .answer) (w .events))
+
+abbrev pub changes : List Logged → List ℕ
+changes cs = joined (map loggedNumbers cs)
+
+abbrev pub pagesOf : Worked → List ℕ → List ℕ
+pagesOf w v = joined (pagesSeen (w .pages) 1 v)
+
+-- what is made of a history, beside what the worked one says
+abbrev pub agrees : Worked → Tale → Bool
+agrees w t =
+    t .ok && (same (joined (t .answers)) (saysAnswers w) && (same (changes (t .log .durable)) (changes (w .kept))
+    && (same (pagesOf w (t .machine .volume)) (joined (w .shows)) && allReplay (w .pages) (t .machine .volume) (t .log .durable))))
+
+abbrev pub computes : Worked → Bool
+computes w = eqb (makes (historyOf w)) 0 && agrees w (taleOf (historyOf w))
+
+abbrev pub allCompute : List Worked → Bool
+allCompute [] = true
+allCompute (w ∷ ws) = computes w && allCompute ws
+
+pub record Computed (w : Worked) : Type 0 where
+  pub legal : Legal (historyOf w)
+  pub answers : answers (historyOf w) ≡ saysAnswers w
+  pub kept : changes (keptOf (historyOf w)) ≡ changes (w .kept)
+  pub pages : pagesOf w (reached (historyOf w) .volume) ≡ joined (w .shows)
+  pub replay : allReplay (w .pages) (reached (historyOf w) .volume) (keptOf (historyOf w)) ≡ true
+
+abbrev pub AllComputed : List Worked → Type 0
+AllComputed [] = Unit
+AllComputed (w ∷ ws) = Computed w × AllComputed ws
