@@ -8,3 +8,4 @@ pub mod Zeros
 pub mod Changes
 pub mod Notes
 pub mod EmptyVolume
+pub mod WellFormed
