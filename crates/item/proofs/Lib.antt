@@ -1,0 +1,3 @@
+pub mod Slides
+pub mod Changes
+pub mod Covers

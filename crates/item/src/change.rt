@@ -1,0 +1,42 @@
+// A change of a page's body: its kind's rule, and the change made in place.
+ghost use mathlib.Core.Path.{_≡_};
+ghost use mathlib.Core.Bool.{true};
+ghost use mathlib.Core.List.{_++_};
+ghost use Prim.Native.Nat.{_+_, _-_, _≤_};
+ghost use lib.ListN.{length, take, drop};
+ghost use Rattle.model.specs.Change.{changeFits, fits, lengthOf, applyChange};
+use model::change::Change;
+
+// The rule of each kind on its numbers, summed so that none wraps.
+pub fn fits(kind: u32, length: u32, offset: u32, fill: u32) -> bool
+    ensures { λ r. ⌜ r ≡ changeFits kind length offset fill ⌝ }
+{
+    let format = (kind == 1) & ((length == 0) & (offset == 0));
+    let end = offset as u64 + length as u64;
+    let sized = ((1 <= length) & (length <= 44)) & ((end <= 244) & (fill == 0));
+    format | (((kind == 2) | (kind == 3)) & sized)
+}
+
+// A change obeys its kind's rule.
+pub fn obeys(c: Change) -> bool
+    ensures { λ r. ⌜ r ≡ fits c ⌝ }
+{
+    match c {
+        Change::Format { fill } => fits(1, 0, 0, fill as u32),
+        Change::Put { offset, length } => fits(2, length as u32, offset as u32, 0),
+        Change::Slide { offset, length } => fits(3, length as u32, offset as u32, 0),
+    }
+}
+
+// Moves the bytes from a place on up by n, the last one first; the last n drop off.
+fn raise(s: &mut [u8], at: usize, n: usize)
+    requires { ⌜ at + n ≤ length (now s) ⌝ }
+    ensures { λ _. ⌜ now (s .exit) ≡ take (at + n) (now (s .entry)) ++ take (length (now (s .entry)) - (at + n)) (drop at (now (s .entry))) ⌝ }
+{
+    let mut i = s.len();
+    while at + n < i {
+        let k = i - 1;
+        s[k] = s[k - n];
+        i = k;
+    }
+}
