@@ -1,3 +1,4 @@
 pub mod Slides
 pub mod Changes
 pub mod Covers
+pub mod Records

@@ -1,0 +1,26 @@
+// A page image: its log sequence number read, its image judged as a page's, built in a frame and stored with its checksum.
+ghost use mathlib.Core.Path.{_≡_};
+ghost use Prim.Native.Nat.{_<_};
+ghost use lib.ListN.{length};
+ghost use Rattle.model.specs.Bytes.{part};
+ghost use Rattle.model.specs.Checksum.{sealImage};
+ghost use Rattle.model.specs.Item.{imageLsn, validImage, frameImage};
+use codec::field;
+
+// The log sequence number of the last record in the image.
+pub fn lsn(x: &[u8]) -> u32
+    ensures { λ r. ⌜ r ≡ imageLsn (now (x .entry)) ⌝ }
+{
+    field::u32at(x, 4)
+}
+
+// Makes the image of a page around the body that stands in the part. A frame's image has no checksum.
+pub fn build(dst: &mut [u8], page: u32, lsn: u32)
+    requires { ⌜ (length (now dst) ≡ 256) × (page < 65536) ⌝ }
+    ensures { λ _. ⌜ now (dst .exit) ≡ frameImage page lsn (part (now (dst .entry)) 8 244) ⌝ }
+{
+    field::put16(dst, 0, page as u16);
+    field::put16(dst, 2, 0);
+    field::put32(dst, 4, lsn);
+    field::put32(dst, 252, 0);
+}
