@@ -5,6 +5,7 @@ ghost use mathlib.Core.List.{_++_};
 ghost use Prim.Native.Nat.{_+_, _-_, _≤_};
 ghost use lib.ListN.{length, take, drop};
 ghost use Rattle.model.specs.Change.{changeFits, fits, lengthOf, applyChange};
+use codec::part;
 use model::change::Change;
 
 // The rule of each kind on its numbers, summed so that none wraps.
@@ -38,5 +39,24 @@ fn raise(s: &mut [u8], at: usize, n: usize)
         let k = i - 1;
         s[k] = s[k - n];
         i = k;
+    }
+}
+
+// Makes a change on a body, with the bytes that a put or a slide brings at the front of the payload.
+pub fn apply(c: Change, payload: &[u8], body: &mut [u8])
+    requires { ⌜ (fits c ≡ true) × (lengthOf c ≤ length (now payload)) × (length (now body) ≡ 244) ⌝ }
+    ensures { λ _. ⌜ now (body .exit) ≡ applyChange c (now (payload .entry)) (now (body .entry)) ⌝ }
+{
+    match c {
+        Change::Format { fill } => part::fill(body, fill),
+        Change::Put { offset, length } => {
+            let n = length as usize;
+            part::put(body, offset as usize, &payload[0..n])
+        }
+        Change::Slide { offset, length } => {
+            let n = length as usize;
+            raise(body, offset as usize, n);
+            part::put(body, offset as usize, &payload[0..n])
+        }
     }
 }

@@ -5,13 +5,25 @@ ghost use lib.ListN.{length};
 ghost use Rattle.model.specs.Bytes.{part};
 ghost use Rattle.model.specs.Checksum.{sealImage};
 ghost use Rattle.model.specs.Item.{imageLsn, validImage, frameImage};
+use codec::checksum;
 use codec::field;
+use codec::part;
+use model::geometry::Geometry;
 
 // The log sequence number of the last record in the image.
 pub fn lsn(x: &[u8]) -> u32
     ensures { λ r. ⌜ r ≡ imageLsn (now (x .entry)) ⌝ }
 {
     field::u32at(x, 4)
+}
+
+// The image is valid as the page's: checksum and page number are right, bytes 2 and 3 are zero.
+pub fn valid(g: Geometry, p: u32, x: &[u8]) -> bool
+    ensures { λ r. ⌜ r ≡ validImage g p (now (x .entry)) ⌝ }
+{
+    let page = field::u16at(x, 0) as u32;
+    let zero = field::u16at(x, 2);
+    checksum::holds(x, 252) & ((page == p) & (zero == 0))
 }
 
 // Makes the image of a page around the body that stands in the part. A frame's image has no checksum.
@@ -23,4 +35,13 @@ pub fn build(dst: &mut [u8], page: u32, lsn: u32)
     field::put16(dst, 2, 0);
     field::put32(dst, 4, lsn);
     field::put32(dst, 252, 0);
+}
+
+// Stores a frame's image with its checksum. The geometry says how images are summed.
+pub fn store(dst: &mut [u8], frame: &[u8], g: Geometry)
+    requires { ⌜ (length (now dst) ≡ 256) × (length (now frame) ≡ 256) ⌝ }
+    ensures { λ _. ⌜ now (dst .exit) ≡ sealImage g (now (frame .entry)) ⌝ }
+{
+    part::copy(dst, frame);
+    checksum::set(dst, 252);
 }
