@@ -1,0 +1,40 @@
+-- Laws of the frame table and the index: their lengths, the search for a page's frame.
+use Prim.Native.Nat.{ℕ, zero, suc, _+_, _-_, _≤_, _<_}
+use mathlib.Core.Path.{_≡_, refl, ap, sym, _∙_}
+use mathlib.Core.List.{List, [], _∷_, map}
+use mathlib.Core.Bool.{Bool, true, false, cond}
+use lib.Dec.{eqb}
+use lib.ListN.{length, drop, getD, length-map, drop-of-length-le, List·getD-eq-default}
+use lib.Seq.{drop-cons}
+use native.Mathlib.Numerals.{add-one}
+use native.Mathlib.Omega.{arith}
+use borrow.Author.Tests.{eq-eqb, ne-eqb}
+use Rattle.laws.proofs.Tests.{when-true, when-false}
+use Rattle.model.specs.State.{emptyFrame, holderFrom}
+use Rattle.model.specs.declared.state.Frame.{Frame}
+
+-- what owning an array of structs tells of its list
+pub length-mapped : (X Y : Type 0) (f : X → Y) (l : List X) (n : ℕ) → length (map f l) ≡ n → length l ≡ n
+length-mapped X Y f l n h = sym (length-map l f) ∙ h
+
+-- ---- the search for the frame that holds page p: what the rows from i on give
+
+module _ (p : ℕ) (fs : List Frame) (i : ℕ) (l : i < length fs) where
+  unfold-row : holderFrom i p (drop i fs) ≡ holderFrom i p (getD fs i emptyFrame ∷ drop (suc i) fs)
+  unfold-row = ap (λ (r : List Frame). holderFrom i p r) (drop-cons fs i emptyFrame l)
+
+  pub holder-here : getD fs i emptyFrame .page ≡ p → holderFrom i p (drop i fs) ≡ i + 1
+  unfolding holderFrom
+  holder-here e = unfold-row ∙ when-true _ _ (eq-eqb _ _ e) ∙ sym (add-one i)
+
+  pub holder-later : (getD fs i emptyFrame .page ≡ p → ⊥) → holderFrom i p (drop i fs) ≡ holderFrom (i + 1) p (drop (i + 1) fs)
+  unfolding holderFrom
+  holder-later e = unfold-row ∙ when-false _ _ (ne-eqb _ _ e) ∙ rw add-one
+
+pub holder-end : (p : ℕ) (fs : List Frame) (i : ℕ) → length fs ≤ i → holderFrom i p (drop i fs) ≡ 0
+unfolding holderFrom
+holder-end p fs i l = ap (λ (r : List Frame). holderFrom i p r) (drop-of-length-le fs l)
+
+-- a read past the end
+pub past-end : (A : Type 0) (xs : List A) (d : A) (n k i : ℕ) → length xs ≡ n → n ≤ k → k ≡ i → d ≡ getD xs i d
+past-end A xs d n k i h l e = sym (List·getD-eq-default xs d {n = i} (omega arith))

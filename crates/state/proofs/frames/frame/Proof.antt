@@ -1,0 +1,23 @@
+-- `state::frames::frame` meets its contract.
+use Rattle.state.proofs.Tables.{length-mapped, past-end}
+use borrow.Author.Needs.{needs}
+use Rattle.state.proofs.frames.frame.Statement.{statement}
+use Rattle.state.proofs.frames.frame.Tie as tie
+
+row-requires : tie.Need-row-requires
+row-requires c κs = search needs
+
+mul-result : tie.Need-mul-result
+mul-result c = search needs
+
+element-copy-out-result : tie.Need-element-copy-out-result
+element-copy-out-result c = search needs
+
+returns : tie.Need-returns
+returns c = cc
+
+returns-2 : tie.Need-returns-2
+returns-2 c = past-end _ (c .before .before .args .t1 .frames) _ 16 _ _ (search (needs, length-mapped)) (c .if1 .left) (c .before .row .ensures)
+
+pub frame-spec : {M : Type 1} → statement M
+frame-spec = tie.close (tie.spec row-requires mul-result element-copy-out-result returns returns-2)

@@ -1,0 +1,79 @@
+-- `state::frames::holder` meets its contract.
+use Prim.Native.Nat.{_≤_, _<_, _-_}
+use mathlib.Core.Path.{_≡_, refl, sym, _∙_}
+use lib.ListN.{length, drop}
+use native.Mathlib.Omega.{arith}
+use borrow.Author.Needs.{needs}
+use Rattle.model.specs.State.{holderFrom, holder}
+use Rattle.state.proofs.Tables.{length-mapped, holder-here, holder-later, holder-end}
+use Rattle.state.proofs.frames.holder.Statement.{statement}
+use Rattle.state.proofs.frames.holder.Tie as tie
+
+abbrev Inv-loop : tie.InvT-loop
+Inv-loop page s i₀ i = (i ≤ 16) × (holderFrom i page (drop i (s .frames)) ≡ holder s page)
+
+abbrev μ-loop : tie.MeasureT-loop
+μ-loop page s i₀ i = 16 - i
+
+-- the table's length
+long : (c : tie.Start Inv-loop μ-loop) → length (c .args .t1 .frames) ≡ 16
+long c = search (needs, length-mapped)
+
+loop-holds : tie.Need-loop-holds Inv-loop μ-loop
+loop-holds c = (search needs, refl)
+
+mul-wide : tie.Need-mul-wide Inv-loop μ-loop
+mul-wide c = search needs
+
+element-copy-out-wide : tie.Need-element-copy-out-wide Inv-loop μ-loop
+element-copy-out-wide c = search needs
+
+wide-requires : tie.Need-wide-requires Inv-loop μ-loop
+wide-requires c κs = search needs
+
+cast-result : tie.Need-cast-result Inv-loop μ-loop
+cast-result c = search needs
+
+add-result : tie.Need-add-result Inv-loop μ-loop
+add-result c = search needs
+
+returns : tie.Need-returns Inv-loop μ-loop
+returns c =
+    let k = c .before .before .before in
+    let l : k .loop .i < length (k .before .args .t1 .frames) = omega (arith, long (k .before)) in
+    sym (holder-here _ _ _ l (sym (c .before .wide .ensures) ∙ c .if1 .taken)) ∙ k .loop .inv .1
+
+add-i : tie.Need-add-i Inv-loop μ-loop
+add-i c = search needs
+
+loop-less : tie.Need-loop-less Inv-loop μ-loop
+loop-less c = search needs
+
+loop-again : tie.Need-loop-again Inv-loop μ-loop
+loop-again c =
+    let k = c .before .before .before in
+    let l : k .loop .i < length (k .before .args .t1 .frames) = omega (arith, long (k .before)) in
+    (search needs, sym (holder-later _ _ _ l (λ e. c .if1 .left (c .before .wide .ensures ∙ e))) ∙ k .loop .inv .1)
+
+returns-2 : tie.Need-returns-2 Inv-loop μ-loop
+returns-2 c =
+    let l : length (c .before .before .args .t1 .frames) ≤ c .before .loop .i = omega (arith, long (c .before .before)) in
+    sym (holder-end _ _ _ l) ∙ c .before .loop .inv .1
+
+pub holder-spec : {M : Type 1} → statement M
+holder-spec =
+    tie.close
+    (tie.spec
+    Inv-loop
+    μ-loop
+    loop-holds
+    mul-wide
+    element-copy-out-wide
+    wide-requires
+    cast-result
+    add-result
+    returns
+    add-i
+    loop-less
+    loop-again
+    returns-2)

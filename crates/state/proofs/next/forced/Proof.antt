@@ -1,0 +1,37 @@
+-- `state::next::forced` meets its contract.
+use Rattle.state.proofs.Forced.{forced-in, forced-out}
+use Rattle.laws.proofs.Tests.{within-bounds}
+use native.Mathlib.Omega.{arith}
+use borrow.Author.Needs.{needs}
+use Rattle.state.proofs.next.forced.Statement.{statement}
+use Rattle.state.proofs.next.forced.Tie as tie
+
+add-n : tie.Need-add-n
+add-n c = search needs
+
+sub-t : tie.Need-sub-t
+sub-t c = search needs
+
+sub-i : tie.Need-sub-i
+sub-i c = let a = c .before .before .before .args in within-bounds (a .pages) (a .page) (c .if1 .taken) .0
+
+cast-i : tie.Need-cast-i
+cast-i c = search needs
+
+mul-t : tie.Need-mul-t
+mul-t c = search needs
+
+way-write-given-t : tie.Need-way-write-given-t
+way-write-given-t c =
+    let a = c .before .before .before .args in
+    (omega (arith, within-bounds (a .pages) (a .page) (c .if1 .taken)), tt)
+
+returns : tie.Need-returns
+returns c = forced-in _ _ _ (c .before .if1 .taken)
+
+returns-2 : tie.Need-returns-2
+returns-2 c = forced-out _ _ _ (c .if1 .left)
+
+pub forced-spec : {M : Type 1} → statement M
+forced-spec =
+    tie.close (tie.spec add-n sub-t sub-i cast-i mul-t way-write-given-t returns returns-2)

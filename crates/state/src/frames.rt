@@ -1,0 +1,41 @@
+// The frame table of a state.
+ghost use mathlib.Core.Path.{_≡_};
+ghost use Prim.Native.Nat.{_-_, _≤_, _<_};
+ghost use Rattle.model.specs.State.{frameOf, holder, held};
+use model::state::State;
+
+// The row of frame f, counted from 1; past the table an empty one.
+pub fn frame(s: State, f: u32) -> model::state::Frame
+    ensures { λ r. ⌜ r ≡ frameOf s f ⌝ }
+{
+    let i = crate::row(f);
+    if i < 16 {
+        s.frames[i]
+    } else {
+        model::state::Frame {
+            page: 0,
+            dirty: false,
+        }
+    }
+}
+
+// The frame that holds the page, counted from 1; 0 if none does.
+pub fn holder(s: State, page: u32) -> u32
+    ensures { λ r. ⌜ r ≡ holder s page ⌝ }
+{
+    let mut i = 0;
+    while i < 16 {
+        if crate::wide(s.frames[i].page) == page {
+            return i as u32 + 1;
+        }
+        i += 1;
+    }
+    0
+}
+
+// Whether some frame holds the page.
+pub fn held(s: State, page: u32) -> bool
+    ensures { λ r. ⌜ r ≡ held s page ⌝ }
+{
+    0 < holder(s, page)
+}

@@ -1,0 +1,21 @@
+// The state by value: its frame table, its index, the states that the calls make of it.
+pub mod entries;
+pub mod frames;
+pub mod next;
+
+ghost use mathlib.Core.Path.{_≡_};
+ghost use Prim.Native.Nat.{_-_};
+
+// The row of what is counted from 1; 0 counts as 1.
+pub fn row(n: u32) -> usize
+    ensures { λ r. ⌜ r ≡ n - 1 ⌝ }
+{
+    if 1 <= n { n as usize - 1 } else { 0 }
+}
+
+// A page number of a row as a wider number.
+pub fn wide(x: u16) -> u32
+    ensures { λ r. ⌜ r ≡ x ⌝ }
+{
+    x as u32
+}

@@ -1,0 +1,181 @@
+// The states that the calls leave, each as the model defines it.
+ghost use mathlib.Core.Path.{_≡_};
+ghost use mathlib.Core.Bool.{true, false};
+ghost use Prim.Native.Nat.{_+_, _-_, _≤_, _<_};
+ghost use Rattle.model.specs.Index.{withNote};
+ghost use Rattle.model.specs.State.{zeroState};
+ghost use Rattle.model.specs.Calls.{withFrame, withFrames, nextNote, appendedState, forcedState, notedState};
+use model::item::Note;
+use model::state::Entry;
+use model::state::Frame;
+use model::state::PendingNote;
+use model::state::State;
+
+// The state of zeros.
+pub fn zero() -> State
+    ensures { λ r. ⌜ r ≡ zeroState ⌝ }
+{
+    let frames = [Frame {
+        page: 0,
+        dirty: false,
+    }; 16];
+    let index = [Entry {
+        last: 0,
+        durable: 0,
+        written: 0,
+        slot: 0,
+        backup: 0,
+    }; 64];
+    State {
+        durable: 0,
+        pending: 0,
+        notes: 0,
+        note: PendingNote::Absent,
+        frames,
+        index,
+    }
+}
+
+// One more pending record, of the page, which frame f holds and is dirty.
+pub fn appended(s: State, page: u32, f: u32) -> State
+    requires { ⌜ (1 ≤ page) × (page ≤ 64) × (1 ≤ f) × (f ≤ 16) × (s .durable + s .pending < 4294967295) × (s .pending < 4294967295) ⌝ }
+    ensures { λ r. ⌜ r ≡ appendedState s page f ⌝ }
+{
+    let mut t = s;
+    let n = s.durable + s.pending + 1;
+    t.pending = s.pending + 1;
+    let k = (f - 1) as usize;
+    t.frames[k] = Frame {
+        page: page as u16,
+        dirty: true,
+    };
+    let i = (page - 1) as usize;
+    t.index[i].last = n;
+    t
+}
+
+// Frame f holds the page.
+pub fn loaded(s: State, page: u32, f: u32, dirty: bool) -> State
+    requires { ⌜ (page ≤ 64) × (1 ≤ f) × (f ≤ 16) ⌝ }
+    ensures { λ r. ⌜ r ≡ withFrames s (withFrame s f page dirty) (s .note) ⌝ }
+{
+    let mut t = s;
+    let k = (f - 1) as usize;
+    t.frames[k] = Frame {
+        page: page as u16,
+        dirty,
+    };
+    t
+}
+
+// The oldest pending record, of the page given, is durable; a page that is none of the volume's has no entry.
+pub fn forced(s: State, pages: u32, page: u32) -> State
+    requires { ⌜ (pages ≤ 64) × (0 < s .pending) × (s .durable < 4294967295) ⌝ }
+    ensures { λ r. ⌜ r ≡ forcedState s pages page ⌝ }
+{
+    let mut t = s;
+    let n = s.durable + 1;
+    t.durable = n;
+    t.pending = s.pending - 1;
+    if (1 <= page) & (page <= pages) {
+        let i = (page - 1) as usize;
+        t.index[i].durable = n;
+    }
+    t
+}
+
+// The page is written from frame f: the frame is clean, the note is to be stored.
+pub fn written(s: State, page: u32, f: u32, lsn: u32) -> State
+    requires { ⌜ (page ≤ 64) × (1 ≤ f) × (f ≤ 16) × (s .notes < 4294967295) ⌝ }
+    ensures { λ r. ⌜ r ≡ withFrames s (withFrame s f page false) (nextNote s page 1 0 lsn) ⌝ }
+{
+    let k = (f - 1) as usize;
+    let mut frames = s.frames;
+    frames[k] = Frame {
+        page: page as u16,
+        dirty: false,
+    };
+    let index = s.index;
+    let note = Note {
+        number: s.notes + 1,
+        page: page as u16,
+        kind: 1,
+        slot: 0,
+        lsn,
+    };
+    State {
+        durable: s.durable,
+        pending: s.pending,
+        notes: s.notes,
+        note: PendingNote::Present(note),
+        frames,
+        index,
+    }
+}
+
+// The page is backed up into the slot: the note is to be stored.
+pub fn backedup(s: State, page: u32, slot: u32, lsn: u32) -> State
+    requires { ⌜ (page ≤ 64) × (slot ≤ 255) × (s .notes < 4294967295) ⌝ }
+    ensures { λ r. ⌜ r ≡ withFrames s (s .frames) (nextNote s page 2 slot lsn) ⌝ }
+{
+    let frames = s.frames;
+    let index = s.index;
+    let note = Note {
+        number: s.notes + 1,
+        page: page as u16,
+        kind: 2,
+        slot: slot as u8,
+        lsn,
+    };
+    State {
+        durable: s.durable,
+        pending: s.pending,
+        notes: s.notes,
+        note: PendingNote::Present(note),
+        frames,
+        index,
+    }
+}
+
+// An entry with a note entered.
+fn entered(e: Entry, n: Note) -> Entry
+    ensures { λ r. ⌜ r ≡ withNote e n ⌝ }
+{
+    if n.kind == 1 {
+        Entry {
+            last: e.last,
+            durable: e.durable,
+            written: n.lsn,
+            slot: e.slot,
+            backup: e.backup,
+        }
+    } else {
+        Entry {
+            last: e.last,
+            durable: e.durable,
+            written: e.written,
+            slot: n.slot,
+            backup: n.lsn,
+        }
+    }
+}
+
+// The note is stored, and entered in the index.
+pub fn noted(s: State, n: Note) -> State
+    requires { ⌜ (1 ≤ n .page) × (n .page ≤ 64) × (s .notes < 4294967295) ⌝ }
+    ensures { λ r. ⌜ r ≡ notedState s n ⌝ }
+{
+    let i = (n.page - 1) as usize;
+    let frames = s.frames;
+    let mut index = s.index;
+    let e = index[i];
+    index[i] = entered(e, n);
+    State {
+        durable: s.durable,
+        pending: s.pending,
+        notes: s.notes + 1,
+        note: PendingNote::Absent,
+        frames,
+        index,
+    }
+}
