@@ -9,3 +9,4 @@ pub mod Changes
 pub mod Notes
 pub mod EmptyVolume
 pub mod WellFormed
+pub mod Demand1
