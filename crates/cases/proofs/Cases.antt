@@ -4,9 +4,8 @@ use mathlib.Core.Path.{_≡_, refl, ap₂}
 use mathlib.Core.Bool.{Bool, true, false, _&&_}
 use mathlib.Core.List.{List, [], _∷_}
 use lib.Dec.{T, eqb, eqb→eq}
-use Rattle.cases.specs.Opened.{opened}
 use Rattle.cases.specs.Rows.{Row, same, every, Hold}
-use Rattle.cases.specs.Table.{kRows}
+use Rattle.cases.specs.All.{rows}
 
 pub left : (a b : Bool) → T (a && b) → T a
 left true b t = tt
@@ -28,6 +27,6 @@ all (r ∷ rs) t =
     let here = same (r .found) (r .says) in
     (equal (r .found) (r .says) (left here (every rs) t), all rs (right here (every rs) t))
 
-pub cases : Hold kRows
-unfolding opened kRows
-cases = all kRows tt
+pub cases : Hold rows
+unfolding rows
+cases = all rows tt

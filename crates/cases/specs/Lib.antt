@@ -4,3 +4,6 @@ pub mod Build
 pub mod Table
 pub mod Worked
 pub mod Histories
+pub mod Naive
+pub mod Traps
+pub mod All

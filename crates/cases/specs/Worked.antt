@@ -41,17 +41,13 @@ pub record Worked : Type 0 where
   pub kept : List Logged
   pub shows : List (List ℕ)
 
--- the history itself: Make found other bytes than zeros
+-- a history with these counts, whose Make found other bytes than zeros
+abbrev pub historyWith : ℕ → ℕ → ℕ → ℕ → List Event → History
+historyWith p b l n es =
+    record { found = replicate (lengthFor p b l n) 0xDD; pages = p; slots = b; records = l; notes = n; events = es }
+
 abbrev pub historyOf : Worked → History
-historyOf w =
-    record {
-      found = replicate (lengthFor (w .pages) (w .slots) (w .records) (w .notes)) 0xDD;
-      pages = w .pages;
-      slots = w .slots;
-      records = w .records;
-      notes = w .notes;
-      events = map (λ t. t .event) (w .events);
-    }
+historyOf w = historyWith (w .pages) (w .slots) (w .records) (w .notes) (map (λ t. t .event) (w .events))
 
 -- ---- what is found
 
