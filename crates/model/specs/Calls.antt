@@ -27,6 +27,7 @@ use Rattle.model.specs.declared.state.State.{State}
 use Rattle.model.specs.declared.answer.Class.{Class}
 use Rattle.model.specs.declared.answer.Class.the-variants.{Good, Behind, Stale, Failed}
 use Rattle.model.specs.declared.answer.Repair.{Repair}
+use Rattle.model.specs.declared.answer.Reply.{Reply}
 use Rattle.model.specs.declared.answer.Answer.{Answer}
 use Rattle.model.specs.declared.answer.Answer.the-variants.{Refused, Nothing, Done, Repaired}
 
@@ -41,6 +42,10 @@ pub record Outcome : Type 0 where
   pub state : State
   pub memory : List ℕ
   pub stored : StoredItem
+
+-- what the code gives back of it: the answer and the next state
+abbrev pub replyOf : Outcome → Reply
+replyOf o = record { answer = o .answer; state = o .state }
 
 -- the volume after a call
 unfoldable pub volumeAfter : List ℕ → StoredItem → List ℕ

@@ -1,0 +1,106 @@
+#!/usr/bin/env python3
+"""Makes the two volumes that the program `scan` is shown on.
+
+    python3 tools/sample.py demo FILE   six pages: good, behind, stale, failed twice (backup, format) and blank
+    python3 tools/sample.py k6 FILE     the worked case K6 with page 2 good
+
+A second reader of the format, on purpose: it shares no code with the store.
+"""
+import struct
+import sys
+
+
+def checksum(data):
+    a, b = 1, 0
+    for (word,) in struct.iter_unpack("<H", data):
+        a = (a + word) % 65535
+        b = (b + a) % 65535
+    return b * 65536 + a
+
+
+def sealed(data):
+    return data + struct.pack("<I", checksum(data))
+
+
+def image(page, lsn, body):
+    return sealed(struct.pack("<HHI", page, 0, lsn) + body.ljust(244, b"\0")[:244])
+
+
+def record(lsn, prev, page, kind, offset=0, fill=0, payload=b""):
+    head = struct.pack("<IIHBBHBB", lsn, prev, page, kind, len(payload), offset, fill, 0)
+    return sealed(head + payload.ljust(44, b"\0"))
+
+
+def note(number, page, kind, slot, lsn):
+    return sealed(struct.pack("<IHBBI", number, page, kind, slot, lsn))
+
+
+def volume(pages, slots, log, notes, log_slots, note_slots):
+    """The sections in their order, each after its count; unused log and note slots are zero."""
+    log = b"".join(log).ljust(64 * log_slots, b"\0")
+    notes = b"".join(notes).ljust(16 * note_slots, b"\0")
+    parts = [b"CHPV"]
+    for count, items in ((len(pages), b"".join(pages)), (len(slots), b"".join(slots)), (log_slots, log), (note_slots, notes)):
+        parts += [struct.pack("<I", count), items]
+    return b"".join(parts)
+
+
+def torn(data):
+    """The first half of a store, over what was there before."""
+    return data[: len(data) // 2] + b"\0" * (len(data) - len(data) // 2)
+
+
+FORMAT, PUT, SLIDE = 1, 2, 3
+WRITTEN, BACKED_UP = 1, 2
+
+
+def demo():
+    """A ward's handover pages after a night of power cuts."""
+    spaces = b" " * 244
+    line = [b"06:00 all calm", b"06:10 bed 4 moved", b"06:20 dose given"]
+    log = [
+        record(1, 0, 1, FORMAT, fill=32),
+        record(2, 0, 2, FORMAT, fill=32),
+        record(3, 0, 3, FORMAT, fill=32),
+        record(4, 0, 4, FORMAT, fill=32),
+        record(5, 0, 5, FORMAT, fill=32),
+        record(6, 1, 1, PUT, payload=line[0]),
+        record(7, 2, 2, PUT, payload=line[0]),
+        record(8, 3, 3, PUT, payload=line[1]),
+        record(9, 4, 4, PUT, payload=line[1]),
+        record(10, 5, 5, SLIDE, payload=line[2]),
+        record(11, 7, 2, SLIDE, payload=line[2]),
+        torn(record(12, 6, 1, PUT, offset=40, payload=b"lost at the cut")),
+    ]
+
+    def body(*lines):
+        return b"".join(lines).ljust(244, b" ")
+
+    pages = [
+        image(1, 6, body(line[0])),              # good
+        image(2, 7, body(line[0])),              # behind: record 11 is durable, the page was not written since
+        image(3, 3, spaces),                     # stale: a confirmed write that the disk lost
+        torn(image(4, 9, body(line[1]))),        # failed, with a backup at 9
+        torn(image(5, 10, body(line[2]))),       # failed, no backup
+        b"\0" * 256,                             # blank
+    ]
+    slots = [image(4, 9, body(line[1])), b"\0" * 256]
+    notes = [note(1, 1, WRITTEN, 0, 6), note(2, 2, WRITTEN, 0, 7), note(3, 3, WRITTEN, 0, 8), note(4, 4, BACKED_UP, 1, 9)]
+    return volume(pages, slots, log, notes, 16, 8)
+
+
+def k6():
+    log = [record(1, 0, 1, FORMAT, fill=7), record(2, 0, 2, FORMAT, fill=9), record(3, 1, 1, PUT, payload=b"AB")]
+    return volume([image(1, 1, b"\7" * 244), image(2, 2, b"\t" * 244)], [b"\0" * 256], log, [], 4, 4)
+
+
+def main():
+    makers = {"demo": demo, "k6": k6}
+    if len(sys.argv) != 3 or sys.argv[1] not in makers:
+        sys.exit(__doc__)
+    with open(sys.argv[2], "wb") as out:
+        out.write(makers[sys.argv[1]]())
+
+
+if __name__ == "__main__":
+    main()
