@@ -7,9 +7,8 @@ use native.Mathlib.Numerals.{add-one}
 use native.Mathlib.Omega.{arith}
 use lib.ListN.{length, take, drop, set, length-append, length-take, length-drop, drop-of-length-le}
 use lib.Seq.{set-split, take-append-add, take-append-seam}
-use Rattle.laws.proofs.Parts.{splice-append, part-splice}
-use Rattle.model.specs.Bytes.{bytesOf, part, splice}
-use Rattle.model.specs.Item.{frameImage}
+use Rattle.laws.proofs.Parts.{splice-append, splice-length}
+use Rattle.model.specs.Bytes.{part, splice}
 
 -- a byte stored
 pub set-splice : (xs : List ℕ) (i v : ℕ) → i < length xs → set xs i v ≡ splice xs i (v ∷ [])
@@ -25,6 +24,12 @@ next xs ys zs k p q e h =
     ∙ ap (λ (l : List ℕ). splice l k zs) p
     ∙ ap (λ (i : ℕ). splice (splice xs 0 ys) i zs) (sym l)
     ∙ splice-append xs 0 ys zs (rw l h)
+
+-- a byte behind those before it
+pub next-byte : (xs ys : List ℕ) (k v : ℕ) {x : List ℕ} → x ≡ splice xs 0 ys → length ys ≡ k → k < length xs → set x k v ≡ splice xs 0 (ys ++ (v ∷ []))
+next-byte xs ys k v {x} p e h =
+    let l : length x ≡ length xs = ap length p ∙ splice-length xs 0 ys (omega arith) in
+    next xs ys (v ∷ []) k p (set-splice x k v (omega arith)) e (omega arith)
 
 -- the first n bytes, written
 pub take-spliced : (xs ys : List ℕ) (n : ℕ) → length ys ≡ n → n ≤ length xs → take n (splice xs 0 ys) ≡ ys
@@ -44,19 +49,3 @@ cover-ends xs ys zs k n e h =
     ap (λ (l : List ℕ). l ++ (zs ++ drop (k + n + length zs) r)) front
     ∙ ap (λ (l : List ℕ). (ys ++ take n (drop k xs)) ++ (zs ++ l)) (drop-of-length-le r l)
     ∙ rw append-nil (append-assoc ys (take n (drop k xs)) zs)
-
--- ---- an image
-
-pub image-is : (x x₁ x₂ x₃ x₄ : List ℕ) (page lsn : ℕ) → length x ≡ 256
-    → x₁ ≡ splice x 0 (bytesOf 2 page)
-    → x₂ ≡ splice x₁ 2 (bytesOf 2 0)
-    → x₃ ≡ splice x₂ 4 (bytesOf 4 lsn)
-    → x₄ ≡ splice x₃ 252 (bytesOf 4 0)
-    → x₄ ≡ frameImage page lsn (part x 8 244)
-unfolding frameImage bytesOf
-image-is x x₁ x₂ x₃ x₄ page lsn l p₁ p₂ p₃ p₄ =
-    let q₂ = next x (bytesOf 2 page) (bytesOf 2 0) 2 p₁ p₂ refl (omega arith) in
-    let q₃ = next x (bytesOf 2 page ++ bytesOf 2 0) (bytesOf 4 lsn) 4 q₂ p₃ refl (omega arith) in
-    p₄
-    ∙ ap (λ (l : List ℕ). splice l 252 (bytesOf 4 0)) q₃
-    ∙ cover-ends x ((bytesOf 2 page ++ bytesOf 2 0) ++ bytesOf 4 lsn) (bytesOf 4 0) 8 244 refl (omega arith)

@@ -1,4 +1,5 @@
 pub mod Slides
 pub mod Changes
-pub mod Covers
 pub mod Records
+pub mod Covers
+pub mod Builds

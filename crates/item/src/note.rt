@@ -1,6 +1,8 @@
 // A note: its fields read, its layout judged, its bytes built.
 ghost use mathlib.Core.Path.{_≡_};
-ghost use Rattle.model.specs.Item.{noteOf, noteLayout};
+ghost use lib.ListN.{length};
+ghost use Rattle.model.specs.Item.{noteOf, noteLayout, noteBytes};
+use codec::checksum;
 use codec::field;
 use model::item::Note;
 
@@ -22,4 +24,17 @@ pub fn layout(n: Note) -> bool
     ensures { λ r. ⌜ r ≡ noteLayout n ⌝ }
 {
     ((n.kind == 1) & (n.slot == 0)) | (n.kind == 2)
+}
+
+// Builds a note, its checksum set.
+pub fn encode(dst: &mut [u8], n: Note)
+    requires { ⌜ length (now dst) ≡ 16 ⌝ }
+    ensures { λ _. ⌜ now (dst .exit) ≡ noteBytes n ⌝ }
+{
+    field::put32(dst, 0, n.number);
+    field::put16(dst, 4, n.page);
+    dst[6] = n.kind;
+    dst[7] = n.slot;
+    field::put32(dst, 8, n.lsn);
+    checksum::set(dst, 12);
 }

@@ -3,9 +3,12 @@ ghost use mathlib.Core.Path.{_≡_};
 ghost use mathlib.Core.Bool.{true};
 ghost use Prim.Native.Nat.{_+_, _-_, _≤_, _<_};
 ghost use lib.ListN.{length};
-ghost use Rattle.model.specs.Bytes.{part, allZero};
-ghost use Rattle.model.specs.Item.{recordOf, recordLayout, changeIn, recordFor};
+ghost use Rattle.item.specs.Record.{headOf};
+ghost use Rattle.model.specs.Bytes.{part, allZero, splice};
+ghost use Rattle.model.specs.Change.{fits};
+ghost use Rattle.model.specs.Item.{recordOf, recordLayout, changeIn, applyRecord, recordFor, padded, encodeChange};
 use crate::change;
+use codec::checksum;
 use codec::field;
 use codec::part;
 use model::change::Change;
@@ -68,6 +71,15 @@ fn held(e: LogRecord) -> Change
     Change::Slide { offset, length }
 }
 
+// Makes a record's change on a body.
+pub fn replay(r: &[u8], body: &mut [u8])
+    requires { ⌜ (length (now r) ≡ 64) × (recordLayout (now r) ≡ true) × (length (now body) ≡ 244) ⌝ }
+    ensures { λ _. ⌜ now (body .exit) ≡ applyRecord (now (r .entry)) (now (body .entry)) ⌝ }
+{
+    let c = held(read(r));
+    change::apply(c, &r[16..60], body);
+}
+
 // The record of a change.
 fn describe(lsn: u32, prev: u32, page: u32, c: Change) -> LogRecord
     requires { ⌜ page < 65536 ⌝ }
@@ -103,4 +115,41 @@ fn describe(lsn: u32, prev: u32, page: u32, c: Change) -> LogRecord
             fill: 0,
         },
     }
+}
+
+// Writes the fields before the payload.
+fn fields(dst: &mut [u8], e: LogRecord)
+    requires { ⌜ length (now dst) ≡ 64 ⌝ }
+    ensures { λ _. ⌜ now (dst .exit) ≡ splice (now (dst .entry)) 0 (headOf e) ⌝ }
+{
+    field::put32(dst, 0, e.lsn);
+    field::put32(dst, 4, e.prev);
+    field::put16(dst, 8, e.page);
+    dst[10] = e.kind;
+    dst[11] = e.length;
+    field::put16(dst, 12, e.offset);
+    dst[14] = e.fill;
+    dst[15] = 0;
+}
+
+// Writes the payload's first n bytes, and zeros behind them.
+fn pad(dst: &mut [u8], payload: [u8; 44], n: usize)
+    requires { ⌜ (length (now dst) ≡ 64) × (n ≤ 44) ⌝ }
+    ensures { λ _. ⌜ now (dst .exit) ≡ splice (now (dst .entry)) 16 (padded n payload) ⌝ }
+{
+    let from = 16 + n;
+    part::put(dst, 16, &payload[0..n]);
+    part::fill(&mut dst[from..60], 0);
+}
+
+// Builds the record of a change, its checksum set. What the payload holds past the change's length is not stored.
+pub fn encode(dst: &mut [u8], lsn: u32, prev: u32, page: u32, c: Change, payload: [u8; 44])
+    requires { ⌜ (length (now dst) ≡ 64) × (fits c ≡ true) × (page < 65536) ⌝ }
+    ensures { λ _. ⌜ now (dst .exit) ≡ encodeChange lsn prev page c payload ⌝ }
+{
+    let e = describe(lsn, prev, page, c);
+    let n = e.length as usize;
+    fields(dst, e);
+    pad(dst, payload, n);
+    checksum::set(dst, 60);
 }

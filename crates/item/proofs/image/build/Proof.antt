@@ -1,6 +1,6 @@
 use borrow.Author.Needs.{needs}
 use denote.Ref.{now}
-use Rattle.item.proofs.Covers.{image-is}
+use Rattle.item.proofs.Builds.{image-is}
 use Rattle.item.proofs.image.build.Statement.{statement}
 use Rattle.item.proofs.image.build.Tie as tie
 use Rattle.item.proofs.image.build.Reads as reads

@@ -1,0 +1,65 @@
+use borrow.Author.Needs.{needs}
+use native.Mathlib.Omega.{arith}
+use denote.Ref.{now}
+use mathlib.Core.Path.{_≡_}
+use lib.ListN.{length}
+use Rattle.item.proofs.Builds.{length-few, encode-is}
+use Rattle.item.proofs.record.encode.Statement.{statement}
+use Rattle.item.proofs.record.encode.Tie as tie
+use Rattle.item.proofs.record.encode.Reads as reads
+use Rattle.item.proofs.record.encode.Lts as lts
+use Rattle.codec.proofs.checksum.set.Reads as set-reads
+use Rattle.item.proofs.record.describe.Reads as describe-reads
+use Rattle.item.proofs.record.fields.Reads as fields-reads
+use Rattle.item.proofs.record.pad.Reads as pad-reads
+
+-- src/record.rt:150:9
+describe-requires : tie.Need-describe-requires
+describe-requires c κs = search needs
+
+-- src/record.rt:151:13
+cast-n : tie.Need-cast-n
+cast-n c = search needs
+
+-- src/record.rt:152:5
+fields-requires : tie.Need-fields-requires
+fields-requires c κs = search needs
+
+-- src/record.rt:153:5
+pad-requires : tie.Need-pad-requires
+pad-requires c κs =
+    let f = c .before .before .before in
+    let d = f .before .before .before in
+    let s = d .before .before in
+    (omega (arith, s .pre .0, f .fields .kept), length-few _ _ _ (s .args .c) _ (d .describe .ensures) (s .pre .1))
+
+-- src/record.rt:154:5
+set-requires : tie.Need-set-requires
+set-requires c κs = search needs
+
+-- src/record.rt:146:1
+same-length : tie.Need-same-length
+same-length c = search needs
+
+-- src/record.rt:146:1
+returns : tie.Need-returns
+returns c =
+    let w = c .before .before in
+    let p = w .before .before .before .before in
+    let f = p .before .before .before .before in
+    let d = f .before .before .before in
+    let s = d .before .before in
+    let l : length (s .args .payload) ≡ 44 = s .good .1 .1 .1 .1 .1 .0 .1 .0 .1 in
+    encode-is _ _ _ (s .args .c) _ (d .describe .ensures) (s .pre .1) (now (s .args .dst)) _ _ _ (s .args .payload) (s .pre .0) l (f .fields .ensures) (p .pad .ensures) (w .set .ensures)
+
+pub encode-spec : {M : Type 1} → statement M
+encode-spec =
+    tie.close
+    (tie.spec
+    describe-requires
+    cast-n
+    fields-requires
+    pad-requires
+    set-requires
+    same-length
+    returns)
