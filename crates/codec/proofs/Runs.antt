@@ -1,6 +1,6 @@
 -- Laws of loops: what is left of a list of bytes, or of a run of items, gives the whole.
-use mathlib.Core.Path.{_≡_, refl, sym}
-use mathlib.Core.Bool.{Bool, true, false}
+use mathlib.Core.Path.{_≡_, sym}
+use mathlib.Core.Bool.{true, false}
 use mathlib.Core.List.{List}
 use Prim.Native.Nat.{ℕ, suc, _+_, _*_, _-_, _≤_, _<_}
 use native.Mathlib.Nat.{mul-add, mul-one}
@@ -8,10 +8,10 @@ use native.Mathlib.Numerals.{add-one}
 use native.Mathlib.Omega.{arith}
 use borrow.Author.Tests.{eq-eqb, ne-eqb}
 use lib.Dec.{eqb}
-use lib.ListN.{length, take, drop, getD, drop-of-length-le}
+use lib.ListN.{length, drop, getD, drop-of-length-le}
 use lib.Seq.{drop-cons, take-all}
 use Rattle.laws.proofs.Checksums.{run-goes}
-use Rattle.model.specs.Bytes.{field, part, allZero, startsWith}
+use Rattle.model.specs.Bytes.{part, allZero, startsWith}
 use Rattle.model.specs.Checksum.{checksum, sealed, sealedRun}
 use Rattle.codec.proofs.Stores.{field-past}
 

@@ -1,8 +1,8 @@
 -- Laws of Make: headings written over zeros are the empty volume, and what is answered.
 use mathlib.Core.Path.{_≡_, refl, sym, ap, _∙_}
 use mathlib.Core.Bool.{Bool, true, false, _&&_, not}
-use mathlib.Core.List.{List, [], _∷_, _++_, append-nil}
-use Prim.Native.Nat.{ℕ, _+_, _-_, _*_, _≤_}
+use mathlib.Core.List.{List, [], _++_, append-nil}
+use Prim.Native.Nat.{ℕ, _+_, _-_, _*_}
 use native.Mathlib.Omega.{arith}
 use borrow.Author.Tests.{eqb-true, not-true, not-false}
 use lib.Dec.{eqb}
@@ -15,7 +15,6 @@ use Rattle.model.specs.Bytes.{bytesOf, splice}
 use Rattle.model.specs.Geometry.{magic, slotCountAt, recordCountAt, noteCountAt, lengthFor, validCounts, emptyVolume}
 use Rattle.model.specs.Refusals.{makeRows}
 use Rattle.model.specs.Calls.{makeOf}
-use Rattle.model.specs.declared.answer.Answer.{Answer}
 use Rattle.model.specs.declared.answer.Answer.the-variants.{Refused, Done}
 
 -- bytes written over k zeros and then m zeros: the bytes stand between them

@@ -2,7 +2,7 @@
 ghost use mathlib.Core.Path.{_≡_};
 ghost use Prim.Native.Nat.{_+_, _*_};
 ghost use lib.ListN.{length};
-ghost use Rattle.model.specs.Geometry.{magic, lengthFor, geometryOf, validCounts, validVolume};
+ghost use Rattle.model.specs.Geometry.{lengthFor, geometryOf, validCounts, validVolume};
 use codec::field;
 use codec::part;
 use model::geometry::Geometry;

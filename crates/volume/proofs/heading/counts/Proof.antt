@@ -1,3 +1,4 @@
+-- `volume::heading::counts` meets its contract.
 use mathlib.Core.Path.{refl}
 use Rattle.model.specs.Geometry.{validCounts}
 use Rattle.volume.proofs.heading.counts.Statement.{statement}
@@ -5,7 +6,6 @@ use Rattle.volume.proofs.heading.counts.Tie as tie
 use Rattle.volume.proofs.heading.counts.Reads as reads
 use Rattle.volume.proofs.heading.counts.Lts as lts
 
--- src/heading.rt:35:1
 returns : tie.Need-returns
 unfolding validCounts
 returns c = refl

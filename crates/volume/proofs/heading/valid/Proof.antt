@@ -1,5 +1,6 @@
+-- `volume::heading::valid` meets its contract.
 use borrow.Author.Needs.{needs}
-use mathlib.Core.Path.{_≡_, sym, _∙_}
+use mathlib.Core.Path.{sym, _∙_}
 use borrow.Author.Tests.{not-true, not-false}
 use Rattle.volume.proofs.Readings.{valid-not, valid-read}
 use Rattle.volume.proofs.heading.valid.Statement.{statement}
@@ -11,31 +12,24 @@ use Rattle.volume.proofs.heading.counts.Reads as counts-reads
 use Rattle.volume.proofs.heading.geometry.Reads as geometry-reads
 use Rattle.volume.proofs.heading.size.Reads as size-reads
 
--- src/heading.rt:52:25
 slice-aggregate-starts : tie.Need-slice-aggregate-starts
 slice-aggregate-starts c = search needs
 
--- src/heading.rt:52:9
 starts-requires : tie.Need-starts-requires
 starts-requires c κs = search needs
 
--- src/heading.rt:53:9
 returns : tie.Need-returns
 returns c = valid-not _ (sym (c .before .starts .ensures) ∙ not-true _ (c .if1 .taken))
 
--- src/heading.rt:55:9
 geometry-requires : tie.Need-geometry-requires
 geometry-requires c κs = search needs
 
--- src/heading.rt:56:9
 size-requires : tie.Need-size-requires
 size-requires c κs = search needs
 
--- src/heading.rt:57:5
 counts-requires : tie.Need-counts-requires
 counts-requires c κs = search needs
 
--- src/heading.rt:49:1
 returns-2 : tie.Need-returns-2
 returns-2 c =
     valid-read _ _ _ (c .before .before .geometry .result)

@@ -1,3 +1,4 @@
+-- `volume::make::make` meets its contract.
 use borrow.Author.Needs.{needs}
 use mathlib.Core.Path.{_∙_}
 use denote.Ref.{now}
@@ -10,27 +11,21 @@ use Rattle.volume.proofs.heading.counts.Reads as counts-reads
 use Rattle.volume.proofs.heading.size.Reads as size-reads
 use Rattle.volume.proofs.make.write.Reads as write-reads
 
--- src/make.rt:32:16
 counts-requires : tie.Need-counts-requires
 counts-requires c κs = search needs
 
--- src/make.rt:32:58
 size-requires : tie.Need-size-requires
 size-requires c κs = search needs
 
--- src/make.rt:34:9
 returns : tie.Need-returns
 returns c = make-refused _ _ _ _ _ _ _ (c .before .before .counts .ensures) (c .before .size .ensures) (c .if1 .taken)
 
--- src/make.rt:36:5
 write-requires : tie.Need-write-requires
 write-requires c κs = make-fits (now (c .before .before .before .before .before .args .v)) _ _ _ _ _ _ (c .before .before .before .counts .ensures) (c .before .before .size .ensures) (c .before .if1 .left)
 
--- src/make.rt:29:1
 same-length : tie.Need-same-length
 same-length c = search needs
 
--- src/make.rt:29:1
 returns-2 : tie.Need-returns-2
 returns-2 c =
     let d = make-done _ _ _ _ _ _ _ (c .before .before .before .before .before .before .counts .ensures) (c .before .before .before .before .before .size .ensures) (c .before .before .before .before .if1 .left) in

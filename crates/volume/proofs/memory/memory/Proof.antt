@@ -1,5 +1,5 @@
+-- `volume::memory::memory` meets its contract.
 use borrow.Author.Needs.{needs}
-use mathlib.Core.Path.{_≡_, refl}
 use Rattle.model.specs.State.{validMemory}
 use Rattle.volume.proofs.memory.memory.Statement.{statement}
 use Rattle.volume.proofs.memory.memory.Tie as tie
@@ -7,19 +7,15 @@ use Rattle.volume.proofs.memory.memory.Reads as reads
 use Rattle.volume.proofs.memory.memory.Lts as lts
 use Rattle.volume.proofs.memory.frames.Reads as frames-reads
 
--- src/memory.rt:16:9
 frames-requires : tie.Need-frames-requires
 frames-requires c κs = search needs
 
--- src/memory.rt:17:54
 mul-result : tie.Need-mul-result
 mul-result c = search needs
 
--- src/memory.rt:17:47
 add-result : tie.Need-add-result
 add-result c = search needs
 
--- src/memory.rt:13:1
 returns : tie.Need-returns
 unfolding validMemory
 returns c = rw (c .frames .ensures)

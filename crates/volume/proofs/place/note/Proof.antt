@@ -1,5 +1,5 @@
+-- `volume::place::note` meets its contract.
 use borrow.Author.Needs.{needs}
-use mathlib.Core.Path.{_≡_, ap, _∙_}
 use Rattle.model.specs.Geometry.{item}
 use Rattle.volume.proofs.place.note.Statement.{statement}
 use Rattle.volume.proofs.place.note.Tie as tie
@@ -8,15 +8,12 @@ use Rattle.volume.proofs.place.note.Lts as lts
 use Rattle.volume.proofs.place.noteat.Reads as noteat-reads
 use Rattle.volume.proofs.place.part.Reads as part-reads
 
--- src/place.rt:85:13
 noteat-requires : tie.Need-noteat-requires
 noteat-requires c κs = search needs
 
--- src/place.rt:85:5
 part-requires : tie.Need-part-requires
 part-requires c κs = search needs
 
--- src/place.rt:81:1
 returns : tie.Need-returns
 unfolding item
 returns c = rw (c .part .ensures, c .before .noteat .ensures)

@@ -1,5 +1,5 @@
+-- `volume::place::page` meets its contract.
 use borrow.Author.Needs.{needs}
-use mathlib.Core.Path.{_≡_, ap, _∙_}
 use Rattle.model.specs.Geometry.{item}
 use Rattle.volume.proofs.place.page.Statement.{statement}
 use Rattle.volume.proofs.place.page.Tie as tie
@@ -8,15 +8,12 @@ use Rattle.volume.proofs.place.page.Lts as lts
 use Rattle.volume.proofs.place.pageat.Reads as pageat-reads
 use Rattle.volume.proofs.place.part.Reads as part-reads
 
--- src/place.rt:61:13
 pageat-requires : tie.Need-pageat-requires
 pageat-requires c κs = search needs
 
--- src/place.rt:61:5
 part-requires : tie.Need-part-requires
 part-requires c κs = search needs
 
--- src/place.rt:57:1
 returns : tie.Need-returns
 unfolding item
 returns c = rw (c .part .ensures, c .before .pageat .ensures)

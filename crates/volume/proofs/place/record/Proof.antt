@@ -1,5 +1,5 @@
+-- `volume::place::record` meets its contract.
 use borrow.Author.Needs.{needs}
-use mathlib.Core.Path.{_≡_, ap, _∙_}
 use Rattle.model.specs.Geometry.{item}
 use Rattle.volume.proofs.place.record.Statement.{statement}
 use Rattle.volume.proofs.place.record.Tie as tie
@@ -8,15 +8,12 @@ use Rattle.volume.proofs.place.record.Lts as lts
 use Rattle.volume.proofs.place.part.Reads as part-reads
 use Rattle.volume.proofs.place.recordat.Reads as recordat-reads
 
--- src/place.rt:77:13
 recordat-requires : tie.Need-recordat-requires
 recordat-requires c κs = search needs
 
--- src/place.rt:77:5
 part-requires : tie.Need-part-requires
 part-requires c κs = search needs
 
--- src/place.rt:73:1
 returns : tie.Need-returns
 unfolding item
 returns c = rw (c .part .ensures, c .before .recordat .ensures)

@@ -1,5 +1,5 @@
+-- `volume::place::slot` meets its contract.
 use borrow.Author.Needs.{needs}
-use mathlib.Core.Path.{_≡_, ap, _∙_}
 use Rattle.model.specs.Geometry.{item}
 use Rattle.volume.proofs.place.slot.Statement.{statement}
 use Rattle.volume.proofs.place.slot.Tie as tie
@@ -8,15 +8,12 @@ use Rattle.volume.proofs.place.slot.Lts as lts
 use Rattle.volume.proofs.place.part.Reads as part-reads
 use Rattle.volume.proofs.place.slotat.Reads as slotat-reads
 
--- src/place.rt:69:13
 slotat-requires : tie.Need-slotat-requires
 slotat-requires c κs = search needs
 
--- src/place.rt:69:5
 part-requires : tie.Need-part-requires
 part-requires c κs = search needs
 
--- src/place.rt:65:1
 returns : tie.Need-returns
 unfolding item
 returns c = rw (c .part .ensures, c .before .slotat .ensures)
