@@ -1,3 +1,4 @@
 -- Laws that belong to no one function.
 pub mod Links
 pub mod Walks
+pub mod Starts

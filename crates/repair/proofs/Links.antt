@@ -7,7 +7,7 @@ use mathlib.Core.List.{List, [], _∷_, _++_}
 use native.Mathlib.Omega.{arith}
 use lib.Dec.{eqb, ltb, leb}
 use lib.ListN.{length, getD}
-use borrow.Author.Tests.{eqb-true, ne-eqb, ltb-true, leb-true}
+use borrow.Author.Tests.{eqb-true, eq-eqb, ne-eqb, ltb-true, leb-true}
 use Rattle.laws.proofs.Tests.{all-at, byCases, true-not-false}
 use Rattle.model.specs.Tests.{all}
 use Rattle.model.specs.Checksum.{sealed}
@@ -80,6 +80,33 @@ module _ (log : ℕ → List ℕ) (p own backup : ℕ) where
   pub step-zero : stepOf log p own backup 0 ≡ Halt Broken
   unfolding stepOf
   step-zero = refl
+
+  pub step-none : (n : ℕ) → n ≡ 0 → Halt Broken ≡ stepOf log p own backup n
+  unfolding stepOf
+  step-none n e = rw (eq-eqb n 0 e)
+
+  module _ (n : ℕ) (some : n ≡ 0 → ⊥) where
+    pub step-own : own ≡ n → Halt Own ≡ stepOf log p own backup n
+    unfolding stepOf
+    step-own e = rw (ne-eqb n 0 some, eq-eqb own n e)
+
+    module _ (not-own : own ≡ n → ⊥) where
+      pub step-copy : backup ≡ n → Halt Backup ≡ stepOf log p own backup n
+      unfolding stepOf
+      step-copy e = rw (ne-eqb n 0 some, ne-eqb own n not-own, eq-eqb backup n e)
+
+      module _ (not-backup : backup ≡ n → ⊥) (r : List ℕ) (r-is : r ≡ log n) (b : Bool) (b-is : b ≡ chainRecord p n r) where
+        pub step-broken : b ≡ false → Halt Broken ≡ stepOf log p own backup n
+        unfolding stepOf
+        step-broken t =
+            let z : chainRecord p n r ≡ false = sym b-is ∙ t in
+            rw (ne-eqb n 0 some, ne-eqb own n not-own, ne-eqb backup n not-backup, ← r-is, z)
+
+        pub step-read : (e : LogRecord) → e ≡ recordOf r → b ≡ true → Read (e .prev) (eqb (e .kind) 1) ≡ stepOf log p own backup n
+        unfolding stepOf
+        step-read e e-is t =
+            let z : chainRecord p n r ≡ true = sym b-is ∙ t in
+            rw (ne-eqb n 0 some, ne-eqb own n not-own, ne-eqb backup n not-backup, ← r-is, z, ← e-is)
 
   pub step-falls : (n prev : ℕ) (format : Bool) → stepOf log p own backup n ≡ Read prev format → prev < n
   step-falls n prev format h =

@@ -89,8 +89,9 @@ module _ (log : ℕ → List ℕ) (p own backup from : ℕ) where
     down-room prev format e = omega (arith, d .room, d .few, step-falls log p own backup n prev format e)
 
     -- a record that is read, and the walk goes on
-    pub down-on : (prev : ℕ) → stepOf log p own backup n ≡ Read prev false → Down (set lsns count n) prev (count + 1)
-    down-on prev e =
+    pub down-on : (prev : ℕ) (format : Bool) → stepOf log p own backup n ≡ Read prev format → format ≡ false → Down (set lsns count n) prev (count + 1)
+    down-on prev format q t =
+        let e : stepOf log p own backup n ≡ Read prev false = q ∙ ap (Read prev) t in
         let f : prev < n = step-falls log p own backup n prev false e in
         let b : 1 ≤ prev = step-back log p own backup n prev e in
         let r : count < 1024 = down-room prev false e in
@@ -107,9 +108,10 @@ module _ (log : ℕ → List ℕ) (p own backup from : ℕ) where
         }
 
     -- a format: the walk's end
-    pub down-format : (prev : ℕ) → stepOf log p own backup n ≡ Read prev true
+    pub down-format : (prev : ℕ) (format : Bool) → stepOf log p own backup n ≡ Read prev format → format ≡ true
         → _≡_ {A = Chain} (record { stop = Format; count = count + 1; lsns = set lsns count n }) (held (walkFrom from log p own backup from))
-    down-format prev e =
+    down-format prev format q t =
+        let e : stepOf log p own backup n ≡ Read prev true = q ∙ ap (Read prev) t in
         let f : prev < n = step-falls log p own backup n prev true e in
         let r : count < 1024 = down-room prev true e in
         hold (set lsns count n) (count + 1) Format (walkFrom from log p own backup from) (simp length-set (omega (arith, d .size)))

@@ -1,10 +1,19 @@
 // A page's repair: the class of its own image, the chain walk, the rebuilt image and the answer.
 ghost use mathlib.Core.Path.{_≡_};
-ghost use Prim.Native.Nat.{_+_, _*_, _-_, _≤_, _<_};
+ghost use mathlib.Core.Bool.{true};
+ghost use Prim.Native.Nat.{_+_, _≤_};
 ghost use lib.ListN.{length};
-ghost use Rattle.model.specs.Repair.{classOf};
+ghost use Rattle.model.specs.Geometry.{geometryOf, validVolume, recordAt, item};
+ghost use Rattle.model.specs.Repair.{classOf, viewOf, ownStart, backupStart, chainRecord};
+ghost use Rattle.repair.specs.Chain.{Ready, chainOf, stepOf};
+use codec::checksum;
+use item::image;
+use item::record;
 use model::answer::Class;
 use model::answer::Stop;
+use model::geometry::Geometry;
+use model::state::Entry;
+use volume::place;
 
 // What the walk finds at a number: it halts there, or it reads the record, which names the one before it.
 pub enum Step {
@@ -37,4 +46,94 @@ pub fn class(valid: bool, n: u32, durable: u32, written: u32) -> Class
         return Class::Behind;
     }
     Class::Failed
+}
+
+// The number at which the walk may stop at the page's own image; 0 is none.
+fn own_number(v: &[u8], g: Geometry, e: Entry, page: u32) -> u32
+    requires { ⌜ Ready (now v) g e page ⌝ }
+    ensures { λ r. ⌜ r ≡ ownStart g page (viewOf g (now (v .entry)) e page) ⌝ }
+{
+    let x = place::page(v, g, page);
+    if image::valid(g, page, x) {
+        image::lsn(x)
+    } else {
+        0
+    }
+}
+
+// The number at which the walk may stop at the noted backup; 0 is none, and slot 0 is no backup.
+fn backup_number(v: &[u8], g: Geometry, e: Entry, page: u32) -> u32
+    requires { ⌜ Ready (now v) g e page ⌝ }
+    ensures { λ r. ⌜ r ≡ backupStart g page (viewOf g (now (v .entry)) e page) ⌝ }
+{
+    let slot = e.slot as u32;
+    if slot == 0 {
+        return 0;
+    }
+    let x = place::slot(v, g, slot);
+    let noted = image::valid(g, page, x) & (image::lsn(x) == e.backup);
+    if noted { e.backup } else { 0 }
+}
+
+// The walk for the page may read this record at number n.
+fn readable(page: u32, n: u32, r: &[u8]) -> bool
+    requires { ⌜ 60 ≤ length (now r) ⌝ }
+    ensures { λ b. ⌜ b ≡ chainRecord page n (now (r .entry)) ⌝ }
+{
+    let e = record::read(r);
+    let owner = e.page as u32;
+    let linked = (e.prev < n) & ((e.kind == 1) | (1 <= e.prev));
+    checksum::holds(r, 60) & ((e.lsn == n) & ((owner == page) & (record::layout(r) & linked)))
+}
+
+// The walk's step at number n: own image, else the backup, else the record.
+fn look(v: &[u8], g: Geometry, page: u32, own: u32, backup: u32, n: u32) -> Step
+    requires { ⌜ (validVolume (now v) ≡ true) × (g ≡ geometryOf (now v)) × (n ≤ g .records) ⌝ }
+    ensures { λ r. ⌜ r ≡ stepOf (λ k. item g (now (v .entry)) (recordAt k)) page own backup n ⌝ }
+{
+    if n == 0 {
+        return Step::Halt(Stop::Broken);
+    }
+    if own == n {
+        return Step::Halt(Stop::Own);
+    }
+    if backup == n {
+        return Step::Halt(Stop::Backup);
+    }
+    let r = place::record(v, g, n);
+    if !readable(page, n, r) {
+        return Step::Halt(Stop::Broken);
+    }
+    let e = record::read(r);
+    Step::Read {
+        prev: e.prev,
+        format: e.kind == 1,
+    }
+}
+
+// The chain walk, from the newest durable number down.
+pub fn walk(v: &[u8], g: Geometry, e: Entry, page: u32) -> Chain
+    requires { ⌜ Ready (now v) g e page ⌝ }
+    ensures { λ r. ⌜ r ≡ chainOf g page (viewOf g (now (v .entry)) e page) ⌝ }
+{
+    let own = own_number(v, g, e, page);
+    let backup = backup_number(v, g, e, page);
+    let mut n = e.durable;
+    let mut count: u32 = 0;
+    let mut lsns = [0u32; 1024];
+    let stop = loop {
+        match look(v, g, page, own, backup, n) {
+            Step::Halt(s) => break s,
+            Step::Read { prev, format } => {
+                let i = count as usize;
+                lsns[i] = n;
+                count += 1;
+                if format {
+                    break Stop::Format;
+                }
+                n = prev;
+            }
+        }
+    };
+    Chain { stop, count, lsns }
 }

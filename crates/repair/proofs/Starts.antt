@@ -1,0 +1,96 @@
+-- What a page's repair may read of its volume, and the numbers at which a walk may stop at the own image and at the backup.
+use Prim.Native.Nat.{ℕ, zero, suc, _+_, _-_, _≤_, _<_}
+use mathlib.Core.Path.{_≡_, refl, sym, ap, _∙_, subst}
+use mathlib.Core.Bool.{Bool, true, false, cond, _&&_}
+use mathlib.Core.List.{List, [], _∷_, _++_}
+use native.Mathlib.Omega.{arith}
+use lib.Dec.{eqb}
+use lib.ListN.{length}
+use borrow.Author.Tests.{eq-eqb, ne-eqb}
+use Rattle.laws.proofs.Tests.{byCases}
+use Rattle.laws.proofs.Places.{total, valid-facts, place-fits, item-length}
+use Rattle.model.specs.Geometry.{geometryOf, validVolume, Place, pageAt, slotAt, recordAt, width, start, item}
+use Rattle.model.specs.Item.{imageLsn, validImage}
+use Rattle.model.specs.Repair.{View, viewOf, ownStart, backupStart}
+use Rattle.model.specs.declared.geometry.Geometry.{Geometry}
+use Rattle.model.specs.declared.state.Entry.{Entry}
+use Rattle.repair.specs.Chain.{Ready}
+
+pub positive : (n : ℕ) → (n ≡ 0 → ⊥) → 1 ≤ n
+positive zero f = absurd (f refl)
+positive (suc n) f = omega arith
+
+-- ---- places
+
+pub record Sized (g : Geometry) (v : List ℕ) : Type 0 where
+  pub size : length v ≡ total g
+  pub pages : g .pages ≤ 64
+  pub records : g .records ≤ 1024
+
+pub sized : (v : List ℕ) (g : Geometry) → validVolume v ≡ true → g ≡ geometryOf v → Sized g v
+sized v g ok e =
+    let f = valid-facts v ok in
+    subst (λ (k : Geometry). Sized k v) (sym e) (record { size = f .size; pages = f .p-high; records = f .l-high })
+
+module _ (v : List ℕ) (g : Geometry) (ok : validVolume v ≡ true) (e : g ≡ geometryOf v) (n : ℕ) (low : 1 ≤ n) (high : n ≤ g .records) where
+  pub record-fits : start g (recordAt n) + 64 ≤ length v
+  record-fits = place-fits g v (sized v g ok e .size) (recordAt n) (low, high)
+
+  pub record-length : length (item g v (recordAt n)) ≡ 64
+  record-length = item-length g v (sized v g ok e .size) (recordAt n) (low, high)
+
+module _ (v : List ℕ) (g : Geometry) (e : Entry) (p : ℕ) (h : Ready v g e p) where
+  pub ready-sized : Sized g v
+  ready-sized = sized v g (h .valid) (h .geometry)
+
+  pub page-fits : start g (pageAt p) + 256 ≤ length v
+  page-fits = place-fits g v (ready-sized .size) (pageAt p) (h .low, h .high)
+
+  pub page-length : length (item g v (pageAt p)) ≡ 256
+  page-length = item-length g v (ready-sized .size) (pageAt p) (h .low, h .high)
+
+  module _ (some : e .slot ≡ 0 → ⊥) where
+    pub slot-fits : start g (slotAt (e .slot)) + 256 ≤ length v
+    slot-fits = place-fits g v (ready-sized .size) (slotAt (e .slot)) (positive (e .slot) some, h .slot)
+
+    pub slot-length : length (item g v (slotAt (e .slot))) ≡ 256
+    slot-length = item-length g v (ready-sized .size) (slotAt (e .slot)) (positive (e .slot) some, h .slot)
+
+-- ---- the own image's number
+
+module _ (v : List ℕ) (g : Geometry) (e : Entry) (p : ℕ) (x : List ℕ) (x-is : x ≡ item g v (pageAt p)) (b : Bool) (b-is : b ≡ validImage g p x) where
+  pub own-valid : (n : ℕ) → n ≡ imageLsn x → b ≡ true → n ≡ ownStart g p (viewOf g v e p)
+  own-valid n q t = let z : validImage g p x ≡ true = sym b-is ∙ t in rw (← x-is, z) q
+
+  pub own-none : b ≡ false → 0 ≡ ownStart g p (viewOf g v e p)
+  own-none t = let z : validImage g p x ≡ false = sym b-is ∙ t in rw (← x-is, z)
+
+-- ---- the backup's number
+
+-- the backup that counts, where the slot is 0 and where it is not
+pub slot-none : (v : List ℕ) (g : Geometry) (e : Entry) (p : ℕ) → e .slot ≡ 0 → 0 ≡ backupStart g p (viewOf g v e p)
+slot-none v g e p z =
+    let b : eqb (e .slot) 0 ≡ true = eq-eqb (e .slot) 0 z in
+    rw b (same (validImage g p (item g v (slotAt (e .slot))) && eqb (imageLsn (item g v (slotAt (e .slot)))) 0))
+  where
+    same : (t : Bool) → _≡_ {A = ℕ} 0 (cond t 0 0)
+    same true = refl
+    same false = refl
+
+module _ (v : List ℕ) (g : Geometry) (e : Entry) (p : ℕ) (some : e .slot ≡ 0 → ⊥) (x : List ℕ) (x-is : x ≡ item g v (slotAt (e .slot)))
+    (b : Bool) (b-is : b ≡ validImage g p x) (n : ℕ) (n-is : n ≡ imageLsn x) where
+  noted : (t : Bool) → (b && eqb n (e .backup)) ≡ t → cond t (e .backup) 0 ≡ backupStart g p (viewOf g v e p)
+  noted t q =
+      let f : eqb (e .slot) 0 ≡ false = ne-eqb (e .slot) 0 some in
+      let z : (validImage g p x && eqb (imageLsn x) (e .backup)) ≡ t = rw (← b-is, ← n-is) q in
+      rw (f, ← x-is, z)
+
+  pub backup-valid : (b && eqb n (e .backup)) ≡ true → e .backup ≡ backupStart g p (viewOf g v e p)
+  backup-valid q = noted true q
+
+  pub backup-none : (b && eqb n (e .backup)) ≡ false → 0 ≡ backupStart g p (viewOf g v e p)
+  backup-none q = noted false q
+
+-- where a walk can stop at the backup, its slot is not 0
+pub backup-some : (v : List ℕ) (g : Geometry) (e : Entry) (p : ℕ) → 1 ≤ backupStart g p (viewOf g v e p) → e .slot ≡ 0 → ⊥
+backup-some v g e p h z = let q = slot-none v g e p z in omega arith

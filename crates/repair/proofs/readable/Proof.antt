@@ -1,0 +1,35 @@
+use borrow.Author.Needs.{needs}
+use Rattle.model.specs.Repair.{chainRecord}
+use Rattle.repair.proofs.readable.Statement.{statement}
+use Rattle.repair.proofs.readable.Tie as tie
+use Rattle.repair.proofs.readable.Reads as reads
+use Rattle.repair.proofs.readable.Lts as lts
+use Rattle.codec.proofs.checksum.holds.Reads as holds-reads
+use Rattle.item.proofs.record.layout.Reads as layout-reads
+use Rattle.item.proofs.record.read.Reads as read-reads
+
+-- src/lib.rt:79:9
+read-requires : tie.Need-read-requires
+read-requires c κs = search needs
+
+-- src/lib.rt:80:17
+cast-owner : tie.Need-cast-owner
+cast-owner c = search needs
+
+-- src/lib.rt:82:5
+holds-requires : tie.Need-holds-requires
+holds-requires c κs = search needs
+
+-- src/lib.rt:82:66
+layout-requires : tie.Need-layout-requires
+layout-requires c κs = search needs
+
+-- src/lib.rt:75:1
+returns : tie.Need-returns
+unfolding chainRecord
+returns c =
+    rw (c .layout .ensures, c .before .before .holds .ensures, c .before .before .before .before .before .before .before .read .ensures)
+
+pub readable-spec : {M : Type 1} → statement M
+readable-spec =
+    tie.close (tie.spec read-requires cast-owner holds-requires layout-requires returns)
