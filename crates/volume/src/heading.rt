@@ -1,7 +1,5 @@
 // What a volume's heading says, and whether heading, counts and length are right. Reads of any bytes are safe.
 ghost use mathlib.Core.Path.{_≡_};
-ghost use Prim.Native.Nat.{_+_, _*_};
-ghost use lib.ListN.{length};
 ghost use Rattle.model.specs.Geometry.{lengthFor, geometryOf, validCounts, validVolume};
 use codec::field;
 use codec::part;

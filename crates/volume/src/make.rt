@@ -1,6 +1,5 @@
 // Make: a volume of headings and zeros.
 ghost use mathlib.Core.Path.{_≡_};
-ghost use Prim.Native.Nat.{_+_, _*_};
 ghost use lib.ListN.{length};
 ghost use Rattle.model.specs.Geometry.{lengthFor, emptyVolume};
 ghost use Rattle.model.specs.Calls.{makeOf};
