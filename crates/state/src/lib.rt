@@ -2,6 +2,8 @@
 pub mod entries;
 pub mod frames;
 pub mod next;
+pub mod rows;
+pub mod wellformed;
 
 ghost use mathlib.Core.Path.{_≡_};
 ghost use Prim.Native.Nat.{_-_};

@@ -1,0 +1,66 @@
+-- The tests of a state as the code makes them: what its callees give comes to the model's clauses.
+use Prim.Native.Nat.{ℕ, suc, _+_, _≤_, _<_}
+use mathlib.Core.Path.{_≡_, refl, ap, sym, _∙_}
+use mathlib.Core.List.{List, [], _∷_}
+use mathlib.Core.Bool.{Bool, true, false, _&&_, _||_, not, cond}
+use lib.Dec.{eqb, leb, ltb}
+use lib.ListN.{length}
+use native.Mathlib.Numerals.{add-one}
+use borrow.Author.Tests.{lt-ltb, le-ltb}
+use Rattle.laws.proofs.Tests.{when-true, when-false}
+use Rattle.model.specs.Tests.{all, every, firstOf}
+use Rattle.model.specs.Geometry.{geometryOf, validVolume}
+use Rattle.model.specs.Index.{entryRow}
+use Rattle.model.specs.State.{frameCount, validMemory, frameRow, lastNumber, held, blank, pendingNoteFits, firstHolder, frameFits, entryFits, entryZero, pageFits, wellFormed}
+use Rattle.model.specs.Refusals.{stateRows}
+use Rattle.model.specs.declared.geometry.Geometry.{Geometry}
+use Rattle.model.specs.declared.state.Entry.{Entry}
+use Rattle.model.specs.declared.state.State.{State}
+
+module _ (g : Geometry) (s : State) where
+  pub frame-is : (count i page : ℕ) (only none : Bool) → page ≡ frameRow s i .page → only ≡ firstHolder s i → none ≡ blank s page
+      → all
+      (leb page (g .pages) ∷ (eqb page 0 || only) ∷ (eqb page 0 || not none) ∷ (not (eqb page 0) || not (frameRow s i .dirty))
+      ∷ (ltb i count || eqb page 0) ∷ [])
+      ≡ frameFits g count s i
+  unfolding frameFits
+  frame-is count i page only none ep eo en = rw (en, eo, ep)
+
+  pub entry-is : (p : ℕ) (e : Entry) (in-frame : Bool) → in-frame ≡ held s p
+      → all
+      (leb (e .last) (lastNumber s) ∷ leb (e .durable) (e .last) ∷ leb (e .durable) (s .durable) ∷ leb (e .written) (e .durable)
+      ∷ leb (e .backup) (e .durable) ∷ leb (e .slot) (g .slots) ∷ (in-frame || eqb (e .last) (e .durable)) ∷ [])
+      ≡ entryFits g s p e
+  unfolding entryFits
+  entry-is p e h eh = rw eh
+
+  pub page-in : (i : ℕ) (r : Bool) → i < g .pages → r ≡ entryFits g s (i + 1) (entryRow (s .index) i) → r ≡ pageFits g s i
+  unfolding pageFits
+  page-in i r l e = e ∙ rw add-one (sym (when-true _ _ (lt-ltb _ _ l)))
+
+  pub page-out : (i : ℕ) (r : Bool) → g .pages ≤ i → r ≡ entryZero (entryRow (s .index) i) → r ≡ pageFits g s i
+  unfolding pageFits
+  page-out i r l e = e ∙ sym (when-false _ _ (le-ltb _ _ l))
+
+  pub formed-is : (count : ℕ) (pending table index : Bool) → pending ≡ pendingNoteFits g (s .notes) (s .durable) (s .note)
+      → table ≡ every 16 (frameFits g count s)
+      → index ≡ every 64 (pageFits g s)
+      → all
+      (leb (s .durable + s .pending) (g .records) ∷ leb (s .pending) 16 ∷ leb (s .notes) (g .notes) ∷ pending ∷ table ∷ index ∷ [])
+      ≡ wellFormed g count s
+  unfolding wellFormed
+  formed-is count pending table index ep et ei = rw (ep, et, ei)
+
+-- the code's tests, in the order in which it makes them, come to the rows 1, 2, 2
+pub refusal-is : (s : State) (v m : List ℕ) (size count : ℕ) (g : Geometry) (formed memory valid : Bool) (a b k : ℕ)
+    → g ≡ geometryOf v
+    → count ≡ frameCount size
+    → formed ≡ wellFormed g count s
+    → memory ≡ validMemory size
+    → valid ≡ validVolume v
+    → a ≡ cond (not formed) 2 0
+    → b ≡ cond (not memory) 2 a
+    → k ≡ cond (not valid) 1 b
+    → length m ≡ size
+    → k ≡ firstOf (stateRows v m s [])
+refusal-is s v m size count g formed memory valid a b k eg ec ef em ev ea eb ek en = rw (ek, eb, ea, ev, em, ef, ec, eg, ← en)
