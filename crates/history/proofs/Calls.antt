@@ -1,0 +1,132 @@
+-- Every call keeps the invariant, whole or cut short by a crash.
+use mathlib.Core.Path.{_≡_, refl, sym, ap, _∙_, subst}
+use mathlib.Core.Logic.{_≢_, _⊎_, inl, inr}
+use mathlib.Core.Bool.{Bool, true, false, cond, not, _&&_, _||_}
+use mathlib.Core.List.{List, [], _∷_, _++_}
+use Prim.Native.Nat.{ℕ, zero, suc, _+_, _-_, _≤_, _<_}
+use native.Mathlib.Omega.{arith}
+use lib.ListN.{length, replicate}
+use lib.Dec.{eqb}
+use borrow.Author.Tests.{eqb-true, not-true}
+use Rattle.laws.proofs.Tests.{byCases, and-left, and-right}
+use Rattle.model.specs.Tests.{Row, firstOf}
+use Rattle.model.specs.Bytes.{field}
+use Rattle.model.specs.Checksum.{sealImage}
+use Rattle.model.specs.Geometry.{Place, pageAt, slotAt, recordAt, noteAt, logSlot, noteSlot, width, geometryOf, item, store}
+use Rattle.model.specs.Item.{imageLsn, imageBody, frameImage, noteBytes}
+use Rattle.model.specs.Index.{entryOf}
+use Rattle.model.specs.Change.{applyChange}
+use Rattle.model.specs.Repair.{viewOf, repairOf, rebuilt, classIn}
+use Rattle.model.specs.State.{frameBytes, pendingBytes, frameAt, holder, lastNumber, lastNote}
+use Rattle.model.specs.Refusals.{pageDirty, beginRows, loadRows, changeRows, forceRows, writeRows, backupRows, noteRows}
+use Rattle.model.specs.Calls.{StoredItem, nothing, oneItem, Outcome, volumeAfter, unchanged, decided, isGood, beginOf, loadOf, changeCall, forceOf, writeOf, backupOf, noteCall, noteStored, Call, begin, load, change, force, write, backup, note, rowsOf, outcomeOf}
+use Rattle.model.specs.AbstractLog.{Logged, AbstractLog, Left, old, new, torn, moveFirst, forget, loggedChange, append, stepCall, stepCut}
+use Rattle.model.specs.History.{Power, off, on, leftVolume, leftPast, itemSealed, tornFits, payloadFits}
+use Rattle.model.specs.declared.geometry.Geometry.{Geometry}
+use Rattle.model.specs.declared.answer.Answer.{Answer}
+use Rattle.model.specs.declared.answer.Answer.the-variants.{Done, Nothing, Refused, Repaired}
+use Rattle.model.specs.declared.item.Note.{Note}
+use Rattle.model.specs.declared.state.PendingNote.{PendingNote}
+use Rattle.model.specs.declared.state.PendingNote.the-variants.{Absent, Present}
+use Rattle.model.specs.declared.state.State.{State}
+use Rattle.history.proofs.Inv.{past-cons, PendingOk, Inv}
+use Rattle.history.proofs.Context.{Ctx, Kept, geo, keep-same, keep-decided}
+use Rattle.history.proofs.Appends.{keep-begin, keep-change}
+use Rattle.history.proofs.Loads.{keep-load}
+use Rattle.history.proofs.Images.{StoreOk, write-store, backup-store}
+use Rattle.history.proofs.Keeps.{force-store, forced, none-pending, some-pending, keep-force, Writes, writes, written, keep-write, Backs, backs, keep-backup, note-store, keep-note}
+
+module _ {g : Geometry} {v m : List ℕ} {past : List StoredItem} {s : State} {k w : List Logged} (x : Ctx g v m past s k w) where
+  abbrev B : AbstractLog
+  B = record { durable = k; pending = w }
+
+  pub inv-call : (c : Call) → payloadFits c ≡ true
+      → Kept g v past (outcomeOf c v m s) (cond (not (eqb (firstOf (rowsOf c v m s)) 0)) (record { durable = k; pending = w }) (stepCall (record { durable = k; pending = w }) c))
+  unfolding beginOf loadOf changeCall forceOf writeOf backupOf noteCall stepCall
+  inv-call (begin page f fill) h = keep-decided x (beginRows v m s page f) _ _ (keep-begin x page f fill)
+  inv-call (load page f) h =
+      keep-decided x (loadRows v m s page f) _ _
+      (keep-load x page f (Repaired (repairOf (geometryOf v) page (viewOf (geometryOf v) v (entryOf (s .index) page) page)))
+      (not (isGood (classIn (geometryOf v) page (viewOf (geometryOf v) v (entryOf (s .index) page) page)))))
+  inv-call (change page c payload) h = keep-decided x (changeRows v m s page c) _ _ (keep-change x page c payload (eqb-true (length payload) 44 h))
+  inv-call force h = keep-decided x (forceRows v m s) (forced x) _ (λ e. keep-force x w refl)
+  inv-call (write page) h = keep-decided x (writeRows v m s page) (written x page) _ (λ e. keep-write x page (writes x page e))
+  inv-call (backup page b) h = keep-decided x (backupRows v m s page b) _ _ (λ e. keep-backup x page b (backs x page b e))
+  inv-call note h = keep-decided x (noteRows v m s) (noteStored v m s (s .note)) _ (λ e. keep-note x (s .note) (x .al .note-ok))
+
+  -- ---- a crash within a call
+
+  abbrev Cut : StoredItem → Left → AbstractLog → Type 0
+  Cut i l b = Inv g (leftVolume v i l) (leftPast i l past) off (forget b)
+
+  cut-old : Inv g v past off (record { durable = k; pending = [] })
+  cut-old = record { ns = x .ns; holds = x .hs; noted = x .no; past-ok = x .ps; live = tt }
+
+  cut-nothing : (l : Left) (r : List Logged) → Cut nothing l (record { durable = k; pending = r })
+  unfolding volumeAfter
+  cut-nothing old r = cut-old
+  cut-nothing new r = record { ns = x .ns; holds = x .hs; noted = x .no; past-ok = past-cons g k past nothing tt (x .ps); live = tt }
+  cut-nothing (torn xs) r = cut-old
+
+  cut-new : (at : Place) (xs : List ℕ) (k′ : List Logged) (ns′ : List Note) → StoreOk g v past k (x .ns) at xs k′ ns′
+      → Inv g (volumeAfter v (oneItem at xs)) (oneItem at xs ∷ past) off (record { durable = k′; pending = [] })
+  unfolding volumeAfter
+  cut-new at xs k′ ns′ st = rw (geo x) (record { ns = ns′; holds = st .holds′; noted = st .noted′; past-ok = st .past′; live = tt })
+
+  cut-torn : (at : Place) (xs ys : List ℕ) (k′ : List Logged) (ns′ : List Note) → StoreOk g v past k (x .ns) at xs k′ ns′ → tornFits (geometryOf v) (oneItem at xs) (torn ys) ≡ true
+      → Inv g (volumeAfter v (oneItem at ys)) past off (record { durable = k; pending = [] })
+  unfolding volumeAfter
+  cut-torn at xs ys k′ ns′ st t =
+      let t′ : (eqb (length ys) (width at) && not (itemSealed g at ys)) ≡ true = rw (geo x) at t in
+      let r = st .torn′ ys (not-true (itemSealed g at ys) (and-right (eqb (length ys) (width at)) (not (itemSealed g at ys)) t′))
+      (eqb-true (length ys) (width at) (and-left (eqb (length ys) (width at)) (not (itemSealed g at ys)) t′)) in
+      rw (geo x) (record { ns = x .ns; holds = r .0; noted = r .1; past-ok = x .ps; live = tt })
+
+  -- a store that the abstract log does not see
+  cut-item : (at : Place) (xs : List ℕ) (ns′ : List Note) → StoreOk g v past k (x .ns) at xs k ns′ → (l : Left) → tornFits (geometryOf v) (oneItem at xs) l ≡ true
+      → Cut (oneItem at xs) l (record { durable = k; pending = w })
+  cut-item at xs ns′ st old t = cut-old
+  cut-item at xs ns′ st new t = cut-new at xs k ns′ st
+  cut-item at xs ns′ st (torn ys) t = cut-torn at xs ys k ns′ st t
+
+  cut-force : (w′ : List Logged) → w ≡ w′ → (l : Left) → tornFits (geometryOf v) (forced x .stored) l ≡ true
+      → Cut (forced x .stored) l (stepCut (record { durable = k; pending = w }) force l)
+  unfolding stepCut
+  cut-force [] e old f = cut-old
+  cut-force [] e new f = rw (none-pending x e, e) (cut-nothing new [])
+  cut-force [] e (torn xs) f = rw (none-pending x e) cut-old
+  cut-force (c ∷ r) e old f = cut-old
+  cut-force (c ∷ r) e new f =
+      rw (some-pending x c r e, e) (cut-new (recordAt (s .durable + 1)) (pendingBytes m (s .durable + 1)) (k ++ (c ∷ [])) (x .ns) (force-store x c r e))
+  cut-force (c ∷ r) e (torn xs) f =
+      rw (some-pending x c r e)
+      (cut-torn (recordAt (s .durable + 1)) (pendingBytes m (s .durable + 1)) xs (k ++ (c ∷ [])) (x .ns) (force-store x c r e) (rw (some-pending x c r e) at f))
+
+  cut-write : (p : ℕ) → Writes x p → (l : Left) → tornFits (geometryOf v) (written x p .stored) l ≡ true → Cut (written x p .stored) l (record { durable = k; pending = w })
+  cut-write p f l t = byCases (pageDirty s p)
+      (λ d. rw d (cut-item (pageAt p) (sealImage g (frameBytes m (holder s p))) (x .ns) (write-store x p (f .frame-of) (f .ready d .2)) l (rw d at t)))
+      (λ d. rw d (cut-nothing l w))
+
+  cut-note : (y : PendingNote) → PendingOk g v k (x .ns) y → (l : Left) → tornFits (geometryOf v) (noteStored v m s y .stored) l ≡ true
+      → Cut (noteStored v m s y .stored) l (record { durable = k; pending = w })
+  cut-note Absent t l f = cut-nothing l w
+  cut-note (Present y) t l f = cut-item (noteAt (lastNote s + 1)) (noteBytes y) (x .ns ++ (y ∷ [])) (note-store x y t) l f
+
+  cut-decided : (rows : List Row) (done : Outcome) (b : AbstractLog) (l : Left) → tornFits (geometryOf v) (decided rows m s done .stored) l ≡ true
+      → (firstOf rows ≡ 0 → tornFits (geometryOf v) (done .stored) l ≡ true → Cut (done .stored) l b)
+      → Cut (decided rows m s done .stored) l (cond (not (eqb (firstOf rows) 0)) (record { durable = k; pending = w }) b)
+  cut-decided rows done b l t f =
+      byCases (eqb (firstOf rows) 0) (λ e. rw e (f (eqb-true (firstOf rows) 0 e) (rw e at t))) (λ e. rw e (cut-nothing l w))
+
+  pub inv-crash : (c : Call) (l : Left) → tornFits (geometryOf v) (outcomeOf c v m s .stored) l ≡ true
+      → Cut (outcomeOf c v m s .stored) l (cond (not (eqb (firstOf (rowsOf c v m s)) 0)) (record { durable = k; pending = w }) (stepCut (record { durable = k; pending = w }) c l))
+  unfolding beginOf loadOf changeCall forceOf writeOf backupOf noteCall stepCut
+  inv-crash (begin page f fill) l t = cut-decided (beginRows v m s page f) _ _ l t (λ e u. cut-nothing l w)
+  inv-crash (load page f) l t = cut-decided (loadRows v m s page f) _ _ l t (λ e u. cut-nothing l w)
+  inv-crash (change page c payload) l t = cut-decided (changeRows v m s page c) _ _ l t (λ e u. cut-nothing l w)
+  inv-crash force l t = cut-decided (forceRows v m s) (forced x) (stepCut (record { durable = k; pending = w }) force l) l t (λ e u. cut-force w refl l u)
+  inv-crash (write page) l t = cut-decided (writeRows v m s page) (written x page) _ l t (λ e u. cut-write page (writes x page e) l u)
+  inv-crash (backup page b) l t =
+      cut-decided (backupRows v m s page b) _ _ l t
+      (λ e u. let f = backs x page b e in cut-item (slotAt b) (sealImage g (frameBytes m (holder s page))) (x .ns) (backup-store x page (f .frame-of) (f .forced-to) b (f .slot-low) (f .slot-high)) l u)
+  inv-crash note l t = cut-decided (noteRows v m s) (noteStored v m s (s .note)) _ l t (λ e u. cut-note (s .note) (x .al .note-ok) l u)

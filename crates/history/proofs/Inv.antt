@@ -1,0 +1,184 @@
+-- The invariant that ties a machine to the abstract log: what the volume holds, what calls stored, and, while the power is on, what memory
+-- and state say.
+use mathlib.Core.Path.{_≡_, refl, sym, ap, _∙_, subst}
+use mathlib.Core.Logic.{_≢_, _⊎_, inl, inr, ⊎-elim}
+use mathlib.Core.Bool.{Bool, true, false, cond, not, _&&_, _||_}
+use mathlib.Core.List.{List, [], _∷_, _++_}
+use Prim.Native.Nat.{ℕ, zero, suc, _+_, _-_, _*_, _%_, _≤_, _<_}
+use native.Mathlib.Omega.{arith}
+use lib.ListN.{length, getD, length-append, List·getD-append}
+use lib.Dec.{eqb}
+use borrow.Author.Tests.{eqb-true}
+use Rattle.laws.proofs.Tests.{and-left, and-right, or-cases, true-not-false}
+use Rattle.model.specs.Bytes.{sameBytes}
+use Rattle.model.specs.Geometry.{Place, pageAt, slotAt, recordAt, noteAt, item}
+use Rattle.model.specs.Item.{validImage, frameImage, isWritten}
+use Rattle.model.specs.State.{frameBytes, pendingBytes, emptyFrame}
+use Rattle.model.specs.Calls.{StoredItem, nothing, oneItem}
+use Rattle.model.specs.AbstractLog.{Logged, AbstractLog}
+use Rattle.model.specs.History.{Power, off, on, isImage, samePlace, storedBefore}
+use Rattle.model.specs.declared.geometry.Geometry.{Geometry}
+use Rattle.model.specs.declared.item.Note.{Note}
+use Rattle.model.specs.declared.state.Frame.{Frame}
+use Rattle.model.specs.declared.state.PendingNote.{PendingNote}
+use Rattle.model.specs.declared.state.PendingNote.the-variants.{Absent, Present}
+use Rattle.model.specs.declared.state.State.{State}
+use Rattle.history.proofs.Book.{noLogged, at, lastAt, lastOf, bodyOf}
+use Rattle.history.proofs.Entries.{note, markAt, NoteOk, NotesOk, Indexed}
+use Rattle.history.proofs.Leaf.{valid-page}
+use Rattle.history.proofs.Records.{Fair, AllFair, recOf, Good, Valid, valid-append}
+use Rattle.history.proofs.Disk.{Holds, Noted}
+
+-- ---- what calls stored
+
+-- the image is a replay, whichever page it is valid as
+abbrev pub Fine : Geometry → List Logged → List ℕ → Type 0
+Fine g k xs = (p : ℕ) → Valid g p k xs
+
+-- the image is valid as some page in range, and is that page's replay
+pub record Image (g : Geometry) (k : List Logged) (xs : List ℕ) : Type 0 where
+  pub page : ℕ
+  pub low : 1 ≤ page
+  pub high : page ≤ g .pages
+  pub valid : validImage g page xs ≡ true
+  pub good : Good page k xs
+
+pub image-fine : (g : Geometry) (k : List Logged) (xs : List ℕ) → Image g k xs → Fine g k xs
+image-fine g k xs x p t =
+    let e : x .page ≡ p = sym (valid-page g (x .page) xs (x .valid)) ∙ valid-page g p xs t in
+    subst (λ (q : ℕ). Good q k xs) e (x .good)
+
+pub image-append : (g : Geometry) (k r : List Logged) (xs : List ℕ) → Image g k xs → Image g (k ++ r) xs
+image-append g k r xs x =
+    record { page = x .page; low = x .low; high = x .high; valid = x .valid; good = valid-append g (x .page) k r xs (λ t. x .good) (x .valid) }
+
+-- every image stored so far is such
+abbrev pub Past : Geometry → List Logged → List StoredItem → Type 0
+Past g k past = (at : Place) (xs : List ℕ) → isImage g at ≡ true → storedBefore at xs past ≡ true → Image g k xs
+
+abbrev pub ItemFine : Geometry → List Logged → StoredItem → Type 0
+ItemFine g k nothing = Unit {0}
+ItemFine g k (oneItem at ys) = isImage g at ≡ true → Image g k ys
+
+pub past-append : (g : Geometry) (k r : List Logged) (past : List StoredItem) → Past g k past → Past g (k ++ r) past
+past-append g k r past f at xs i e = image-append g k r xs (f at xs i e)
+
+same-bytes : (xs ys : List ℕ) → sameBytes xs ys ≡ true → xs ≡ ys
+unfolding sameBytes
+same-bytes [] [] h = refl
+same-bytes [] (y ∷ ys) h = let z : _≡_ {A = ℕ} 0 1 = cc in absurd (omega arith)
+same-bytes (x ∷ xs) [] h = let z : _≡_ {A = ℕ} 0 1 = cc in absurd (omega arith)
+same-bytes (x ∷ xs) (y ∷ ys) h = rw (eqb-true x y (and-left (eqb x y) (sameBytes xs ys) h), same-bytes xs ys (and-right (eqb x y) (sameBytes xs ys) h))
+
+same-place : (p q : Place) → samePlace p q ≡ true → p ≡ q
+same-place (pageAt i) (pageAt j) h = ap pageAt (eqb-true i j h)
+same-place (pageAt i) (slotAt j) h = absurd (true-not-false h refl)
+same-place (pageAt i) (recordAt j) h = absurd (true-not-false h refl)
+same-place (pageAt i) (noteAt j) h = absurd (true-not-false h refl)
+same-place (slotAt i) (pageAt j) h = absurd (true-not-false h refl)
+same-place (slotAt i) (slotAt j) h = ap slotAt (eqb-true i j h)
+same-place (slotAt i) (recordAt j) h = absurd (true-not-false h refl)
+same-place (slotAt i) (noteAt j) h = absurd (true-not-false h refl)
+same-place (recordAt i) (pageAt j) h = absurd (true-not-false h refl)
+same-place (recordAt i) (slotAt j) h = absurd (true-not-false h refl)
+same-place (recordAt i) (recordAt j) h = ap recordAt (eqb-true i j h)
+same-place (recordAt i) (noteAt j) h = absurd (true-not-false h refl)
+same-place (noteAt i) (pageAt j) h = absurd (true-not-false h refl)
+same-place (noteAt i) (slotAt j) h = absurd (true-not-false h refl)
+same-place (noteAt i) (recordAt j) h = absurd (true-not-false h refl)
+same-place (noteAt i) (noteAt j) h = ap noteAt (eqb-true i j h)
+
+pub past-cons : (g : Geometry) (k : List Logged) (past : List StoredItem) (x : StoredItem) → ItemFine g k x → Past g k past → Past g k (x ∷ past)
+unfolding storedBefore
+past-cons g k past nothing t f at xs i e = f at xs i e
+past-cons g k past (oneItem at′ ys) t f at xs i e =
+    ⊎-elim
+    (λ h.
+    let p : at ≡ at′ = same-place at at′ (and-left (samePlace at at′) (sameBytes xs ys) h) in
+    let q : xs ≡ ys = same-bytes xs ys (and-right (samePlace at at′) (sameBytes xs ys) h) in
+    rw q (t (rw p at i)))
+    (λ h. f at xs i h)
+    (or-cases (samePlace at at′ && sameBytes xs ys) (storedBefore at xs past) e)
+
+-- ---- memory and state
+
+-- the note that is pending
+abbrev pub PendingOk : Geometry → List ℕ → List Logged → List Note → PendingNote → Type 0
+PendingOk g v k ns Absent = Unit {0}
+PendingOk g v k ns (Present x) =
+    NoteOk (g .pages) (g .slots) k ns (length ns) x × (length ns < g .notes) × (isWritten x ≡ false → Valid g (x .page) k (item g v (slotAt (x .slot))))
+
+-- a memory of F frames
+pub record Memory (F : ℕ) (m : List ℕ) : Type 0 where
+  pub size : length m ≡ 1024 + 256 * F
+  pub low : 1 ≤ F
+  pub high : F ≤ 16
+
+-- the frame holds page p, at its newest change
+pub record Framed (P : ℕ) (all : List Logged) (p : ℕ) (frame : List ℕ) : Type 0 where
+  pub low : 1 ≤ p
+  pub high : p ≤ P
+  pub some : 1 ≤ lastOf p all
+  pub frame-is : frame ≡ frameImage p (lastOf p all) (bodyOf p all)
+
+-- page p has no change after the first d
+abbrev pub Settled : List Logged → ℕ → ℕ → Type 0
+Settled all d p = lastOf p all ≡ lastAt p all d
+
+-- row j of the frame table, counted from 0
+abbrev pub frame : List Frame → ℕ → Frame
+frame fs j = getD fs j emptyFrame
+
+pub record Frames (P F : ℕ) (all : List Logged) (d : ℕ) (fs : List Frame) (m : List ℕ) : Type 0 where
+  pub size : length fs ≡ 16
+  pub inside : (j : ℕ) → j < 16 → frame fs j .page ≢ 0 → j < F
+  pub idle : (j : ℕ) → j < 16 → frame fs j .page ≡ 0 → frame fs j .dirty ≡ false
+  pub each : (j : ℕ) → j < F → frame fs j .page ≢ 0 → Framed P all (frame fs j .page) (frameBytes m (suc j))
+  pub once : (i j : ℕ) → i < F → j < F → frame fs i .page ≢ 0 → frame fs i .page ≡ frame fs j .page → i ≡ j
+  pub away : (p : ℕ) → 1 ≤ p → p ≤ P → ((j : ℕ) → j < F → frame fs j .page ≢ p) → Settled all d p
+  pub clean : (j : ℕ) → j < F → frame fs j .dirty ≡ false → frame fs j .page ≢ 0 → Settled all d (frame fs j .page)
+
+-- the counts and the pending records
+pub record LogState (g : Geometry) (m : List ℕ) (durable pending : ℕ) (k w all : List Logged) : Type 0 where
+  pub split : all ≡ k ++ w
+  pub durable-is : durable ≡ length k
+  pub pending-is : pending ≡ length w
+  pub room : length all ≤ g .records
+  pub fair : AllFair (g .pages) all
+  pub few : length w ≤ 16
+  pub waits : (i : ℕ) → length k ≤ i → i < length all → pendingBytes m (suc i) ≡ recOf all i
+
+pub record Alive (g : Geometry) (v m : List ℕ) (s : State) (k w all : List Logged) (ns : List Note) : Type 0 where
+  pub F : ℕ
+  pub memory : Memory F m
+  pub log : LogState g m (s .durable) (s .pending) k w all
+  pub frames : Frames (g .pages) F all (length k) (s .frames) m
+  pub index : Indexed (s .index) all (length all) (length k) ns (length ns)
+  pub notes-is : s .notes ≡ length ns
+  pub note-ok : PendingOk g v k ns (s .note)
+
+abbrev pub PowerInv : Geometry → List ℕ → Power → AbstractLog → List Note → Type 0
+PowerInv g v off b ns = Unit {0}
+PowerInv g v (on m s) b ns = (all : List Logged) × Alive g v m s (b .durable) (b .pending) all ns
+
+pub record Inv (g : Geometry) (v : List ℕ) (past : List StoredItem) (x : Power) (b : AbstractLog) : Type 0 where
+  pub ns : List Note
+  pub holds : Holds g v (b .durable)
+  pub noted : Noted g v (b .durable) ns
+  pub past-ok : Past g (b .durable) past
+  pub live : PowerInv g v x b ns
+
+-- a note over a longer list
+pub note-append : (P B : ℕ) (l r : List Logged) (ns : List Note) (n : ℕ) (x : Note) → NoteOk P B l ns n x → NoteOk P B (l ++ r) ns n x
+note-append P B l r ns n x f =
+    let b : x .lsn - 1 < length l = omega (arith, f .some, f .below) in
+    record {
+      number-is = f .number-is;
+      low = f .low;
+      high = f .high;
+      some = f .some;
+      below = rw (length-append l r) (omega (arith, f .below));
+      page-is = rw (List·getD-append l r noLogged (x .lsn - 1) b) (f .page-is);
+      written = f .written;
+      backed = f .backed;
+    }

@@ -1,0 +1,187 @@
+-- Load keeps the invariant: a page in no frame is repaired to its replay, and its walk is never broken.
+use mathlib.Core.Path.{_≡_, refl, sym, ap, _∙_, subst}
+use mathlib.Core.Logic.{_≢_, _⊎_, inl, inr}
+use mathlib.Core.Bool.{Bool, true, false, cond, not, _&&_, _||_}
+use mathlib.Core.List.{List, [], _∷_, _++_}
+use Prim.Native.Nat.{ℕ, zero, suc, _+_, _-_, _*_, _≤_, _<_}
+use native.Mathlib.Omega.{arith}
+use lib.ListN.{length, getD, set}
+use lib.Dec.{eqb, leb, ltb}
+use borrow.Author.Tests.{eqb-false, not-false}
+use Rattle.laws.proofs.Tests.{byCases, true-not-false}
+use Rattle.model.specs.Tests.{Row, firstOf, within}
+use Rattle.model.specs.Bytes.{splice}
+use Rattle.model.specs.Geometry.{geometryOf, validVolume, item}
+use Rattle.model.specs.Item.{frameImage}
+use Rattle.model.specs.Index.{entryOf}
+use Rattle.model.specs.Repair.{View, viewOf, walkOf, isBroken, rebuilt, rebuiltBody}
+use Rattle.model.specs.State.{frameAt, frameBytes, holder, held, frameCount, validMemory, wellFormed, blank}
+use Rattle.model.specs.Refusals.{loadRows, frameBlocked, chainBroken}
+use Rattle.model.specs.Calls.{StoredItem, nothing, oneItem, Outcome, volumeAfter, withFrame, withFrames}
+use Rattle.model.specs.AbstractLog.{Logged, AbstractLog}
+use Rattle.model.specs.History.{Power, off, on}
+use Rattle.model.specs.declared.geometry.Geometry.{Geometry}
+use Rattle.model.specs.declared.answer.Answer.{Answer}
+use Rattle.model.specs.declared.state.State.{State}
+use Rattle.history.proofs.Book.{lastAt, lastOf, bodyOf, last-le}
+use Rattle.history.proofs.Entries.{markAt}
+use Rattle.history.proofs.Leaf.{frame-size}
+use Rattle.history.proofs.Inv.{past-cons, Framed, Settled, frame, Memory}
+use Rattle.history.proofs.Memory.{frame-count, frame-memory, frame-same, frame-other, frame-pending}
+use Rattle.history.proofs.LogSteps.{Joins}
+use Rattle.history.proofs.FrameSteps.{frames-put}
+use Rattle.history.proofs.Views.{view-unbroken, view-body}
+use Rattle.history.proofs.Context.{Ctx, Kept, Codes, Passed, passed, in-range, sized, geo, len, sum, fair, few, body-size, entry-is, last-entry, kept-page, kept-body, nowhere}
+
+-- the rows before a row whose number is answered do not hold, and it does
+abbrev pub Others : ℕ → List Row → Type 0
+Others n [] = Unit {0}
+Others n (t ∷ ts) = (t .1 ≢ n) × Others n ts
+
+pub until : (n : ℕ) (ts : List Row) (b : Bool) (rest : List Row) → Others n ts → Others n rest → n ≢ 0 → firstOf (ts ++ ((b, n) ∷ rest)) ≡ n → Passed ts × (b ≡ true)
+until n [] b rest o r nz e = (tt, go b (firstOf rest) (none rest r) e)
+  where
+    pick : (b : Bool) (m k : ℕ) → m ≢ n → k ≢ n → cond b m k ≢ n
+    pick true m k p q = p
+    pick false m k p q = q
+
+    none : (ts : List Row) → Others n ts → firstOf ts ≢ n
+    none [] o = λ z. nz (sym z)
+    none (t ∷ ts) o = pick (t .0) (t .1) (firstOf ts) (o .0) (none ts (o .1))
+
+    go : (b : Bool) (k : ℕ) → k ≢ n → cond b n k ≡ n → b ≡ true
+    go true k ne e = refl
+    go false k ne e = absurd (ne e)
+until n (t ∷ ts) b rest o r nz e =
+    let q = go (t .0) (t .1) (firstOf (ts ++ ((b, n) ∷ rest))) (o .0) e in
+    let u = until n ts b rest (o .1) r nz (q .1) in
+    ((q .0, u .0), u .1)
+  where
+    go : (b : Bool) (m k : ℕ) → m ≢ n → cond b m k ≡ n → (b ≡ false) × (k ≡ n)
+    go true m k ne e = absurd (ne e)
+    go false m k ne e = (refl, e)
+
+module _ {g : Geometry} {v m : List ℕ} {past : List StoredItem} {s : State} {k w : List Logged} (x : Ctx g v m past s k w) where
+  -- a page with a change and none that is pending
+  module _ (page : ℕ) (lo : 1 ≤ page) (hi : page ≤ g .pages) (st : Settled (x .all) (length k) page) (nz : lastOf page (x .all) ≢ 0) where
+    abbrev Restored : ℕ → Type 0
+    Restored p =
+        (isBroken (walkOf g p (viewOf g v (entryOf (s .index) p) p) .stop) ≡ false)
+        × (rebuilt g p (viewOf g v (entryOf (s .index) p) p) ≡ frameImage p (lastOf p (x .all)) (bodyOf p (x .all)))
+
+    restored : (n : ℕ) → lastOf page (x .all) ≡ n → Restored page
+    restored zero q = absurd (nz q)
+    restored (suc j) q =
+        let d : lastAt page (x .all) (length k) ≡ suc j = sym st ∙ q in
+        let b : suc j ≤ length k = omega (arith, last-le page (x .all) (length k)) in
+        let vb = view-body g v k (x .hs) (x .ns) (x .no) (suc j) j page lo hi b (kept-page x page j q b) in
+        let vu = view-unbroken g v k (x .hs) (x .ns) (x .no) (suc j) j page lo hi b (kept-page x page j q b) in
+        rw (entry-is x page lo hi, d, q) (vu, ap (frameImage page (suc j)) (vb ∙ sym (kept-body x page j q b)))
+
+    pub load-unbroken : chainBroken g v s page ≡ false
+    load-unbroken = restored (lastOf page (x .all)) refl .0
+
+    pub load-image : rebuilt g page (viewOf g v (entryOf (s .index) page) page) ≡ frameImage page (lastOf page (x .all)) (bodyOf page (x .all))
+    load-image = restored (lastOf page (x .all)) refl .1
+
+  -- what a load that is not refused has been asked
+  pub record Loaded (page f : ℕ) : Type 0 where
+    pub low : 1 ≤ page
+    pub high : page ≤ g .pages
+    pub frame-low : 1 ≤ f
+    pub frame-high : f ≤ x .al .F
+    pub some : lastOf page (x .all) ≢ 0
+    pub absent : (j : ℕ) → j < x .al .F → frame (s .frames) j .page ≢ page
+    pub settled : Settled (x .all) (length k) page
+    pub spare : frame (s .frames) (f - 1) .dirty ≡ false
+
+  loaded-from : (page f : ℕ) → not (within (geometryOf v .pages) page) ≡ false → not (within (frameCount (length m)) f) ≡ false → blank s page ≡ false → held s page ≡ false
+      → frameBlocked s f ≡ false → Loaded page f
+  loaded-from page f t₁ t₂ t₃ t₄ t₅ =
+      let r : (1 ≤ page) × (page ≤ g .pages) = rw (geo x) at (in-range (geometryOf v .pages) page t₁) in
+      let q : (1 ≤ f) × (f ≤ x .al .F) = rw (frame-count (x .al .F) m (x .al .memory)) at (in-range (frameCount (length m)) f t₂) in
+      record {
+        low = r .0;
+        high = r .1;
+        frame-low = q .0;
+        frame-high = q .1;
+        some = λ z. eqb-false (entryOf (s .index) page .last) 0 t₃ (last-entry x page (r .0) (r .1) ∙ z);
+        absent = nowhere x page t₄;
+        settled = x .al .frames .away page (r .0) (r .1) (nowhere x page t₄);
+        spare = t₅;
+      }
+
+  pub loads : (page f : ℕ) → firstOf (loadRows v m s page f) ≡ 0 → Loaded page f
+  unfolding loadRows
+  loads page f e =
+      let t = passed (loadRows v m s page f) (omega arith) e in
+      loaded-from page f (t .1 .1 .1 .0) (t .1 .1 .1 .1 .0) (t .1 .1 .1 .1 .1 .0) (t .1 .1 .1 .1 .1 .1 .0) (t .1 .1 .1 .1 .1 .1 .1 .0)
+
+  -- 19 never comes
+  pub never-broken : (page f : ℕ) → firstOf (loadRows v m s page f) ≢ 19
+  unfolding loadRows
+  never-broken page f e =
+      let h : Geometry = geometryOf v in
+      let u = until 19
+      ((not (validVolume v), 1) ∷ (not (validMemory (length m)), 2) ∷ (not (wellFormed h (frameCount (length m)) s), 2) ∷ (not (within (h .pages) page), 3)
+      ∷ (not (within (frameCount (length m)) f), 4) ∷ (blank s page, 7) ∷ (held s page, 9) ∷ (frameBlocked s f, 10) ∷ [])
+      (chainBroken h v s page) [] (omega arith) tt (λ z. omega arith) e in
+      let t = u .0 in
+      let l = loaded-from page f (t .1 .1 .1 .0) (t .1 .1 .1 .1 .0) (t .1 .1 .1 .1 .1 .0) (t .1 .1 .1 .1 .1 .1 .0) (t .1 .1 .1 .1 .1 .1 .1 .0) in
+      let b : chainBroken g v s page ≡ true = rw (geo x) at (u .1) in
+      true-not-false b (load-unbroken page (l .low) (l .high) (l .settled) (l .some))
+
+  pub keep-load : (page f : ℕ) (an : Answer) (t : Bool) → firstOf (loadRows v m s page f) ≡ 0
+      → Kept g v past (record {
+        answer = an;
+        state = withFrames s (withFrame s f page t) (s .note);
+        memory = splice m (frameAt f) (rebuilt (geometryOf v) page (viewOf (geometryOf v) v (entryOf (s .index) page) page));
+        stored = nothing;
+      }) (record { durable = k; pending = w })
+  unfolding volumeAfter
+  keep-load page f an t e =
+      let l = loads page f e in
+      let im = load-image page (l .low) (l .high) (l .settled) (l .some) in
+      let pg : page ≤ 64 = omega (arith, l .high, sized x .p-high) in
+      let nm : lastOf page (x .all) ≤ 1024 = omega (arith, few x, last-le page (x .all) (length (x .all))) in
+      let sz = frame-size g page (lastOf page (x .all)) (bodyOf page (x .all)) pg nm (body-size x page) in
+      rw (geo x, im) (go l (frameImage page (lastOf page (x .all)) (bodyOf page (x .all))) sz refl)
+    where
+      go : Loaded page f → (image : List ℕ) → length image ≡ 256 → image ≡ frameImage page (lastOf page (x .all)) (bodyOf page (x .all))
+          → Kept g v past (record { answer = an; state = withFrames s (withFrame s f page t) (s .note); memory = splice m (frameAt f) image; stored = nothing }) (record { durable = k; pending = w })
+      go l image sz im =
+          record {
+            ns = x .ns;
+            holds = x .hs;
+            noted = x .no;
+            past-ok = past-cons g k past nothing tt (x .ps);
+            live = (
+              x .all,
+              record {
+                F = x .al .F;
+                memory = frame-memory (x .al .F) m (x .al .memory) f image (l .frame-low) (l .frame-high) sz;
+                log = record {
+                  split = x .al .log .split;
+                  durable-is = x .al .log .durable-is;
+                  pending-is = x .al .log .pending-is;
+                  room = x .al .log .room;
+                  fair = x .al .log .fair;
+                  few = x .al .log .few;
+                  waits = λ i a b. frame-pending (x .al .F) m (x .al .memory) f image (l .frame-low) (l .frame-high) sz (suc i) ∙ x .al .log .waits i a b;
+                };
+                frames = frames-put (g .pages) (x .al .F) (x .all) (length k) (s .frames) m (x .al .frames) (x .al .memory .high) (x .all) (splice m (frameAt f) image) (f - 1) page t
+                    (omega (arith, l .frame-low, l .frame-high))
+                    (record {
+                      low = l .low;
+                      high = l .high;
+                      some = let nz = l .some in omega arith;
+                      frame-is = let e : suc (f - 1) ≡ f = omega (arith, l .frame-low) in rw e (frame-same (x .al .F) m (x .al .memory) f image (l .frame-low) (l .frame-high) sz ∙ im);
+                    })
+                    (λ i b ne. frame-other (x .al .F) m (x .al .memory) f image (l .frame-low) (l .frame-high) sz (suc i) (omega arith) (omega arith))
+                    (λ q ne. (refl, refl, refl)) (λ i b ne. l .absent i b) (λ a b. x .al .frames .clean (f - 1) (omega (arith, l .frame-low, l .frame-high)) (l .spare) a) (λ z. l .settled);
+                index = x .al .index;
+                notes-is = x .al .notes-is;
+                note-ok = x .al .note-ok;
+              },
+            );
+          }

@@ -1,0 +1,142 @@
+-- Every legal history keeps the invariant, from Make on.
+use mathlib.Core.Path.{_≡_, refl, sym, ap, _∙_, subst}
+use mathlib.Core.Logic.{_≢_, _⊎_, inl, inr, ⊎-elim}
+use mathlib.Core.Bool.{Bool, true, false, cond, not, _&&_, _||_}
+use mathlib.Core.List.{List, [], _∷_, _++_}
+use Prim.Native.Nat.{ℕ, zero, suc, _+_, _-_, _*_, _≤_, _<_}
+use native.Mathlib.Omega.{arith}
+use lib.ListN.{length, replicate}
+use lib.Dec.{eqb}
+use borrow.Author.Tests.{eqb-true, eqb-false, not-true, not-false}
+use Rattle.laws.proofs.Tests.{byCases, and-left, and-right, or-cases, true-not-false}
+use Rattle.laws.proofs.Zeros.{zero-replicate, zero-fails}
+use Rattle.laws.proofs.EmptyVolume.{empty-geometry, empty-valid, empty-item}
+use Rattle.model.specs.Tests.{firstOf}
+use Rattle.model.specs.Checksum.{sealed}
+use Rattle.model.specs.Geometry.{Place, pageAt, slotAt, recordAt, noteAt, geometryOf, validCounts, lengthFor, emptyVolume, item, store}
+use Rattle.model.specs.Item.{validImage}
+use Rattle.model.specs.Scan.{indexOf}
+use Rattle.model.specs.Refusals.{makeRows, restartRows}
+use Rattle.model.specs.Calls.{StoredItem, nothing, oneItem, makeOf, refusalOf, Call, outcomeOf}
+use Rattle.model.specs.AbstractLog.{Logged, AbstractLog, emptyLog}
+use Rattle.model.specs.History.{Power, off, on, Machine, Event, restart, perform, crash, crashIn, damage, lent, isImage, isOn, payloadFits, crashFits, tornFits, passesAt, storedBefore, step, allowed, stepLog, freshMachine, allAllowed, run, logAfter}
+use Rattle.model.specs.Claim.{History, Legal, fresh, reached, logOf, keptOf}
+use Rattle.model.specs.declared.geometry.Geometry.{Geometry}
+use Rattle.model.specs.declared.state.State.{State}
+use Rattle.history.proofs.Entries.{Mark, markAt, mark-zero}
+use Rattle.history.proofs.Leaf.{valid-sealed}
+use Rattle.history.proofs.Inv.{Inv}
+use Rattle.history.proofs.Context.{Ctx}
+use Rattle.history.proofs.Calls.{inv-call, inv-crash}
+use Rattle.history.proofs.Events.{inv-restart, inv-crash-between, inv-damage}
+
+abbrev pub Tied : Geometry → Machine → AbstractLog → Type 0
+Tied g w b = Inv g (w .volume) (w .past) (w .power) b
+
+pub context : (g : Geometry) (v m : List ℕ) (past : List StoredItem) (s : State) (b : AbstractLog) → Inv g v past (on m s) b → Ctx g v m past s (b .durable) (b .pending)
+context g v m past s b i = record { all = i .live .0; ns = i .ns; hs = i .holds; no = i .noted; ps = i .past-ok; al = i .live .1 }
+
+module _ (g : Geometry) where
+  -- one event
+  one-step : (v : List ℕ) (past : List StoredItem) (x : Power) (b : AbstractLog) → Inv g v past x b → (e : Event) → allowed (record { volume = v; power = x; past = past }) e ≡ true
+      → Tied g (step (record { volume = v; power = x; past = past }) e) (stepLog (record { volume = v; power = x; past = past }) b e)
+  unfolding step stepLog allowed
+  one-step v past x b i (restart m) t = inv-restart g v past x b (lent x m) i
+  one-step v past x b i crash t = inv-crash-between g v past x b i
+  one-step v past off b i (perform c) t = absurd (true-not-false t refl)
+  one-step v past (on m s) b i (perform c) t = inv-call (context g v m past s b i) c t
+  one-step v past off b i (crashIn c l) t = absurd (true-not-false t refl)
+  one-step v past (on m s) b i (crashIn c l) t =
+      inv-crash (context g v m past s b i) c l (and-left (tornFits (geometryOf v) (outcomeOf c v m s .stored) l) (payloadFits c) t)
+  one-step v past x b i (damage at xs) t =
+      let e = i .holds .vol .geo in
+      let t₁ : (isImage g at && (eqb (length xs) 256 && (not (passesAt g (indexOf g v) at xs) || storedBefore at xs past))) ≡ true = rw e at t in
+      let t₂ = and-right (isImage g at) (eqb (length xs) 256 && (not (passesAt g (indexOf g v) at xs) || storedBefore at xs past)) t₁ in
+      rw e (inv-damage g v past x b at xs (and-left (isImage g at) _ t₁) (eqb-true (length xs) 256 (and-left (eqb (length xs) 256) _ t₂))
+      (⊎-elim (λ h. inl (not-true (passesAt g (indexOf g v) at xs) h)) inr (or-cases (not (passesAt g (indexOf g v) at xs)) (storedBefore at xs past) (and-right (eqb (length xs) 256) _ t₂))) i)
+
+  all-steps : (es : List Event) (w : Machine) (b : AbstractLog) → Tied g w b → allAllowed w es ≡ true → Tied g (run w es) (logAfter w b es)
+  unfolding allAllowed run logAfter
+  all-steps [] w b i t = i
+  all-steps (e ∷ es) w b i t =
+      let r = both (allowed w e) (allAllowed (step w e) es) t in
+      all-steps es (step w e) (stepLog w b e) (one-step (w .volume) (w .past) (w .power) b i e (r .0)) (r .1)
+    where
+      both : (p q : Bool) → cond p q false ≡ true → (p ≡ true) × (q ≡ true)
+      both true q h = (refl, h)
+      both false q h = absurd (true-not-false h refl)
+
+-- ---- Make
+
+abbrev pub geometryFor : ℕ → ℕ → ℕ → ℕ → Geometry
+geometryFor p b l n = record { tag = 0x56; pages = p; slots = b; records = l; notes = n }
+
+module _ (p b l n : ℕ) (ok : validCounts p b l n ≡ true) where
+  abbrev g : Geometry
+  g = geometryFor p b l n
+
+  zero-image : (q : ℕ) (at : Place) → item g (emptyVolume p b l n) at ≡ replicate 256 0 → validImage g q (item g (emptyVolume p b l n) at) ≡ true → ⊥
+  zero-image q at e t =
+      let z : sealed 252 (item g (emptyVolume p b l n) at) ≡ false = rw e (zero-fails 252 256 (omega arith)) in
+      true-not-false (valid-sealed g q (item g (emptyVolume p b l n) at) t) z
+
+  fresh-tied : Inv (geometryFor p b l n) (emptyVolume p b l n) [] off emptyLog
+  unfolding storedBefore
+  fresh-tied =
+      record {
+        ns = [];
+        holds = record {
+          vol = record { geo = empty-geometry p b l n ok; ok = empty-valid p b l n ok };
+          room = omega arith;
+          fair = λ i h. absurd (omega arith);
+          log = λ i h. absurd (omega arith);
+          tail = record {
+            gap = λ h. rw (empty-item p b l n g refl refl refl refl (recordAt 1) (omega arith)) (zero-fails 60 64 (omega arith));
+            rest = λ i h z. rw (empty-item p b l n g refl refl refl refl (recordAt i) (omega arith)) (zero-replicate 64);
+          };
+          images = λ q lo hi t. absurd (zero-image q (pageAt q) (empty-item p b l n g refl refl refl refl (pageAt q) (lo, hi)) t);
+        };
+        noted = record {
+          few = omega arith;
+          each = λ i h. absurd (omega arith);
+          tail = record {
+            gap = λ h. rw (empty-item p b l n g refl refl refl refl (noteAt 1) (omega arith)) (zero-fails 12 16 (omega arith));
+            rest = λ i h z. rw (empty-item p b l n g refl refl refl refl (noteAt i) (omega arith)) (zero-replicate 16);
+          };
+          fit = λ i h. absurd (omega arith);
+          backups = λ q lo hi z. absurd (z (ap (λ (k : Mark). k .slot) (mark-zero q [])));
+        };
+        past-ok = λ at xs i e. absurd (none at xs e);
+        live = tt;
+      }
+    where
+      none : (at : Place) (xs : List ℕ) → storedBefore at xs [] ≡ true → ⊥
+      none at xs e = true-not-false e refl
+
+-- a Make that is not refused
+pub record Made (found : List ℕ) (p b l n : ℕ) : Type 0 where
+  pub counts : validCounts p b l n ≡ true
+  pub volume-is : makeOf found p b l n .volume ≡ emptyVolume p b l n
+
+made : (found : List ℕ) (p b l n : ℕ) → refusalOf (makeOf found p b l n .answer) ≡ 0 → Made found p b l n
+unfolding makeOf makeRows
+made found p b l n e = byCases (validCounts p b l n && eqb (length found) (lengthFor p b l n))
+    (λ t. record { counts = and-left (validCounts p b l n) (eqb (length found) (lengthFor p b l n)) t; volume-is = rw t })
+    (λ t. absurd (let z : 1 ≡ 0 = rw t at e in omega arith))
+
+-- ---- a legal history
+
+module _ (h : History) (legal : Legal h) where
+  abbrev pub geometry : Geometry
+  geometry = geometryFor (h .pages) (h .slots) (h .records) (h .notes)
+
+  mk : Made (h .found) (h .pages) (h .slots) (h .records) (h .notes)
+  mk = made (h .found) (h .pages) (h .slots) (h .records) (h .notes) (legal .make)
+
+  start-tied : Tied geometry (fresh h) emptyLog
+  unfolding freshMachine
+  start-tied = rw (mk .volume-is) (fresh-tied (h .pages) (h .slots) (h .records) (h .notes) (mk .counts))
+
+  pub tied : Tied (geometryFor (h .pages) (h .slots) (h .records) (h .notes)) (reached h) (logOf h)
+  unfolding reached logOf
+  tied = all-steps geometry (h .events) (fresh h) emptyLog start-tied (legal .events)

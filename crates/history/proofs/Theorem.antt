@@ -1,0 +1,168 @@
+-- Demands 2 and 3, proved for every legal history.
+use mathlib.Core.Path.{_≡_, refl, sym, ap, _∙_, subst}
+use mathlib.Core.Logic.{_≢_, _⊎_, inl, inr, _↔_}
+use mathlib.Core.Bool.{Bool, true, false, cond, not}
+use mathlib.Core.List.{List, [], _∷_, _++_}
+use Prim.Native.Nat.{ℕ, zero, suc, _+_, _-_, _*_, _^_, _≤_, _<_}
+use native.Mathlib.Omega.{arith}
+use native.Mathlib.Decide.{ℕ-discrete}
+use lib.ListN.{length, take}
+use lib.Seq.{take-append-seam, take-at}
+use lib.Dec.{eqb}
+use borrow.Author.Tests.{eqb-true, eqb-false}
+use Rattle.laws.proofs.Tests.{byCases}
+use Rattle.laws.proofs.Fields.{bytesOf-length, read-back}
+use Rattle.model.specs.Tests.{firstOf}
+use Rattle.model.specs.Bytes.{le, bytesOf, part, splice}
+use Rattle.model.specs.Geometry.{geometryOf}
+use Rattle.model.specs.Item.{frameImage}
+use Rattle.model.specs.Index.{entryOf}
+use Rattle.model.specs.Repair.{viewOf, rebuilt}
+use Rattle.model.specs.State.{frameAt, frameBytes}
+use Rattle.model.specs.Refusals.{loadRows}
+use Rattle.model.specs.Calls.{StoredItem, loadOf, refusalOf}
+use Rattle.model.specs.AbstractLog.{Logged, AbstractLog, replay, lastPlace}
+use Rattle.model.specs.History.{Power, off, on}
+use Rattle.model.specs.Claim.{History, Legal, reached, logOf, keptOf, inspection, shown, Inspects, Loads, Agree, Begins, Demand2, Demand3}
+use Rattle.model.specs.declared.geometry.Geometry.{Geometry}
+use Rattle.model.specs.declared.state.State.{State}
+use Rattle.history.proofs.Book.{at, lastAt, lastOf, bodyOf, replayAt, last-hit, last-le, replay-last, replay-append, replay-is, last-is}
+use Rattle.history.proofs.Leaf.{frame-size}
+use Rattle.history.proofs.Records.{AllFair}
+use Rattle.history.proofs.Sections.{Sized, volume-sized}
+use Rattle.history.proofs.Inv.{Inv}
+use Rattle.history.proofs.Memory.{frame-same}
+use Rattle.history.proofs.Context.{Ctx, geo, sized, few, body-size, durable-last}
+use Rattle.history.proofs.Loads.{Loaded, loads, never-broken, load-image}
+use Rattle.history.proofs.Inspection.{inspect-blank, inspect-kept}
+use Rattle.history.proofs.Reached.{geometryFor, context, tied}
+
+-- ---- one history: Inspect
+
+module _ (h : History) (legal : Legal h) (p : ℕ) (lo : 1 ≤ p) (hi : p ≤ h .pages) (buffer : List ℕ) (size : length buffer ≡ 256) where
+  g : Geometry
+  g = geometryFor (h .pages) (h .slots) (h .records) (h .notes)
+
+  shows-blank : lastOf p (keptOf h) ≡ 0 → inspection h p buffer ≡ 7
+  shows-blank = let i = tied h legal in inspect-blank (geometryFor (h .pages) (h .slots) (h .records) (h .notes)) (reached h .volume) (keptOf h) (i .holds) (i .ns) (i .noted) p lo hi buffer size
+
+  shows-kept : lastOf p (keptOf h) ≢ 0 → (inspection h p buffer ≡ 0) × (shown h p buffer ≡ bytesOf 4 (lastOf p (keptOf h)) ++ bodyOf p (keptOf h))
+  shows-kept = let i = tied h legal in inspect-kept (geometryFor (h .pages) (h .slots) (h .records) (h .notes)) (reached h .volume) (keptOf h) (i .holds) (i .ns) (i .noted) p lo hi buffer size
+
+  shows-seven : inspection h p buffer ≡ 7 → lastOf p (keptOf h) ≡ 0
+  shows-seven e = elim (ℕ-discrete (lastOf p (keptOf h)) 0) [ yes z ↦ z | no z ↦ absurd (omega (arith, e, shows-kept z .0)) ]
+
+  inspects : Inspects h p buffer
+  inspects =
+      record {
+        blank = rw (last-is p (keptOf h)) (shows-seven, shows-blank);
+        kept = rw (last-is p (keptOf h), replay-is p (keptOf h)) shows-kept;
+      }
+
+-- ---- one history: Load
+
+module _ {g : Geometry} {v m : List ℕ} {past : List StoredItem} {s : State} {k w : List Logged} (x : Ctx g v m past s k w) (p f : ℕ) where
+  load-refusal : refusalOf (loadOf v m s p f .answer) ≡ firstOf (loadRows v m s p f)
+  unfolding loadOf
+  load-refusal = byCases (eqb (firstOf (loadRows v m s p f)) 0) (λ t. rw t (sym (eqb-true (firstOf (loadRows v m s p f)) 0 t))) (λ t. rw t)
+
+  -- where no change of the page is pending, its number and its replay are those of its durable changes
+  module _ (l : Loaded x p f) where
+    same-last : lastOf p (x .all) ≡ lastOf p k
+    same-last = l .settled ∙ durable-last x p (l .low) (l .high)
+
+    same-body : bodyOf p (x .all) ≡ bodyOf p k
+    same-body =
+        replay-last p (x .all) (length (x .all))
+        ∙ (rw (same-last, x .al .log .split) (replay-append p k w (lastOf p k) (last-le p k (length k))) ∙ sym (replay-last p k (length k)))
+
+  loaded-bytes : firstOf (loadRows v m s p f) ≡ 0
+      → (lastOf p k ≢ 0) × (frameBytes (loadOf v m s p f .memory) f ≡ frameImage p (lastOf p k) (bodyOf p k)) × (lastOf p (k ++ w) ≡ lastOf p k) × (bodyOf p (k ++ w) ≡ bodyOf p k)
+  unfolding loadOf
+  loaded-bytes e =
+      let l = loads x p f e in
+      let im = load-image x p (l .low) (l .high) (l .settled) (l .some) in
+      let pg : p ≤ 64 = omega (arith, l .high, sized x .p-high) in
+      let nm : lastOf p (x .all) ≤ 1024 = omega (arith, few x, last-le p (x .all) (length (x .all))) in
+      let sz = frame-size g p (lastOf p (x .all)) (bodyOf p (x .all)) pg nm (body-size x p) in (
+        λ z. l .some (same-last l ∙ z),
+        rw (e, geo x, im) (frame-same (x .al .F) m (x .al .memory) f (frameImage p (lastOf p (x .all)) (bodyOf p (x .all))) (l .frame-low) (l .frame-high) sz
+            ∙ rw (same-last l, same-body l)),
+        rw (← (x .al .log .split)) (same-last l),
+        rw (← (x .al .log .split)) (same-body l),
+      )
+
+loads-is : (h : History) → Legal h → (m : List ℕ) (s : State) → reached h .power ≡ on m s → (p f : ℕ) → Loads h m s p f
+loads-is h legal m s e p f =
+    let x = context (geometryFor (h .pages) (h .slots) (h .records) (h .notes)) (reached h .volume) m (reached h .past) s (logOf h)
+    (subst (λ (y : Power). Inv (geometryFor (h .pages) (h .slots) (h .records) (h .notes)) (reached h .volume) (reached h .past) y (logOf h)) e (tied h legal)) in
+    record {
+      unbroken = λ z. never-broken x p f (sym (load-refusal x p f) ∙ z);
+      loaded = λ z.
+          rw (last-is p (keptOf h), replay-is p (keptOf h), last-is p (keptOf h ++ logOf h .pending), replay-is p (keptOf h ++ logOf h .pending))
+          (loaded-bytes x p f (sym (load-refusal x p f) ∙ z));
+    }
+
+pub demand2 : Demand2
+demand2 = record { inspects = inspects; loads = loads-is }
+
+-- ---- two histories
+
+same-length : (k l m : List Logged) → Begins k m → Begins l m → length k ≡ length l → k ≡ l
+same-length k l m b c e = sym (take-append-seam k (b .0)) ∙ (rw (b .1, ← (c .1), e) (take-append-seam l (c .0)))
+
+-- a number stands in the four bytes before a body
+same-four : (n n′ : ℕ) (b b′ : List ℕ) → n ≤ 1024 → n′ ≤ 1024 → bytesOf 4 n ++ b ≡ bytesOf 4 n′ ++ b′ → n ≡ n′
+same-four n n′ b b′ h h′ e = sym (read-back 4 n b (omega arith)) ∙ (ap (le 4) e ∙ read-back 4 n′ b′ (omega arith))
+
+-- a list whose pages all have the numbers of another is no longer
+no-longer : (P : ℕ) (k l : List Logged) → AllFair P l → ((p : ℕ) → 1 ≤ p → p ≤ P → lastOf p k ≡ lastOf p l) → length l ≤ length k
+no-longer P k l fair same = go (length l) refl
+  where
+    go : (n : ℕ) → length l ≡ n → n ≤ length k
+    go zero e = omega arith
+    go (suc n) e =
+        let f = fair n (omega arith) in
+        let p = at l n .page in
+        let hit : lastOf p l ≡ suc n = rw e (last-hit p l n refl) in
+        omega (arith, last-le p k (length k), same p (f .low) (f .high))
+
+module _ (h k : History) (lh : Legal h) (lk : Legal k) (same : h .pages ≡ k .pages) (x y : List ℕ) (sx : length x ≡ 256) (sy : length y ≡ 256) where
+  -- answers that agree have the same number
+  same-number : (p : ℕ) → 1 ≤ p → p ≤ h .pages → Agree h k x y p → lastOf p (keptOf h) ≡ lastOf p (keptOf k)
+  same-number p lo hi (inl a) = shows-seven h lh p lo hi x sx (a .0) ∙ sym (shows-seven k lk p lo (omega arith) y sy (a .1))
+  same-number p lo hi (inr a) =
+      let nh : lastOf p (keptOf h) ≢ 0 = λ z. omega (arith, shows-blank h lh p lo hi x sx z, a .0) in
+      let nk : lastOf p (keptOf k) ≢ 0 = λ z. omega (arith, shows-blank k lk p lo (omega arith) y sy z, a .1) in
+      same-four (lastOf p (keptOf h)) (lastOf p (keptOf k)) (bodyOf p (keptOf h)) (bodyOf p (keptOf k)) (number-bound h lh p) (number-bound k lk p)
+      (sym (shows-kept h lh p lo hi x sx nh .1) ∙ (a .2 ∙ shows-kept k lk p lo (omega arith) y sy nk .1))
+    where
+      number-bound : (h : History) → Legal h → (p : ℕ) → lastOf p (keptOf h) ≤ 1024
+      number-bound h l p =
+          let i = tied h l in
+          omega (arith, last-le p (keptOf h) (length (keptOf h)), i .holds .room, volume-sized (geometryFor (h .pages) (h .slots) (h .records) (h .notes)) (reached h .volume) (i .holds .vol) .l-high)
+
+  -- equal lists agree
+  agree : keptOf h ≡ keptOf k → (p : ℕ) → 1 ≤ p → p ≤ h .pages → Agree h k x y p
+  agree e p lo hi = elim (ℕ-discrete (lastOf p (keptOf h)) 0) [
+    | yes z ↦ inl (shows-blank h lh p lo hi x sx z, shows-blank k lk p lo (omega arith) y sy (rw e at z))
+    | no z ↦
+        let a = shows-kept h lh p lo hi x sx z in
+        let b = shows-kept k lk p lo (omega arith) y sy (rw e at z) in
+        inr (a .0, b .0, a .1 ∙ (rw e (sym (b .1))))
+  ]
+
+  alike : (l : List Logged) → Begins (keptOf h) l → Begins (keptOf k) l → ((p : ℕ) → 1 ≤ p → p ≤ h .pages → Agree h k x y p) ↔ (length (keptOf h) ≡ length (keptOf k))
+  alike l b c = (
+    λ f.
+        let nums : (p : ℕ) → 1 ≤ p → p ≤ h .pages → lastOf p (keptOf h) ≡ lastOf p (keptOf k) = λ p lo hi. same-number p lo hi (f p lo hi) in
+        omega (
+          arith,
+          no-longer (h .pages) (keptOf h) (keptOf k) (rw same (tied k lk .holds .fair)) nums,
+          no-longer (h .pages) (keptOf k) (keptOf h) (tied h lh .holds .fair) (λ p lo hi. sym (nums p lo hi)),
+        ),
+    λ e. agree (same-length (keptOf h) (keptOf k) l b c e),
+  )
+
+pub demand3 : Demand3
+demand3 h k lh lk same l b c x y sx sy = alike h k lh lk same x y sx sy l b c
