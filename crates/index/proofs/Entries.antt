@@ -1,0 +1,49 @@
+-- Laws of the index: a page's row, and the search for a slot as a loop makes it.
+use mathlib.Core.Path.{_≡_, refl, sym, ap, _∙_}
+use mathlib.Core.Bool.{Bool, true, false, cond, _||_}
+use mathlib.Core.List.{List, [], _∷_}
+use Prim.Native.Nat.{ℕ, zero, suc, _+_, _-_, _≤_, _<_}
+use native.Mathlib.Numerals.{add-one}
+use native.Mathlib.Omega.{arith}
+use lib.Dec.{leb, eqb, lit<}
+use lib.ListN.{length, drop, getD, set, drop-of-length-le}
+use lib.Seq.{drop-cons}
+use borrow.Author.Tests.{le-leb, leb-true, eq-eqb, ne-eqb}
+use Rattle.laws.proofs.Tests.{byCases, when-true, when-false}
+use Rattle.model.specs.Index.{emptyEntry, entryOf, slotUsed, withNote, enterNote}
+use Rattle.model.specs.declared.item.Note.{Note}
+use Rattle.model.specs.declared.state.Entry.{Entry}
+use Rattle.index.specs.Rows.{rowOf}
+
+-- ---- a page's row
+
+pub row-below : (p : ℕ) → rowOf p < 64
+unfolding rowOf
+row-below p =
+    byCases (leb p 64) (λ t. let h : p ≤ 64 = leb-true p 64 t in rw t (omega arith)) (λ t. rw t (lit< tt))
+
+pub row-is : (p : ℕ) → p ≤ 64 → rowOf p ≡ p - 1
+unfolding rowOf
+row-is p h = when-true _ _ (le-leb p 64 h)
+
+-- ---- a slot in the index
+
+module _ (b : ℕ) (l : List Entry) (i : ℕ) where
+  pub used-here : i < length l → getD l i emptyEntry .slot ≡ b → slotUsed b (drop i l) ≡ true
+  unfolding slotUsed
+  used-here h e = rw (drop-cons l i emptyEntry, eq-eqb (getD l i emptyEntry .slot) b e)
+
+  pub used-on : i < length l → (getD l i emptyEntry .slot ≡ b → ⊥) → slotUsed b (drop i l) ≡ slotUsed b (drop (i + 1) l)
+  unfolding slotUsed
+  used-on h e = rw (add-one, drop-cons l i emptyEntry, ne-eqb (getD l i emptyEntry .slot) b e)
+
+  pub used-end : length l ≤ i → slotUsed b (drop i l) ≡ false
+  unfolding slotUsed
+  used-end h = rw (drop-of-length-le l h)
+
+-- ---- a note entered in a page's row
+
+pub entered : (l : List Entry) (n : Note) (i : ℕ) (e : Entry) → n .page ≤ 64 → i ≡ rowOf (n .page) → e ≡ withNote (getD l i emptyEntry) n
+    → set l i e ≡ enterNote l n
+unfolding enterNote
+entered l n i e h r k = let q : i ≡ n .page - 1 = r ∙ row-is (n .page) h in rw (k, q)

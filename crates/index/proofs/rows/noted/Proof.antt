@@ -1,0 +1,14 @@
+use borrow.Author.Tests.{eq-eqb, ne-eqb}
+use Rattle.index.proofs.rows.noted.Statement.{statement}
+use Rattle.index.proofs.rows.noted.Tie as tie
+use Rattle.index.proofs.rows.noted.Reads as reads
+use Rattle.index.proofs.rows.noted.Lts as lts
+
+returns : tie.Need-returns
+returns c = rw (eq-eqb _ _ (c .if1 .taken))
+
+returns-2 : tie.Need-returns-2
+returns-2 c = rw (ne-eqb _ _ (c .if1 .left))
+
+pub noted-spec : {M : Type 1} → statement M
+noted-spec = tie.close (tie.spec returns returns-2)
