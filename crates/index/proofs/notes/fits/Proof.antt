@@ -1,0 +1,18 @@
+use borrow.Author.Needs.{needs}
+use Rattle.index.proofs.notes.fits.Statement.{statement}
+use Rattle.index.proofs.notes.fits.Tie as tie
+use Rattle.index.proofs.notes.fits.Reads as reads
+use Rattle.index.proofs.notes.fits.Lts as lts
+use Rattle.item.proofs.note.layout.Reads as layout-reads
+
+cast-own : tie.Need-cast-own
+cast-own c = search needs
+
+layout-requires : tie.Need-layout-requires
+layout-requires c κs = search needs
+
+returns : tie.Need-returns
+returns c = rw (c .before .before .layout .ensures)
+
+pub fits-spec : {M : Type 1} → statement M
+fits-spec = tie.close (tie.spec cast-own layout-requires returns)

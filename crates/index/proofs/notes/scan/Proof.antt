@@ -1,0 +1,186 @@
+use mathlib.Core.Path.{_≡_, refl, sym, ap, _∙_}
+use mathlib.Core.Logic.{⊎-elim}
+use Prim.Native.Nat.{ℕ, suc, _+_, _-_, _≤_, _<_}
+use native.Mathlib.Omega.{arith}
+use borrow.Author.Needs.{needs}
+use borrow.Author.Tests.{not-true, not-false}
+use denote.Ref.{now}
+use Rattle.model.specs.Geometry.{noteAt, start}
+use Rattle.model.specs.Scan.{restZero, noteCount}
+use Rattle.index.proofs.Entries.{row-below}
+use Rattle.index.proofs.NotePass.{NotePassed, note-none, note-here, note-full, note-unfit, note-more, note-rest, note-kept}
+use Rattle.index.proofs.notes.scan.Statement.{statement}
+use Rattle.index.proofs.notes.scan.Tie as tie
+use Rattle.index.proofs.notes.scan.Reads as reads
+use Rattle.index.proofs.notes.scan.Lts as lts
+use Rattle.codec.proofs.checksum.holds.Reads as holds-reads
+use Rattle.index.proofs.notes.fits.Reads as fits-reads
+use Rattle.index.proofs.notes.follows.Reads as follows-reads
+use Rattle.index.proofs.notes.page.Reads as page-reads
+use Rattle.index.proofs.rows.noted.Reads as noted-reads
+use Rattle.index.proofs.rows.row.Reads as row-reads
+use Rattle.index.proofs.rows.used.Reads as used-reads
+use Rattle.index.proofs.section.broken.Reads as broken-reads
+use Rattle.index.proofs.section.rest.Reads as rest-reads
+use Rattle.item.proofs.note.read.Reads as read-reads
+use Rattle.volume.proofs.place.note.Reads as note-reads
+use Rattle.volume.proofs.place.noteat.Reads as noteat-reads
+
+abbrev Inv-loop : tie.InvT-loop
+Inv-loop v g durable index₀ notes pages slots k₀ index k = NotePassed g v k index
+
+abbrev μ-loop : tie.MeasureT-loop
+μ-loop v g durable index₀ notes pages slots k₀ index k = g .notes - k
+
+-- the row that is looked up is one of the index's
+row-at : (c : tie.After-row Inv-loop μ-loop) → c .row .result < 64
+row-at c = omega (arith, c .row .ensures, row-below (c .before .before .read .result .page))
+
+-- after the loop, its count is that of the notes
+ended : (c : tie.Left-loop Inv-loop μ-loop) → noteCount (c .before .before .before .args .g) (now (c .before .before .before .args .v)) ≡ c .before .loop .k
+ended c =
+    ⊎-elim (λ w. note-full _ _ _ _ (c .before .loop .inv) (w .left))
+    (λ w. note-here _ _ _ _ (c .before .loop .inv) _ (w .1 .ensures) (w .0 .taken) (sym (w .2 .ensures) ∙ not-true _ (w .3 .taken)))
+    (c .loop-test .came)
+
+rest-is : (c : tie.After-rest Inv-loop μ-loop) → restZero 16 (c .before .before .before .before .before .args .g .notes) (now (c .before .before .before .before .before .args .v)) (start (c .before .before .before .before .before .args .g) (noteAt 1)) (c .before .before .before .loop .k) ≡ c .rest .result
+rest-is c =
+    let a = c .before .before .before .before .before .args in
+    ap (λ (n : ℕ). restZero 16 (a .g .notes) (now (a .v)) n (c .before .before .before .loop .k)) (sym (c .before .noteat .ensures)) ∙ sym (c .rest .ensures)
+
+loop-holds : tie.Need-loop-holds Inv-loop μ-loop
+loop-holds c = note-none _ _ _ (c .before .pre .1 .1)
+
+add-note : tie.Need-add-note Inv-loop μ-loop
+add-note c = search needs
+
+note-requires : tie.Need-note-requires Inv-loop μ-loop
+note-requires c κs = search needs
+
+holds-requires : tie.Need-holds-requires Inv-loop μ-loop
+holds-requires c κs = search needs
+
+read-requires : tie.Need-read-requires Inv-loop μ-loop
+read-requires c κs = search needs
+
+cast-row : tie.Need-cast-row Inv-loop μ-loop
+cast-row c = search needs
+
+row-requires : tie.Need-row-requires Inv-loop μ-loop
+row-requires c κs = search needs
+
+mul-was : tie.Need-mul-was Inv-loop μ-loop
+mul-was c = omega (arith, row-at c)
+
+array-copy-out-was : tie.Need-array-copy-out-was Inv-loop μ-loop
+array-copy-out-was c = row-at c
+
+cast-used : tie.Need-cast-used Inv-loop μ-loop
+cast-used c = search needs
+
+used-requires : tie.Need-used-requires Inv-loop μ-loop
+used-requires c κs = search needs
+
+follows-requires : tie.Need-follows-requires Inv-loop μ-loop
+follows-requires c κs = search needs
+
+add-fits : tie.Need-add-fits Inv-loop μ-loop
+add-fits c = search needs
+
+page-requires : tie.Need-page-requires Inv-loop μ-loop
+page-requires c κs = search needs
+
+fits-requires : tie.Need-fits-requires Inv-loop μ-loop
+fits-requires c κs = search needs
+
+broken-requires : tie.Need-broken-requires Inv-loop μ-loop
+broken-requires c κs = search needs
+
+returns : tie.Need-returns Inv-loop μ-loop
+returns c =
+    c .broken .ensures
+    ∙ note-unfit _ _ _ _ (c .before .before .before .before .before .before .before .before .before .before .before .before .before .before .before .loop .inv) _ (c .before .before .before .before .before .before .before .before .before .before .before .before .before .note .ensures) (c .before .before .before .before .before .before .before .before .before .before .before .before .before .before .before .before .before .pre .0 .pages) _ (c .before .before .before .before .before .before .before .before .before .before .before .before .before .before .before .before .before .pre .1 .0) _ (c .before .before .before .before .before .before .before .before .before .before .read .ensures) _ (c .before .before .before .before .before .before .before .before .row .ensures)
+    _ _ _ _ (c .before .before .before .before .before .used .ensures) (c .before .before .before .before .follows .ensures) (c .before .before .before .page .ensures) (c .before .before .fits2 .ensures)
+    (c .before .before .before .before .before .before .before .before .before .before .before .before .before .before .loop-test .taken) (sym (c .before .before .before .before .before .before .before .before .before .before .before .before .holds .ensures) ∙ not-false _ (c .before .before .before .before .before .before .before .before .before .before .before .if1 .left)) (not-true _ (c .before .if2 .taken))
+
+noted-requires : tie.Need-noted-requires Inv-loop μ-loop
+noted-requires c κs = search needs
+
+mul-index : tie.Need-mul-index Inv-loop μ-loop
+mul-index c = omega (arith, row-at (c .before .before .before .before .before .before .before .before))
+
+array-set-from-index : tie.Need-array-set-from-index Inv-loop μ-loop
+array-set-from-index c = row-at (c .before .before .before .before .before .before .before .before)
+
+add-k : tie.Need-add-k Inv-loop μ-loop
+add-k c = omega (arith, c .before .before .before .before .before .before .before .before .before .before .before .before .before .before .loop-test .taken, c .before .before .before .before .before .before .before .before .before .before .before .before .before .before .before .before .before .pre .0 .notes)
+
+loop-less : tie.Need-loop-less Inv-loop μ-loop
+loop-less c = search needs
+
+loop-again : tie.Need-loop-again Inv-loop μ-loop
+loop-again c =
+    note-more _ _ _ _ (c .before .before .before .before .before .before .before .before .before .before .before .before .before .before .before .loop .inv) _ (c .before .before .before .before .before .before .before .before .before .before .before .before .before .note .ensures) (c .before .before .before .before .before .before .before .before .before .before .before .before .before .before .before .before .before .pre .0 .pages) _ (c .before .before .before .before .before .before .before .before .before .before .before .before .before .before .before .before .before .pre .1 .0) _ (c .before .before .before .before .before .before .before .before .before .before .read .ensures) _ (c .before .before .before .before .before .before .before .before .row .ensures)
+    _ _ _ _ (c .before .before .before .before .before .used .ensures) (c .before .before .before .before .follows .ensures) (c .before .before .before .page .ensures) (c .before .before .fits2 .ensures)
+    _ (c .noted .ensures) (c .before .before .before .before .before .before .before .before .before .before .before .before .before .before .loop-test .taken) (sym (c .before .before .before .before .before .before .before .before .before .before .before .before .holds .ensures) ∙ not-false _ (c .before .before .before .before .before .before .before .before .before .before .before .if1 .left)) (not-false _ (c .before .if2 .left))
+
+noteat-requires : tie.Need-noteat-requires Inv-loop μ-loop
+noteat-requires c κs = search needs
+
+cast-rest : tie.Need-cast-rest Inv-loop μ-loop
+cast-rest c = search needs
+
+cast-rest-2 : tie.Need-cast-rest-2 Inv-loop μ-loop
+cast-rest-2 c = search needs
+
+rest-requires : tie.Need-rest-requires Inv-loop μ-loop
+rest-requires c κs = search needs
+
+broken-requires-2 : tie.Need-broken-requires-2 Inv-loop μ-loop
+broken-requires-2 c κs = search needs
+
+returns-2 : tie.Need-returns-2 Inv-loop μ-loop
+returns-2 c =
+    c .broken2 .ensures ∙ note-rest _ _ _ _ (c .before .before .before .before .before .loop .inv) (ended (c .before .before .before .before))
+    (rest-is (c .before .before) ∙ not-true _ (c .before .if3 .taken))
+
+returns-3 : tie.Need-returns-3 Inv-loop μ-loop
+returns-3 c =
+    note-kept _ _ _ _ (c .before .before .before .before .loop .inv) (ended (c .before .before .before)) (rest-is (c .before) ∙ not-false _ (c .if3 .left))
+
+pub scan-spec : {M : Type 1} → statement M
+scan-spec =
+    tie.close
+    (tie.spec
+    Inv-loop
+    μ-loop
+    loop-holds
+    add-note
+    note-requires
+    holds-requires
+    read-requires
+    cast-row
+    row-requires
+    mul-was
+    array-copy-out-was
+    cast-used
+    used-requires
+    follows-requires
+    add-fits
+    page-requires
+    fits-requires
+    broken-requires
+    returns
+    noted-requires
+    mul-index
+    array-set-from-index
+    add-k
+    loop-less
+    loop-again
+    noteat-requires
+    cast-rest
+    cast-rest-2
+    rest-requires
+    broken-requires-2
+    returns-2
+    returns-3)
