@@ -175,12 +175,12 @@ module _ (p : ℕ) where
       let e : suc n + length l ≡ n + suc (length l) = omega arith in
       lastFrom-snoc l c (suc n) (cond (eqb (d .page) p) (suc n) f) ∙ rw e
 
-  replay-take : (l : List Logged) (n : ℕ) → n ≤ length l → replayOn p (take n l) zeroBody ≡ replayAt p l n
+  pub replay-take : (l : List Logged) (n : ℕ) → n ≤ length l → replayOn p (take n l) zeroBody ≡ replayAt p l n
   unfolding replayAt replayOn
   replay-take l zero h = refl
   replay-take l (suc n) h = rw (take-suc l n noLogged h, replayOn-snoc (take n l) (at l n) zeroBody, replay-take l n (omega arith))
 
-  last-take : (l : List Logged) (n : ℕ) → n ≤ length l → lastPlaceFrom 0 0 p (take n l) ≡ lastAt p l n
+  pub last-take : (l : List Logged) (n : ℕ) → n ≤ length l → lastPlaceFrom 0 0 p (take n l) ≡ lastAt p l n
   unfolding lastAt lastPlaceFrom
   last-take l zero h = refl
   last-take l (suc n) h =

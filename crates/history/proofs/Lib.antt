@@ -21,3 +21,6 @@ pub mod Events
 pub mod Reached
 pub mod Inspection
 pub mod Theorem
+pub mod WellFormed
+pub mod Refusals
+pub mod Facts

@@ -38,17 +38,17 @@ abbrev pub Others : ℕ → List Row → Type 0
 Others n [] = Unit {0}
 Others n (t ∷ ts) = (t .1 ≢ n) × Others n ts
 
-pub until : (n : ℕ) (ts : List Row) (b : Bool) (rest : List Row) → Others n ts → Others n rest → n ≢ 0 → firstOf (ts ++ ((b, n) ∷ rest)) ≡ n → Passed ts × (b ≡ true)
-until n [] b rest o r nz e = (tt, go b (firstOf rest) (none rest r) e)
+pub none-other : (n : ℕ) → n ≢ 0 → (ts : List Row) → Others n ts → firstOf ts ≢ n
+none-other n nz [] o = λ z. nz (sym z)
+none-other n nz (t ∷ ts) o = pick (t .0) (t .1) (firstOf ts) (o .0) (none-other n nz ts (o .1))
   where
     pick : (b : Bool) (m k : ℕ) → m ≢ n → k ≢ n → cond b m k ≢ n
     pick true m k p q = p
     pick false m k p q = q
 
-    none : (ts : List Row) → Others n ts → firstOf ts ≢ n
-    none [] o = λ z. nz (sym z)
-    none (t ∷ ts) o = pick (t .0) (t .1) (firstOf ts) (o .0) (none ts (o .1))
-
+pub until : (n : ℕ) (ts : List Row) (b : Bool) (rest : List Row) → Others n ts → Others n rest → n ≢ 0 → firstOf (ts ++ ((b, n) ∷ rest)) ≡ n → Passed ts × (b ≡ true)
+until n [] b rest o r nz e = (tt, go b (firstOf rest) (none-other n nz rest r) e)
+  where
     go : (b : Bool) (k : ℕ) → k ≢ n → cond b n k ≡ n → b ≡ true
     go true k ne e = refl
     go false k ne e = absurd (ne e)

@@ -1,0 +1,163 @@
+-- The values of the facts of every legal history.
+use mathlib.Core.Path.{_≡_, refl, sym, ap, _∙_, subst}
+use mathlib.Core.Logic.{_≢_, _⊎_, inl, inr}
+use mathlib.Core.Bool.{Bool, true, false, cond, not}
+use mathlib.Core.List.{List, [], _∷_, _++_}
+use Prim.Native.Nat.{ℕ, zero, suc, _+_, _-_, _≤_, _<_}
+use native.Mathlib.Omega.{arith}
+use native.Mathlib.Decide.{ℕ-discrete}
+use lib.ListN.{length, take}
+use lib.Dec.{eqb, ltb}
+use borrow.Author.Tests.{eqb-true, le-ltb}
+use Rattle.laws.proofs.Tests.{byCases}
+use Rattle.model.specs.Tests.{firstOf, within}
+use Rattle.model.specs.Geometry.{Place, pageAt, slotAt, geometryOf, item}
+use Rattle.model.specs.Item.{imageLsn, imageBody, validImage}
+use Rattle.model.specs.Index.{entryOf}
+use Rattle.model.specs.Scan.{indexOf}
+use Rattle.model.specs.Repair.{classOf, viewOf, classIn}
+use Rattle.model.specs.Calls.{StoredItem, inspectOf, refusalOf}
+use Rattle.model.specs.AbstractLog.{Logged, AbstractLog, lastPlace, replay}
+use Rattle.model.specs.History.{Power, off, on, isImage, storedBefore}
+use Rattle.model.specs.Claim.{History, Legal, reached, logOf, keptOf, inspection}
+use Rattle.model.specs.declared.geometry.Geometry.{Geometry}
+use Rattle.model.specs.declared.answer.Class.{Class}
+use Rattle.model.specs.declared.answer.Class.the-variants.{Good, Behind, Stale, Failed}
+use Rattle.model.specs.declared.item.Note.{Note}
+use Rattle.model.specs.declared.state.Entry.{Entry}
+use Rattle.model.specs.declared.state.State.{State}
+use Rattle.history.specs.Facts.{volumeOf, headingOf, Sound, Restarts, Answers, IsReplay, StoredImage, OwnImage, SameEntry, Facts}
+use Rattle.history.proofs.Book.{at, lastAt, lastOf, last-hit, last-ge, last-is, last-take, replay-take}
+use Rattle.history.proofs.Entries.{Mark, markAt, entryFrom, Indexed, slots-apart}
+use Rattle.history.proofs.Records.{Valid}
+use Rattle.history.proofs.Sections.{Sized, volume-sized}
+use Rattle.history.proofs.Disk.{Holds, index-is}
+use Rattle.history.proofs.Inv.{Inv}
+use Rattle.history.proofs.Context.{Ctx, entry-is, durable-last}
+use Rattle.history.proofs.WellFormed.{state-ok, memory-ok}
+use Rattle.history.proofs.Refusals.{call-ordinary, load-kept, restart-right, restart-wrong, inspect-right, inspect-wrong, inspect-kept}
+use Rattle.history.proofs.Reached.{geometryFor, context, tied}
+
+-- a good image is a replay
+is-replay : (p : ℕ) (k : List Logged) (x : List ℕ) → Rattle.history.proofs.Records.Good p k x → IsReplay p k x
+is-replay p k x f =
+    record {
+      low = omega (arith, f .lsn-is);
+      high = omega (arith, f .lsn-is, f .below);
+      place = rw (f .lsn-is) (last-take p k (suc (f .place)) (f .below) ∙ last-hit p k (f .place) (f .page-is));
+      body = rw (f .lsn-is) (f .body-is ∙ sym (replay-take p k (suc (f .place)) (f .below)));
+    }
+
+-- an image no newer than the page's last durable change is not Failed
+not-failed : (n d w : ℕ) → n ≤ d → classOf true n d w ≢ Failed
+unfolding classOf
+not-failed n d w b e = rest (eqb n d) (ltb n w) (rw (le-ltb d n b) at e)
+  where
+    rest : (a c : Bool) → cond a Good (cond c Stale Behind) ≡ Failed → ⊥
+    rest true c e = let z : _≡_ {A = ℕ} 0 1 = cc in omega arith
+    rest false true e = let z : _≡_ {A = ℕ} 0 1 = cc in omega arith
+    rest false false e = let z : _≡_ {A = ℕ} 0 1 = cc in omega arith
+
+module _ (h : History) (legal : Legal h) where
+  g : Geometry
+  g = geometryFor (h .pages) (h .slots) (h .records) (h .notes)
+
+  i : Inv (geometryFor (h .pages) (h .slots) (h .records) (h .notes)) (reached h .volume) (reached h .past) (reached h .power) (logOf h)
+  i = tied h legal
+
+  heading : headingOf h ≡ geometryFor (h .pages) (h .slots) (h .records) (h .notes)
+  heading = i .holds .vol .geo
+
+  p64 : h .pages ≤ 64
+  p64 = volume-sized (geometryFor (h .pages) (h .slots) (h .records) (h .notes)) (volumeOf h) (i .holds .vol) .p-high
+
+  -- a page's entry, as the volume gives it
+  entry : (p : ℕ) → 1 ≤ p → p ≤ h .pages → entryOf (indexOf (headingOf h) (volumeOf h)) p ≡ entryFrom (lastOf p (keptOf h)) (lastOf p (keptOf h)) (markAt p (i .ns) (length (i .ns)))
+  entry p lo hi =
+      rw heading (index-is (geometryFor (h .pages) (h .slots) (h .records) (h .notes)) (volumeOf h) (keptOf h) (i .holds) (i .ns) (i .noted) .entry p lo (omega (arith, p64)))
+
+  -- the machine that is on
+  module _ (m : List ℕ) (s : State) (e : reached h .power ≡ on m s) where
+    ctx : Ctx (geometryFor (h .pages) (h .slots) (h .records) (h .notes)) (volumeOf h) m (reached h .past) s (keptOf h) (logOf h .pending)
+    ctx = context (geometryFor (h .pages) (h .slots) (h .records) (h .notes)) (volumeOf h) m (reached h .past) s (logOf h)
+        (subst (λ (y : Power). Inv (geometryFor (h .pages) (h .slots) (h .records) (h .notes)) (volumeOf h) (reached h .past) y (logOf h)) e i)
+
+    same-entry : (p : ℕ) → 1 ≤ p → p ≤ h .pages → SameEntry h s p
+    same-entry p lo hi =
+        let a = entry-is ctx p lo hi in
+        let b : entryOf (indexOf (headingOf h) (volumeOf h)) p ≡ entryFrom (lastOf p (keptOf h)) (lastOf p (keptOf h)) (markAt p (ctx .ns) (length (ctx .ns))) =
+        rw heading (index-is (geometryFor (h .pages) (h .slots) (h .records) (h .notes)) (volumeOf h) (keptOf h) (ctx .hs) (ctx .ns) (ctx .no) .entry p lo (omega (arith, p64))) in
+        let d = durable-last ctx p lo hi in
+        record {
+          durable = ap (λ (y : Entry). y .durable) a ∙ (d ∙ sym (ap (λ (y : Entry). y .durable) b));
+          written = ap (λ (y : Entry). y .written) a ∙ sym (ap (λ (y : Entry). y .written) b);
+          slot = ap (λ (y : Entry). y .slot) a ∙ sym (ap (λ (y : Entry). y .slot) b);
+          backup = ap (λ (y : Entry). y .backup) a ∙ sym (ap (λ (y : Entry). y .backup) b);
+        }
+
+  stored-image : (at : Place) (x : List ℕ) → isImage (headingOf h) at ≡ true → storedBefore at x (reached h .past) ≡ true → StoredImage h x
+  stored-image at x r e =
+      let f = i .past-ok at x (rw heading at r) e in
+      record { page = f .page; low = f .low; high = f .high; valid = rw heading (f .valid); is-replay = is-replay (f .page) (keptOf h) x (f .good) }
+
+  module _ (p : ℕ) (lo : 1 ≤ p) (hi : p ≤ h .pages) where
+    abbrev own : List ℕ
+    own = item (headingOf h) (volumeOf h) (pageAt p)
+
+    own-good : Valid (headingOf h) p (keptOf h) own
+    own-good = rw heading (i .holds .images p lo hi)
+
+    not-above : validImage (headingOf h) p own ≡ true → imageLsn own ≤ entryOf (indexOf (headingOf h) (volumeOf h)) p .durable
+    not-above t =
+        let f = own-good t in
+        omega (arith, f .lsn-is, ap (λ (y : Entry). y .durable) (entry p lo hi), last-ge p (keptOf h) (length (keptOf h)) (f .place) (f .below) (f .page-is))
+
+    own-image : OwnImage h p
+    own-image =
+        record {
+          is-replay = λ t. is-replay p (keptOf h) own (own-good t);
+          not-above = not-above;
+          failed = λ e. byCases (validImage (headingOf h) p own)
+              (λ t. absurd (not-failed (imageLsn own) (entryOf (indexOf (headingOf h) (volumeOf h)) p .durable) (entryOf (indexOf (headingOf h) (volumeOf h)) p .written) (not-above t) (rw t at e)))
+              (λ t. t);
+        }
+
+    noted-page : Rattle.history.specs.Facts.Noted h p
+    noted-page =
+        record {
+          durable = ap (λ (y : Entry). y .durable) (entry p lo hi) ∙ sym (last-is p (keptOf h));
+          backup = λ nz t.
+              is-replay p (keptOf h) (item (headingOf h) (volumeOf h) (slotAt (entryOf (indexOf (headingOf h) (volumeOf h)) p .slot))) (copy (entryOf (indexOf (headingOf h) (volumeOf h)) p .slot)
+              (ap (λ (y : Entry). y .slot) (entry p lo hi)) nz t);
+        }
+      where
+        copy : (b : ℕ) → b ≡ markAt p (i .ns) (length (i .ns)) .slot → b ≢ 0 → Valid (headingOf h) p (keptOf h) (item (headingOf h) (volumeOf h) (slotAt b))
+        copy b q nz = rw (heading, q) (i .noted .backups p lo hi (λ z. nz (q ∙ z)))
+
+pub facts : Facts
+facts =
+    record {
+      sound = λ h l m s e. record { memory = memory-ok (ctx h l m s e); state = state-ok (ctx h l m s e) };
+      calls = λ h l m s e c. call-ordinary (ctx h l m s e) c;
+      restarts = λ h l m. record {
+        right = restart-right (geometryFor (h .pages) (h .slots) (h .records) (h .notes)) (volumeOf h) (keptOf h) (i h l .holds) (i h l .ns) (i h l .noted) m;
+        wrong = restart-wrong (geometryFor (h .pages) (h .slots) (h .records) (h .notes)) (volumeOf h) (keptOf h) (i h l .holds) (i h l .ns) (i h l .noted) m;
+      };
+      answers = λ h l p buffer. record {
+        right = inspect-right (geometryFor (h .pages) (h .slots) (h .records) (h .notes)) (volumeOf h) (keptOf h) (i h l .holds) (i h l .ns) (i h l .noted) p buffer;
+        wrong = inspect-wrong (geometryFor (h .pages) (h .slots) (h .records) (h .notes)) (volumeOf h) (keptOf h) (i h l .holds) (i h l .ns) (i h l .noted) p buffer;
+      };
+      stored = stored-image;
+      own = own-image;
+      noted = noted-page;
+      entries = same-entry;
+      slots = λ h l p q p1 p2 q1 q2 nz e.
+          let a : entryOf (indexOf (headingOf h) (volumeOf h)) p .slot ≡ markAt p (i h l .ns) (length (i h l .ns)) .slot = ap (λ (y : Entry). y .slot) (entry h l p p1 p2) in
+          let b : entryOf (indexOf (headingOf h) (volumeOf h)) q .slot ≡ markAt q (i h l .ns) (length (i h l .ns)) .slot = ap (λ (y : Entry). y .slot) (entry h l q q1 q2) in
+          slots-apart (h .pages) (h .slots) (keptOf h) (i h l .ns) (i h l .noted .fit) (p64 h l) (length (i h l .ns)) (omega arith) p q p1 (omega (arith, p64 h l)) q1 (omega (arith, p64 h l))
+          (λ z. nz (a ∙ z)) (sym a ∙ (e ∙ b));
+      loads = λ h l m s e p f nz. load-kept (ctx h l m s e) p f (λ z. nz (last-is p (keptOf h) ∙ z));
+      inspects = λ h l p buffer nz.
+          inspect-kept (geometryFor (h .pages) (h .slots) (h .records) (h .notes)) (volumeOf h) (keptOf h) (i h l .holds) (i h l .ns) (i h l .noted) p buffer
+          (λ lo hi z. nz (last-is p (keptOf h) ∙ (sym (ap (λ (y : Entry). y .durable) (index-is (geometryFor (h .pages) (h .slots) (h .records) (h .notes)) (volumeOf h) (keptOf h) (i h l .holds) (i h l .ns) (i h l .noted) .entry p lo (omega (arith, p64 h l)))) ∙ z)));
+    }

@@ -1,0 +1,169 @@
+-- Which refusals come: in a machine that keeps the invariant no call blames volume, memory, state, log, notes or chain.
+use mathlib.Core.Path.{_≡_, refl, sym, ap, _∙_, subst}
+use mathlib.Core.Logic.{_≢_, _⊎_, inl, inr}
+use mathlib.Core.Bool.{Bool, true, false, cond, not, _&&_, _||_}
+use mathlib.Core.List.{List, [], _∷_, _++_}
+use Prim.Native.Nat.{ℕ, zero, suc, _+_, _-_, _≤_, _<_}
+use native.Mathlib.Omega.{arith}
+use native.Mathlib.Decide.{ℕ-discrete}
+use lib.ListN.{length}
+use lib.Dec.{eqb}
+use borrow.Author.Tests.{eqb-true, eqb-false, eq-eqb, ne-eqb}
+use Rattle.laws.proofs.Tests.{byCases}
+use Rattle.model.specs.Tests.{Row, firstOf, within}
+use Rattle.model.specs.Geometry.{geometryOf, validVolume}
+use Rattle.model.specs.Change.{fits}
+use Rattle.model.specs.Index.{entryOf, slotUsed}
+use Rattle.model.specs.Scan.{validLog, validNotes, indexOf}
+use Rattle.model.specs.State.{frameCount, validMemory, wellFormed, held, blank, logFull, notesFull, notePending}
+use Rattle.model.specs.Refusals.{frameBlocked, pageDirty, notDurable, chainBroken, restartRows, beginRows, loadRows, changeRows, forceRows, writeRows, backupRows, noteRows, inspectRows}
+use Rattle.model.specs.Calls.{StoredItem, Outcome, unchanged, decided, refusalOf, beginOf, loadOf, changeCall, forceOf, writeOf, backupOf, noteCall, noteStored, restartOf, inspectOf, Call, begin, load, change, force, write, backup, note, rowsOf, outcomeOf}
+use Rattle.model.specs.AbstractLog.{Logged}
+use Rattle.model.specs.declared.geometry.Geometry.{Geometry}
+use Rattle.model.specs.declared.answer.Answer.{Answer}
+use Rattle.model.specs.declared.item.Note.{Note}
+use Rattle.model.specs.declared.state.PendingNote.{PendingNote}
+use Rattle.model.specs.declared.state.PendingNote.the-variants.{Absent, Present}
+use Rattle.model.specs.declared.state.State.{State}
+use Rattle.history.specs.Facts.{Ordinary}
+use Rattle.history.proofs.Book.{lastOf, last-mono}
+use Rattle.history.proofs.Disk.{Holds, Noted, valid-log, valid-notes}
+use Rattle.history.proofs.Context.{Ctx, Passed, in-range, geo, len, last-entry, durable-last}
+use Rattle.history.proofs.Loads.{Others, none-other, until, never-broken}
+use Rattle.history.proofs.WellFormed.{state-ok, memory-ok, volume-ok}
+
+-- the answer of a call is what its table says
+decided-refusal : (rows : List Row) (m : List ℕ) (s : State) (done : Outcome) → refusalOf (done .answer) ≡ 0 → refusalOf (decided rows m s done .answer) ≡ firstOf rows
+decided-refusal rows m s done z = byCases (eqb (firstOf rows) 0) (λ t. rw t (z ∙ sym (eqb-true (firstOf rows) 0 t))) (λ t. rw t)
+
+pub call-refusal : (c : Call) (v m : List ℕ) (s : State) → refusalOf (outcomeOf c v m s .answer) ≡ firstOf (rowsOf c v m s)
+unfolding beginOf loadOf changeCall forceOf writeOf backupOf noteCall
+call-refusal (begin page f fill) v m s = decided-refusal (beginRows v m s page f) m s _ refl
+call-refusal (load page f) v m s = decided-refusal (loadRows v m s page f) m s _ refl
+call-refusal (change page c payload) v m s = decided-refusal (changeRows v m s page c) m s _ refl
+call-refusal force v m s = decided-refusal (forceRows v m s) m s _ (byCases (eqb (s .pending) 0) (λ t. rw t) (λ t. rw t))
+call-refusal (write page) v m s = decided-refusal (writeRows v m s page) m s _ (byCases (pageDirty s page) (λ t. rw t) (λ t. rw t))
+call-refusal (backup page b) v m s = decided-refusal (backupRows v m s page b) m s _ refl
+call-refusal note v m s = decided-refusal (noteRows v m s) m s _ (stored (s .note))
+  where
+    stored : (y : PendingNote) → refusalOf (noteStored v m s y .answer) ≡ 0
+    stored Absent = refl
+    stored (Present y) = refl
+
+pub restart-refusal : (v m : List ℕ) → refusalOf (restartOf v m .answer) ≡ firstOf (restartRows v m)
+unfolding restartOf
+restart-refusal v m = decided-refusal (restartRows v m) m _ _ refl
+
+pub inspect-refusal : (v : List ℕ) (p : ℕ) (buffer : List ℕ) → refusalOf (inspectOf v p buffer .answer) ≡ firstOf (inspectRows v p (length buffer))
+unfolding inspectOf
+inspect-refusal v p buffer = byCases (eqb (firstOf (inspectRows v p (length buffer))) 0)
+    (λ t. rw t (sym (eqb-true (firstOf (inspectRows v p (length buffer))) 0 t))) (λ t. rw t)
+
+-- rows with none of the five numbers
+ordinary : (ts : List Row) → Others 1 ts → Others 2 ts → Others 17 ts → Others 18 ts → firstOf ts ≢ 19 → Ordinary (firstOf ts)
+ordinary ts a b c d e =
+    record {
+      not-volume = none-other 1 (λ z. omega arith) ts a;
+      not-state = none-other 2 (λ z. omega arith) ts b;
+      not-log = none-other 17 (λ z. omega arith) ts c;
+      not-notes = none-other 18 (λ z. omega arith) ts d;
+      not-chain = e;
+    }
+
+usual : (ts : List Row) → Others 1 ts → Others 2 ts → Others 17 ts → Others 18 ts → Others 19 ts → Ordinary (firstOf ts)
+usual ts a b c d e = ordinary ts a b c d (none-other 19 (λ z. omega arith) ts e)
+
+module _ {g : Geometry} {v m : List ℕ} {past : List StoredItem} {s : State} {k w : List Logged} (x : Ctx g v m past s k w) where
+  -- a call's own rows, after the rows 1 and 2
+  ownRows : Call → List Row
+  ownRows (begin page f fill) =
+      (not (within (geometryOf v .pages) page), 3) ∷ (not (within (frameCount (length m)) f), 4) ∷ (not (blank s page), 9) ∷ (frameBlocked s f, 10) ∷ (eqb (s .pending) 16, 11)
+      ∷ (logFull (geometryOf v) s, 12) ∷ []
+  ownRows (load page f) =
+      (not (within (geometryOf v .pages) page), 3) ∷ (not (within (frameCount (length m)) f), 4) ∷ (blank s page, 7) ∷ (held s page, 9) ∷ (frameBlocked s f, 10)
+      ∷ (chainBroken (geometryOf v) v s page, 19) ∷ []
+  ownRows (change page c payload) =
+      (not (within (geometryOf v .pages) page), 3) ∷ (not (fits c), 6) ∷ (not (held s page), 8) ∷ (eqb (s .pending) 16, 11) ∷ (logFull (geometryOf v) s, 12) ∷ []
+  ownRows force = []
+  ownRows (write page) =
+      (not (within (geometryOf v .pages) page), 3) ∷ (not (held s page), 8) ∷ (pageDirty s page && notePending (s .note), 13) ∷ (pageDirty s page && notesFull (geometryOf v) s, 14)
+      ∷ (pageDirty s page && notDurable m s page, 15) ∷ []
+  ownRows (backup page b) =
+      (not (within (geometryOf v .pages) page), 3) ∷ (not (within (geometryOf v .slots) b), 5) ∷ (not (held s page), 8) ∷ (notePending (s .note), 13)
+      ∷ (notesFull (geometryOf v) s, 14) ∷ (notDurable m s page, 15) ∷ (slotUsed b (s .index), 16) ∷ []
+  ownRows note = []
+
+  -- the rows 1 and 2 do not hold
+  rows-are : (c : Call) → firstOf (rowsOf c v m s) ≡ firstOf (ownRows c)
+  unfolding ownRows beginRows loadRows changeRows forceRows writeRows backupRows noteRows
+  rows-are (begin page f fill) = rw (volume-ok x, memory-ok x, state-ok x)
+  rows-are (load page f) = rw (volume-ok x, memory-ok x, state-ok x)
+  rows-are (change page c payload) = rw (volume-ok x, memory-ok x, state-ok x)
+  rows-are force = rw (volume-ok x, memory-ok x, state-ok x)
+  rows-are (write page) = rw (volume-ok x, memory-ok x, state-ok x)
+  rows-are (backup page b) = rw (volume-ok x, memory-ok x, state-ok x)
+  rows-are note = rw (volume-ok x, memory-ok x, state-ok x)
+
+  own-ordinary : (c : Call) → Ordinary (firstOf (ownRows c))
+  unfolding ownRows
+  own-ordinary (begin page f fill) = usual (ownRows (begin page f fill)) (omega arith) (omega arith) (omega arith) (omega arith) (omega arith)
+  own-ordinary (load page f) =
+      ordinary (ownRows (load page f)) (omega arith) (omega arith) (omega arith) (omega arith) (λ e. never-broken x page f (rows-are (load page f) ∙ e))
+  own-ordinary (change page c payload) = usual (ownRows (change page c payload)) (omega arith) (omega arith) (omega arith) (omega arith) (omega arith)
+  own-ordinary force = usual [] tt tt tt tt tt
+  own-ordinary (write page) = usual (ownRows (write page)) (omega arith) (omega arith) (omega arith) (omega arith) (omega arith)
+  own-ordinary (backup page b) = usual (ownRows (backup page b)) (omega arith) (omega arith) (omega arith) (omega arith) (omega arith)
+  own-ordinary note = usual [] tt tt tt tt tt
+
+  pub call-ordinary : (c : Call) → Ordinary (refusalOf (outcomeOf c v m s .answer))
+  call-ordinary c = rw (call-refusal c v m s, rows-are c) (own-ordinary c)
+
+  -- a page with a durable change is not blank
+  pub load-kept : (p f : ℕ) → lastOf p k ≢ 0 → refusalOf (loadOf v m s p f .answer) ≢ 7
+  unfolding ownRows
+  load-kept p f nz e =
+      let u = until 7 ((not (within (geometryOf v .pages) p), 3) ∷ (not (within (frameCount (length m)) f), 4) ∷ []) (blank s p)
+      ((held s p, 9) ∷ (frameBlocked s f, 10) ∷ (chainBroken (geometryOf v) v s p, 19) ∷ []) (omega arith) (omega arith) (λ z. omega arith)
+      (sym (rows-are (load p f)) ∙ (sym (call-refusal (load p f) v m s) ∙ e)) in
+      let r : (1 ≤ p) × (p ≤ g .pages) = rw (geo x) at (in-range (geometryOf v .pages) p (u .0 .0)) in
+      let z : lastOf p (x .all) ≡ 0 = sym (last-entry x p (r .0) (r .1)) ∙ eqb-true (entryOf (s .index) p .last) 0 (u .1) in
+      nz (let le = last-mono p (x .all) (length (x .all)) (length k) (omega (arith, len x)) in omega (arith, durable-last x p (r .0) (r .1)))
+
+-- ---- Restart and Inspect, on any volume that holds a list of changes and notes
+
+module _ (g : Geometry) (v : List ℕ) (k : List Logged) (h : Holds g v k) (ns : List Note) (o : Noted g v k ns) where
+  pub restart-right : (m : List ℕ) → validMemory (length m) ≡ true → refusalOf (restartOf v m .answer) ≡ 0
+  unfolding restartRows
+  restart-right m t = restart-refusal v m ∙ rw (h .vol .geo, h .vol .ok, t, valid-log g v k h, valid-notes g v k h ns o)
+
+  pub restart-wrong : (m : List ℕ) → validMemory (length m) ≡ false → refusalOf (restartOf v m .answer) ≡ 2
+  unfolding restartRows
+  restart-wrong m t = restart-refusal v m ∙ rw (h .vol .ok, t)
+
+  shortRows : ℕ → List Row
+  shortRows p = (not (within (g .pages) p), 3) ∷ (eqb (entryOf (indexOf g v) p .durable) 0, 7) ∷ []
+
+  inspect-rows : (p size : ℕ) → size ≡ 256 → firstOf (inspectRows v p size) ≡ firstOf (shortRows p)
+  unfolding inspectRows shortRows
+  inspect-rows p size e = rw (h .vol .geo, h .vol .ok, eq-eqb size 256 e, valid-log g v k h, valid-notes g v k h ns o)
+
+  pub inspect-right : (p : ℕ) (buffer : List ℕ) → length buffer ≡ 256 → Ordinary (refusalOf (inspectOf v p buffer .answer))
+  unfolding shortRows
+  inspect-right p buffer e =
+      rw (inspect-refusal v p buffer, inspect-rows p (length buffer) e) (usual (shortRows p) (omega arith) (omega arith) (omega arith) (omega arith) (omega arith))
+
+  pub inspect-wrong : (p : ℕ) (buffer : List ℕ) → length buffer ≢ 256 → refusalOf (inspectOf v p buffer .answer) ≡ 2
+  unfolding inspectRows
+  inspect-wrong p buffer e = inspect-refusal v p buffer ∙ rw (h .vol .ok, ne-eqb (length buffer) 256 e)
+
+  -- a page with a durable change is not refused 7
+  pub inspect-kept : (p : ℕ) (buffer : List ℕ) → (1 ≤ p → p ≤ g .pages → entryOf (indexOf g v) p .durable ≢ 0) → refusalOf (inspectOf v p buffer .answer) ≢ 7
+  unfolding shortRows
+  inspect-kept p buffer nz e = elim (ℕ-discrete (length buffer) 256) [
+    | yes y ↦
+        let u = until 7 ((not (within (g .pages) p), 3) ∷ []) (eqb (entryOf (indexOf g v) p .durable) 0) [] (omega arith) tt (λ z. omega arith)
+        (sym (inspect-rows p (length buffer) y) ∙ (sym (inspect-refusal v p buffer) ∙ e)) in
+        let r = in-range (g .pages) p (u .0 .0) in
+        nz (r .0) (r .1) (eqb-true (entryOf (indexOf g v) p .durable) 0 (u .1))
+    | no z ↦ omega (arith, inspect-wrong p buffer z)
+  ]

@@ -1,0 +1,113 @@
+-- Facts of every legal history, beside demands 2 and 3: which refusals never come, that the state is well formed, that every image that
+-- was stored is a replay, and what the index says. Their values are in proofs/.
+use Prim.Native.Nat.{ℕ, _≤_}
+use mathlib.Core.Path.{_≡_}
+use mathlib.Core.Logic.{_≢_}
+use mathlib.Core.Bool.{Bool, true, false}
+use mathlib.Core.List.{List}
+use lib.ListN.{length, take}
+use Rattle.model.specs.Geometry.{Place, pageAt, slotAt, geometryOf, item}
+use Rattle.model.specs.Item.{imageLsn, imageBody, validImage}
+use Rattle.model.specs.Index.{entryOf}
+use Rattle.model.specs.Scan.{indexOf}
+use Rattle.model.specs.Repair.{viewOf, classIn}
+use Rattle.model.specs.State.{frameCount, validMemory, wellFormed}
+use Rattle.model.specs.Calls.{Call, outcomeOf, restartOf, loadOf, refusalOf}
+use Rattle.model.specs.AbstractLog.{Logged, lastPlace, replay}
+use Rattle.model.specs.History.{on, isImage, storedBefore}
+use Rattle.model.specs.Claim.{History, Legal, reached, keptOf, inspection}
+use Rattle.model.specs.declared.geometry.Geometry.{Geometry}
+use Rattle.model.specs.declared.answer.Class.the-variants.{Failed}
+use Rattle.model.specs.declared.state.State.{State}
+
+abbrev pub volumeOf : History → List ℕ
+volumeOf h = reached h .volume
+
+abbrev pub headingOf : History → Geometry
+headingOf h = geometryOf (volumeOf h)
+
+-- ---- the live machine and its answers
+
+-- memory and state are as every call asks
+pub record Sound (h : History) (m : List ℕ) (s : State) : Type 0 where
+  pub memory : validMemory (length m) ≡ true
+  pub state : wellFormed (headingOf h) (frameCount (length m)) s ≡ true
+
+-- an answer that blames neither volume, memory, state, log, notes nor chain
+pub record Ordinary (refusal : ℕ) : Type 0 where
+  pub not-volume : refusal ≢ 1
+  pub not-state : refusal ≢ 2
+  pub not-log : refusal ≢ 17
+  pub not-notes : refusal ≢ 18
+  pub not-chain : refusal ≢ 19
+
+-- a Restart is refused for the memory's size alone
+pub record Restarts (h : History) (m : List ℕ) : Type 0 where
+  pub right : validMemory (length m) ≡ true → refusalOf (restartOf (volumeOf h) m .answer) ≡ 0
+  pub wrong : validMemory (length m) ≡ false → refusalOf (restartOf (volumeOf h) m .answer) ≡ 2
+
+-- an inspection is refused for the buffer's size, for a page out of range or for a blank one
+pub record Answers (h : History) (p : ℕ) (buffer : List ℕ) : Type 0 where
+  pub right : length buffer ≡ 256 → Ordinary (inspection h p buffer)
+  pub wrong : length buffer ≢ 256 → inspection h p buffer ≡ 2
+
+-- ---- images
+
+-- the image is page p's replay at one of the page's durable changes
+pub record IsReplay (p : ℕ) (kept : List Logged) (x : List ℕ) : Type 0 where
+  pub low : 1 ≤ imageLsn x
+  pub high : imageLsn x ≤ length kept
+  pub place : lastPlace p (take (imageLsn x) kept) ≡ imageLsn x
+  pub body : imageBody x ≡ replay p (take (imageLsn x) kept)
+
+-- an image that a call stored is some page's
+pub record StoredImage (h : History) (x : List ℕ) : Type 0 where
+  pub page : ℕ
+  pub low : 1 ≤ page
+  pub high : page ≤ h .pages
+  pub valid : validImage (headingOf h) page x ≡ true
+  pub is-replay : IsReplay page (keptOf h) x
+
+-- a page's own image: where it is valid it is a replay, and no newer than the page's last durable change; so the class is Failed only where
+-- it is not valid
+pub record OwnImage (h : History) (p : ℕ) : Type 0 where
+  pub is-replay : validImage (headingOf h) p (item (headingOf h) (volumeOf h) (pageAt p)) ≡ true → IsReplay p (keptOf h) (item (headingOf h) (volumeOf h) (pageAt p))
+  pub not-above : validImage (headingOf h) p (item (headingOf h) (volumeOf h) (pageAt p)) ≡ true
+      → imageLsn (item (headingOf h) (volumeOf h) (pageAt p)) ≤ entryOf (indexOf (headingOf h) (volumeOf h)) p .durable
+  pub failed : classIn (headingOf h) p (viewOf (headingOf h) (volumeOf h) (entryOf (indexOf (headingOf h) (volumeOf h)) p) p) ≡ Failed
+      → validImage (headingOf h) p (item (headingOf h) (volumeOf h) (pageAt p)) ≡ false
+
+-- ---- the index
+
+-- what the volume's log and notes say of page p, and the image that they name as its backup
+pub record Noted (h : History) (p : ℕ) : Type 0 where
+  pub durable : entryOf (indexOf (headingOf h) (volumeOf h)) p .durable ≡ lastPlace p (keptOf h)
+  pub backup : entryOf (indexOf (headingOf h) (volumeOf h)) p .slot ≢ 0
+      → validImage (headingOf h) p (item (headingOf h) (volumeOf h) (slotAt (entryOf (indexOf (headingOf h) (volumeOf h)) p .slot))) ≡ true
+      → IsReplay p (keptOf h) (item (headingOf h) (volumeOf h) (slotAt (entryOf (indexOf (headingOf h) (volumeOf h)) p .slot)))
+
+-- the live state says of page p what the volume says
+pub record SameEntry (h : History) (s : State) (p : ℕ) : Type 0 where
+  pub durable : entryOf (s .index) p .durable ≡ entryOf (indexOf (headingOf h) (volumeOf h)) p .durable
+  pub written : entryOf (s .index) p .written ≡ entryOf (indexOf (headingOf h) (volumeOf h)) p .written
+  pub slot : entryOf (s .index) p .slot ≡ entryOf (indexOf (headingOf h) (volumeOf h)) p .slot
+  pub backup : entryOf (s .index) p .backup ≡ entryOf (indexOf (headingOf h) (volumeOf h)) p .backup
+
+-- ---- all of them
+
+pub record Facts : Type 0 where
+  pub sound : (h : History) → Legal h → (m : List ℕ) (s : State) → reached h .power ≡ on m s → Sound h m s
+  pub calls : (h : History) → Legal h → (m : List ℕ) (s : State) → reached h .power ≡ on m s → (c : Call) → Ordinary (refusalOf (outcomeOf c (volumeOf h) m s .answer))
+  pub restarts : (h : History) → Legal h → (m : List ℕ) → Restarts h m
+  pub answers : (h : History) → Legal h → (p : ℕ) (buffer : List ℕ) → Answers h p buffer
+  pub stored : (h : History) → Legal h → (at : Place) (x : List ℕ) → isImage (headingOf h) at ≡ true → storedBefore at x (reached h .past) ≡ true → StoredImage h x
+  pub own : (h : History) → Legal h → (p : ℕ) → 1 ≤ p → p ≤ h .pages → OwnImage h p
+  pub noted : (h : History) → Legal h → (p : ℕ) → 1 ≤ p → p ≤ h .pages → Noted h p
+  pub entries : (h : History) → Legal h → (m : List ℕ) (s : State) → reached h .power ≡ on m s → (p : ℕ) → 1 ≤ p → p ≤ h .pages → SameEntry h s p
+  -- no two pages share a slot
+  pub slots : (h : History) → Legal h → (p q : ℕ) → 1 ≤ p → p ≤ h .pages → 1 ≤ q → q ≤ h .pages → entryOf (indexOf (headingOf h) (volumeOf h)) p .slot ≢ 0
+      → entryOf (indexOf (headingOf h) (volumeOf h)) p .slot ≡ entryOf (indexOf (headingOf h) (volumeOf h)) q .slot → p ≡ q
+  -- a page with a durable change is never refused 7
+  pub loads : (h : History) → Legal h → (m : List ℕ) (s : State) → reached h .power ≡ on m s → (p f : ℕ) → lastPlace p (keptOf h) ≢ 0
+      → refusalOf (loadOf (volumeOf h) m s p f .answer) ≢ 7
+  pub inspects : (h : History) → Legal h → (p : ℕ) (buffer : List ℕ) → lastPlace p (keptOf h) ≢ 0 → inspection h p buffer ≢ 7
