@@ -1,15 +1,15 @@
 -- Laws of a change: what it needs of the payload and the body, and what the bytes that the code moves and puts come to.
 use Prim.Native.Nat.{ℕ, _+_, _-_, _≤_}
-use mathlib.Core.Path.{_≡_, refl, ap, sym, subst, _∙_}
-use mathlib.Core.List.{List, [], _∷_, _++_}
-use mathlib.Core.Bool.{Bool, true, false, _&&_, _||_}
+use mathlib.Core.Path.{_≡_, refl, ap, subst, _∙_}
+use mathlib.Core.List.{List, _++_}
+use mathlib.Core.Bool.{true, _&&_, _||_}
 use native.Mathlib.Omega.{arith}
 use lib.Dec.{leb, eqb, lit≤}
 use lib.ListN.{length, take, drop, replicate}
 use lib.Seq.{take-append-le, drop-at, take-take, length-take-le}
 use borrow.Author.Tests.{le-leb}
 use Rattle.laws.proofs.Tests.{and-left, and-right, and-both, byCases}
-use Rattle.laws.proofs.Changes.{Fits, fits-facts}
+use Rattle.laws.proofs.Changes.{fits-facts}
 use Rattle.model.specs.Tests.{within}
 use Rattle.model.specs.Bytes.{splice}
 use Rattle.model.specs.Change.{changeFits, fits, changeOf, kindOf, offsetOf, lengthOf, fillOf, applyChange}

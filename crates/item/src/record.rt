@@ -37,8 +37,8 @@ fn padding(r: &[u8], n: usize) -> bool
     if 44 < n {
         return true;
     }
-    let from = 16 + n;
-    part::zero(&r[from..60])
+    let rest = 16 + n;
+    part::zero(&r[rest..60])
 }
 
 // The layout: the kind's rule, byte 15 and the payload past the length.

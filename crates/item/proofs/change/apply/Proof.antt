@@ -1,3 +1,4 @@
+-- `change::apply`: each arm makes what `applyChange` says of its kind.
 use borrow.Author.Needs.{needs}
 use native.Mathlib.Omega.{arith}
 use native.Mathlib.Nat.{sub-zero}
@@ -7,11 +8,6 @@ use Rattle.item.proofs.Changes.{Ready}
 use Rattle.item.proofs.Changes.{put-ready, slide-ready, format-is, put-is, slide-is}
 use Rattle.item.proofs.change.apply.Statement.{statement}
 use Rattle.item.proofs.change.apply.Tie as tie
-use Rattle.item.proofs.change.apply.Reads as reads
-use Rattle.item.proofs.change.apply.Lts as lts
-use Rattle.codec.proofs.part.fill.Reads as fill-reads
-use Rattle.codec.proofs.part.put.Reads as put-reads
-use Rattle.item.proofs.change.raise.Reads as raise-reads
 
 -- what is known where the put, and where the slide, has been told
 put-known : (c : tie.After-c2) → Ready (c .c2 .given .0 .0) (c .c2 .given .0 .1 .0) (now (c .before .before .before .before .args .payload)) (now (c .before .before .before .before .args .body))
@@ -20,110 +16,86 @@ put-known c = put-ready _ _ _ (c .before .before .before .before .pre) _ _ (c .c
 slide-known : (c : tie.After-c3) → Ready (c .c3 .given .0 .0) (c .c3 .given .0 .1 .0) (now (c .before .before .before .before .args .payload)) (now (c .before .before .before .before .args .body))
 slide-known c = slide-ready _ _ _ (c .before .before .before .before .pre) _ _ (c .c3 .given .1)
 
--- src/change.rt:51:26
 enum-known-c : tie.Need-enum-known-c
 enum-known-c c = search needs
 
--- src/change.rt:51:36
 fill-requires : tie.Need-fill-requires
 fill-requires c κs = search needs
 
--- src/change.rt:52:23
 enum-known-c-2 : tie.Need-enum-known-c-2
 enum-known-c-2 c = search needs
 
--- src/change.rt:53:21
 cast-n : tie.Need-cast-n
 cast-n c = search needs
 
--- src/change.rt:54:29
 cast-put : tie.Need-cast-put
 cast-put c = search needs
 
--- src/change.rt:54:46
 sub-put : tie.Need-sub-put
 sub-put c = search needs
 
--- src/change.rt:54:46
 part-put-start : tie.Need-part-put-start
 part-put-start c = search needs
 
--- src/change.rt:54:46
 part-put-end : tie.Need-part-put-end
 part-put-end c = omega (arith, put-known (c .before .before) .held)
 
--- src/change.rt:54:13
 put-requires : tie.Need-put-requires
 put-requires c κs =
     let z = put-known (c .before .before .before) in
     simp (sub-zero, length-take) (omega (arith, z .room, z .held, z .body))
 
--- src/change.rt:56:25
 enum-known-c-3 : tie.Need-enum-known-c-3
 enum-known-c-3 c = search needs
 
--- src/change.rt:57:21
 cast-n-2 : tie.Need-cast-n-2
 cast-n-2 c = search needs
 
--- src/change.rt:58:25
 cast-raise : tie.Need-cast-raise
 cast-raise c = search needs
 
--- src/change.rt:58:13
 raise-requires : tie.Need-raise-requires
 raise-requires c κs =
     let z = slide-known (c .before .before) in
     omega (arith, z .room, z .body)
 
--- src/change.rt:59:29
 cast-put-2 : tie.Need-cast-put-2
 cast-put-2 c = search needs
 
--- src/change.rt:59:46
 sub-put-2 : tie.Need-sub-put-2
 sub-put-2 c = search needs
 
--- src/change.rt:59:46
 part-put-start-2 : tie.Need-part-put-start-2
 part-put-start-2 c = search needs
 
--- src/change.rt:59:46
 part-put-end-2 : tie.Need-part-put-end-2
 part-put-end-2 c = omega (arith, slide-known (c .before .before .before .before .before .before) .held)
 
--- src/change.rt:59:13
 put-requires-2 : tie.Need-put-requires-2
 put-requires-2 c κs =
     let r = c .before .before .before .before in
     let z = slide-known (r .before .before .before) in
     simp (sub-zero, length-take) (omega (arith, z .room, z .held, z .body, r .raise .kept))
 
--- src/change.rt:46:1
 same-length : tie.Need-same-length
 same-length c = search needs
 
--- src/change.rt:46:1
 returns : tie.Need-returns
 returns c =
     let s = c .before .before .before .before .before in
     format-is _ _ _ _ _ (s .c .given .1) (s .before .before .before .before .pre .2) (c .before .before .fill .ensures)
 
--- src/change.rt:46:1
 same-length-2 : tie.Need-same-length-2
 same-length-2 c = search needs
 
--- src/change.rt:46:1
 returns-2 : tie.Need-returns-2
 returns-2 c =
     let s = c .before .before .before .before .before .before in
     put-is _ _ _ _ _ _ (s .c2 .given .1) (put-known s) (simp sub-zero at (c .before .before .put .ensures))
 
--- src/change.rt:46:1
 same-length-3 : tie.Need-same-length-3
 same-length-3 c = search needs
 
--- src/change.rt:46:1
 returns-3 : tie.Need-returns-3
 returns-3 c =
     let r = c .before .before .before .before .before .before .before in

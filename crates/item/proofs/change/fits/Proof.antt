@@ -1,16 +1,13 @@
+-- `change::fits` is the rule of `model`: the tests are its own.
 use borrow.Author.Needs.{needs}
 use mathlib.Core.Path.{refl}
 use Rattle.model.specs.Change.{changeFits}
 use Rattle.item.proofs.change.fits.Statement.{statement}
 use Rattle.item.proofs.change.fits.Tie as tie
-use Rattle.item.proofs.change.fits.Reads as reads
-use Rattle.item.proofs.change.fits.Lts as lts
 
--- src/change.rt:15:15
 add-end : tie.Need-add-end
 add-end c = search needs
 
--- src/change.rt:11:1
 returns : tie.Need-returns
 unfolding changeFits
 returns c = refl

@@ -1,65 +1,49 @@
+-- `change::obeys` asks the rule with the numbers of each kind.
 use borrow.Author.Needs.{needs}
 use mathlib.Core.Path.{sym, ap, _∙_}
 use Rattle.model.specs.Change.{fits}
 use Rattle.item.proofs.change.obeys.Statement.{statement}
 use Rattle.item.proofs.change.obeys.Tie as tie
-use Rattle.item.proofs.change.obeys.Reads as reads
-use Rattle.item.proofs.change.obeys.Lts as lts
-use Rattle.item.proofs.change.fits.Reads as fits-reads
 
--- src/change.rt:25:26
 enum-known-c : tie.Need-enum-known-c
 enum-known-c c = search needs
 
--- src/change.rt:25:50
 cast-fits : tie.Need-cast-fits
 cast-fits c = search needs
 
--- src/change.rt:25:36
 fits-requires : tie.Need-fits-requires
 fits-requires c κs = search needs
 
--- src/change.rt:26:23
 enum-known-c-2 : tie.Need-enum-known-c-2
 enum-known-c-2 c = search needs
 
--- src/change.rt:26:51
 cast-fits-2 : tie.Need-cast-fits-2
 cast-fits-2 c = search needs
 
--- src/change.rt:26:66
 cast-fits-3 : tie.Need-cast-fits-3
 cast-fits-3 c = search needs
 
--- src/change.rt:26:43
 fits-requires-2 : tie.Need-fits-requires-2
 fits-requires-2 c κs = search needs
 
--- src/change.rt:27:25
 enum-known-c-3 : tie.Need-enum-known-c-3
 enum-known-c-3 c = search needs
 
--- src/change.rt:27:53
 cast-fits-4 : tie.Need-cast-fits-4
 cast-fits-4 c = search needs
 
--- src/change.rt:27:68
 cast-fits-5 : tie.Need-cast-fits-5
 cast-fits-5 c = search needs
 
--- src/change.rt:27:45
 fits-requires-3 : tie.Need-fits-requires-3
 fits-requires-3 c κs = search needs
 
--- src/change.rt:21:1
 returns : tie.Need-returns
 returns c = c .fits2 .ensures ∙ sym (ap fits (c .before .before .c .given .1))
 
--- src/change.rt:21:1
 returns-2 : tie.Need-returns-2
 returns-2 c = c .fits3 .ensures ∙ sym (ap fits (c .before .before .c2 .given .1))
 
--- src/change.rt:21:1
 returns-3 : tie.Need-returns-3
 returns-3 c = c .fits4 .ensures ∙ sym (ap fits (c .before .before .c3 .given .1))
 

@@ -1,3 +1,4 @@
+-- `change::raise`: in the loop the bytes from `i` on are moved, and those before are not yet.
 use mathlib.Core.Path.{_≡_, refl, sym, ap, _∙_}
 use Prim.Native.Nat.{ℕ, _+_, _-_, _≤_}
 use native.Mathlib.Omega.{arith}
@@ -7,8 +8,6 @@ use borrow.Author.Needs.{needs}
 use Rattle.item.proofs.Slides.{moved, moved-none, moved-on, moved-all}
 use Rattle.item.proofs.change.raise.Statement.{statement}
 use Rattle.item.proofs.change.raise.Tie as tie
-use Rattle.item.proofs.change.raise.Reads as reads
-use Rattle.item.proofs.change.raise.Lts as lts
 
 abbrev Inv-loop : tie.InvT-loop
 Inv-loop s₀ at n i₀ s i = (at + n ≤ i) × (i ≤ length s₀) × (length s ≡ length s₀) × (s ≡ moved s₀ n i)
@@ -16,35 +15,27 @@ Inv-loop s₀ at n i₀ s i = (at + n ≤ i) × (i ≤ length s₀) × (length s
 abbrev μ-loop : tie.MeasureT-loop
 μ-loop s₀ at n i₀ s i = i
 
--- src/change.rt:38:5
 loop-holds : tie.Need-loop-holds Inv-loop μ-loop
 loop-holds c = (search needs, search needs, refl, sym (moved-none (now (c .args .s)) (c .args .n)))
 
--- src/change.rt:38:11
 add-loop : tie.Need-add-loop Inv-loop μ-loop
 add-loop c = search needs
 
--- src/change.rt:39:17
 sub-k : tie.Need-sub-k Inv-loop μ-loop
 sub-k c = search needs
 
--- src/change.rt:40:18
 sub-s : tie.Need-sub-s Inv-loop μ-loop
 sub-s c = search needs
 
--- src/change.rt:40:16
 slice-read-s : tie.Need-slice-read-s Inv-loop μ-loop
 slice-read-s c = search needs
 
--- src/change.rt:40:9
 slice-write-s : tie.Need-slice-write-s Inv-loop μ-loop
 slice-write-s c = search needs
 
--- src/change.rt:38:5
 loop-less : tie.Need-loop-less Inv-loop μ-loop
 loop-less c = search needs
 
--- src/change.rt:38:5
 loop-again : tie.Need-loop-again Inv-loop μ-loop
 loop-again c =
     let a = c .before .before .before .args in
@@ -53,11 +44,9 @@ loop-again c =
     let e : l .i ≡ l .i - 1 + 1 = omega arith in
     (search needs, search needs, search needs, rw (l .inv .3) (ap (λ (j : ℕ). set (moved xs (a .n) j) (l .i - 1) (getD (moved xs (a .n) j) (l .i - 1 - a .n) 0)) e ∙ moved-on xs (a .n) (l .i - 1) (omega arith) (omega arith)))
 
--- src/change.rt:33:1
 same-length : tie.Need-same-length Inv-loop μ-loop
 same-length c = search needs
 
--- src/change.rt:33:1
 returns : tie.Need-returns Inv-loop μ-loop
 returns c =
     let a = c .before .before .args in

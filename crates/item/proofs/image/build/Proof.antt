@@ -1,38 +1,28 @@
+-- `image::build`: four fields written around a body make a frame's image.
 use borrow.Author.Needs.{needs}
 use denote.Ref.{now}
 use Rattle.item.proofs.Builds.{image-is}
 use Rattle.item.proofs.image.build.Statement.{statement}
 use Rattle.item.proofs.image.build.Tie as tie
-use Rattle.item.proofs.image.build.Reads as reads
-use Rattle.item.proofs.image.build.Lts as lts
-use Rattle.codec.proofs.field.put16.Reads as put16-reads
-use Rattle.codec.proofs.field.put32.Reads as put32-reads
 
--- src/image.rt:23:26
 cast-put16 : tie.Need-cast-put16
 cast-put16 c = search needs
 
--- src/image.rt:23:5
 put16-requires : tie.Need-put16-requires
 put16-requires c κs = search needs
 
--- src/image.rt:24:5
 put16-requires-2 : tie.Need-put16-requires-2
 put16-requires-2 c κs = search needs
 
--- src/image.rt:25:5
 put32-requires : tie.Need-put32-requires
 put32-requires c κs = search needs
 
--- src/image.rt:26:5
 put32-requires-2 : tie.Need-put32-requires-2
 put32-requires-2 c κs = search needs
 
--- src/image.rt:19:1
 same-length : tie.Need-same-length
 same-length c = search needs
 
--- src/image.rt:19:1
 returns : tie.Need-returns
 returns c =
     let e₄ = c .before .before in

@@ -1,29 +1,21 @@
+-- `image::valid` makes the three tests of `validImage`.
 use borrow.Author.Needs.{needs}
 use Rattle.model.specs.Item.{validImage}
 use Rattle.item.proofs.image.valid.Statement.{statement}
 use Rattle.item.proofs.image.valid.Tie as tie
-use Rattle.item.proofs.image.valid.Reads as reads
-use Rattle.item.proofs.image.valid.Lts as lts
-use Rattle.codec.proofs.checksum.holds.Reads as holds-reads
-use Rattle.codec.proofs.field.u16at.Reads as u16at-reads
 
--- src/image.rt:24:16
 u16at-requires : tie.Need-u16at-requires
 u16at-requires c κs = search needs
 
--- src/image.rt:24:16
 cast-page : tie.Need-cast-page
 cast-page c = search needs
 
--- src/image.rt:25:9
 u16at-requires-2 : tie.Need-u16at-requires-2
 u16at-requires-2 c κs = search needs
 
--- src/image.rt:26:5
 holds-requires : tie.Need-holds-requires
 holds-requires c κs = search needs
 
--- src/image.rt:21:1
 returns : tie.Need-returns
 unfolding validImage
 returns c = rw (c .holds .ensures, c .before .before .u16at .ensures, c .before .u16at2 .ensures)

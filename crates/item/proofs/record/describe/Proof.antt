@@ -1,40 +1,32 @@
+-- `record::describe` gives the fields of each kind.
 use borrow.Author.Needs.{needs}
 use mathlib.Core.Path.{sym, ap}
 use Rattle.model.specs.Item.{recordFor}
 use Rattle.item.proofs.record.describe.Statement.{statement}
 use Rattle.item.proofs.record.describe.Tie as tie
-use Rattle.item.proofs.record.describe.Reads as reads
-use Rattle.item.proofs.record.describe.Lts as lts
 
--- src/record.rt:33:16
 cast-page : tie.Need-cast-page
 cast-page c = search needs
 
--- src/record.rt:35:26
 enum-known-c : tie.Need-enum-known-c
 enum-known-c c = search needs
 
--- src/record.rt:44:23
 enum-known-c-2 : tie.Need-enum-known-c-2
 enum-known-c-2 c = search needs
 
--- src/record.rt:53:25
 enum-known-c-3 : tie.Need-enum-known-c-3
 enum-known-c-3 c = search needs
 
--- src/record.rt:29:1
 returns : tie.Need-returns
 returns c =
     let a = c .before .before .before .args in
     sym (ap (recordFor (a .lsn) (a .prev) (a .page)) (c .before .c .given .1))
 
--- src/record.rt:29:1
 returns-2 : tie.Need-returns-2
 returns-2 c =
     let a = c .before .before .before .args in
     sym (ap (recordFor (a .lsn) (a .prev) (a .page)) (c .before .c2 .given .1))
 
--- src/record.rt:29:1
 returns-3 : tie.Need-returns-3
 returns-3 c =
     let a = c .before .before .before .args in

@@ -1,3 +1,4 @@
+-- `record::encode`: the fields, the padded payload and the checksum make a record.
 use borrow.Author.Needs.{needs}
 use native.Mathlib.Omega.{arith}
 use denote.Ref.{now}
@@ -6,26 +7,16 @@ use lib.ListN.{length}
 use Rattle.item.proofs.Builds.{length-few, encode-is}
 use Rattle.item.proofs.record.encode.Statement.{statement}
 use Rattle.item.proofs.record.encode.Tie as tie
-use Rattle.item.proofs.record.encode.Reads as reads
-use Rattle.item.proofs.record.encode.Lts as lts
-use Rattle.codec.proofs.checksum.set.Reads as set-reads
-use Rattle.item.proofs.record.describe.Reads as describe-reads
-use Rattle.item.proofs.record.fields.Reads as fields-reads
-use Rattle.item.proofs.record.pad.Reads as pad-reads
 
--- src/record.rt:150:9
 describe-requires : tie.Need-describe-requires
 describe-requires c κs = search needs
 
--- src/record.rt:151:13
 cast-n : tie.Need-cast-n
 cast-n c = search needs
 
--- src/record.rt:152:5
 fields-requires : tie.Need-fields-requires
 fields-requires c κs = search needs
 
--- src/record.rt:153:5
 pad-requires : tie.Need-pad-requires
 pad-requires c κs =
     let f = c .before .before .before in
@@ -33,15 +24,12 @@ pad-requires c κs =
     let s = d .before .before in
     (omega (arith, s .pre .0, f .fields .kept), length-few _ _ _ (s .args .c) _ (d .describe .ensures) (s .pre .1))
 
--- src/record.rt:154:5
 set-requires : tie.Need-set-requires
 set-requires c κs = search needs
 
--- src/record.rt:146:1
 same-length : tie.Need-same-length
 same-length c = search needs
 
--- src/record.rt:146:1
 returns : tie.Need-returns
 returns c =
     let w = c .before .before in

@@ -1,3 +1,4 @@
+-- `record::fields` writes the 16 bytes before the payload, field by field.
 use borrow.Author.Needs.{needs}
 use native.Mathlib.Omega.{arith}
 use lib.ListN.{length-set}
@@ -5,48 +6,34 @@ use denote.Ref.{now}
 use Rattle.item.proofs.Builds.{fields-is}
 use Rattle.item.proofs.record.fields.Statement.{statement}
 use Rattle.item.proofs.record.fields.Tie as tie
-use Rattle.item.proofs.record.fields.Reads as reads
-use Rattle.item.proofs.record.fields.Lts as lts
-use Rattle.codec.proofs.field.put16.Reads as put16-reads
-use Rattle.codec.proofs.field.put32.Reads as put32-reads
 
--- src/record.rt:125:5
 put32-requires : tie.Need-put32-requires
 put32-requires c κs = search needs
 
--- src/record.rt:126:5
 put32-requires-2 : tie.Need-put32-requires-2
 put32-requires-2 c κs = search needs
 
--- src/record.rt:127:5
 put16-requires : tie.Need-put16-requires
 put16-requires c κs = search needs
 
--- src/record.rt:128:5
 slice-write-dst : tie.Need-slice-write-dst
 slice-write-dst c = search needs
 
--- src/record.rt:129:5
 slice-write-dst-2 : tie.Need-slice-write-dst-2
 slice-write-dst-2 c = simp length-set (omega arith)
 
--- src/record.rt:130:5
 put16-requires-2 : tie.Need-put16-requires-2
 put16-requires-2 c κs = simp length-set (omega arith)
 
--- src/record.rt:131:5
 slice-write-dst-3 : tie.Need-slice-write-dst-3
 slice-write-dst-3 c = omega (arith, simp length-set at (c .before .before .put162 .kept))
 
--- src/record.rt:132:5
 slice-write-dst-4 : tie.Need-slice-write-dst-4
 slice-write-dst-4 c = simp length-set (omega (arith, simp length-set at (c .before .before .put162 .kept)))
 
--- src/record.rt:121:1
 same-length : tie.Need-same-length
 same-length c = simp length-set (omega (arith, simp length-set at (c .before .before .put162 .kept)))
 
--- src/record.rt:121:1
 returns : tie.Need-returns
 returns c =
     let e₄ = c .before .before in

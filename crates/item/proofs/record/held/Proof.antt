@@ -1,21 +1,17 @@
+-- `record::held` tells the kinds apart as `changeOf` does.
 use borrow.Author.Tests.{eq-eqb, ne-eqb}
 use Rattle.model.specs.Change.{changeOf}
 use Rattle.item.proofs.record.held.Statement.{statement}
 use Rattle.item.proofs.record.held.Tie as tie
-use Rattle.item.proofs.record.held.Reads as reads
-use Rattle.item.proofs.record.held.Lts as lts
 
--- src/record.rt:20:9
 returns : tie.Need-returns
 unfolding changeOf
 returns c = simp (eq-eqb _ _ (c .if1 .taken))
 
--- src/record.rt:23:9
 returns-2 : tie.Need-returns-2
 unfolding changeOf
 returns-2 c = simp (ne-eqb _ _ (c .before .before .if1 .left), eq-eqb _ _ (c .if2 .taken))
 
--- src/record.rt:14:1
 returns-3 : tie.Need-returns-3
 unfolding changeOf
 returns-3 c = simp (ne-eqb _ _ (c .before .before .if1 .left), ne-eqb _ _ (c .if2 .left))

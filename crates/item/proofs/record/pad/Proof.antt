@@ -1,3 +1,4 @@
+-- `record::pad` writes the change's bytes, and zeros up to the checksum.
 use borrow.Author.Needs.{needs}
 use mathlib.Core.Path.{_≡_}
 use native.Mathlib.Nat.{sub-zero}
@@ -6,52 +7,37 @@ use denote.Ref.{now}
 use Rattle.item.proofs.Builds.{pad-is}
 use Rattle.item.proofs.record.pad.Statement.{statement}
 use Rattle.item.proofs.record.pad.Tie as tie
-use Rattle.item.proofs.record.pad.Reads as reads
-use Rattle.item.proofs.record.pad.Lts as lts
-use Rattle.codec.proofs.part.fill.Reads as fill-reads
-use Rattle.codec.proofs.part.put.Reads as put-reads
 
--- src/record.rt:140:16
 add-from : tie.Need-add-from
 add-from c = search needs
 
--- src/record.rt:141:24
 sub-put : tie.Need-sub-put
 sub-put c = search needs
 
--- src/record.rt:141:24
 part-put-start : tie.Need-part-put-start
 part-put-start c = search needs
 
--- src/record.rt:141:24
 part-put-end : tie.Need-part-put-end
 part-put-end c = search needs
 
--- src/record.rt:141:5
 put-requires : tie.Need-put-requires
 put-requires c κs = search needs
 
--- src/record.rt:142:16
 sub-fill : tie.Need-sub-fill
 sub-fill c = search needs
 
--- src/record.rt:142:16
 part-fill-start : tie.Need-part-fill-start
 part-fill-start c = search needs
 
--- src/record.rt:142:16
 part-fill-end : tie.Need-part-fill-end
 part-fill-end c = search needs
 
--- src/record.rt:142:5
 fill-requires : tie.Need-fill-requires
 fill-requires c κs = search needs
 
--- src/record.rt:136:1
 same-length : tie.Need-same-length
 same-length c = search needs
 
--- src/record.rt:136:1
 returns : tie.Need-returns
 returns c =
     let f = c .before .before in

@@ -1,5 +1,6 @@
+-- `record::padding`: a length past 44 leaves no payload to look at.
 use borrow.Author.Needs.{needs}
-use mathlib.Core.Path.{_≡_, refl, sym, ap, _∙_}
+use mathlib.Core.Path.{_≡_, ap, _∙_}
 use Prim.Native.Nat.{_-_, _+_}
 use native.Mathlib.Omega.{arith}
 use denote.Ref.{now}
@@ -7,11 +8,7 @@ use Rattle.laws.proofs.Parts.{part-lent}
 use Rattle.model.specs.Bytes.{part, allZero}
 use Rattle.item.proofs.record.padding.Statement.{statement}
 use Rattle.item.proofs.record.padding.Tie as tie
-use Rattle.item.proofs.record.padding.Reads as reads
-use Rattle.item.proofs.record.padding.Lts as lts
-use Rattle.codec.proofs.part.zero.Reads as zero-reads
 
--- src/record.rt:35:9
 returns : tie.Need-returns
 unfolding part allZero
 returns c =
@@ -19,27 +16,21 @@ returns c =
     let z : 44 - a .n ≡ 0 = omega arith in
     rw z
 
--- src/record.rt:37:16
-add-from : tie.Need-add-from
-add-from c = search needs
+add-rest : tie.Need-add-rest
+add-rest c = search needs
 
--- src/record.rt:38:16
 sub-zero : tie.Need-sub-zero
 sub-zero c = search needs
 
--- src/record.rt:38:16
 part-zero-start : tie.Need-part-zero-start
 part-zero-start c = search needs
 
--- src/record.rt:38:16
 part-zero-end : tie.Need-part-zero-end
 part-zero-end c = search needs
 
--- src/record.rt:38:5
 zero-requires : tie.Need-zero-requires
 zero-requires c κs = search needs
 
--- src/record.rt:30:1
 returns-2 : tie.Need-returns-2
 returns-2 c =
     let a = c .before .before .before .before .args in
@@ -48,4 +39,4 @@ returns-2 c =
 pub padding-spec : {M : Type 1} → statement M
 padding-spec =
     tie.close
-    (tie.spec returns add-from sub-zero part-zero-start part-zero-end zero-requires returns-2)
+    (tie.spec returns add-rest sub-zero part-zero-start part-zero-end zero-requires returns-2)

@@ -1,42 +1,30 @@
+-- `record::read` reads the fields of `recordOf`.
 use borrow.Author.Needs.{needs}
 use Rattle.model.specs.Item.{recordOf}
 use Rattle.item.proofs.record.read.Statement.{statement}
 use Rattle.item.proofs.record.read.Tie as tie
-use Rattle.item.proofs.record.read.Reads as reads
-use Rattle.item.proofs.record.read.Lts as lts
-use Rattle.codec.proofs.field.byte.Reads as byte-reads
-use Rattle.codec.proofs.field.u16at.Reads as u16at-reads
-use Rattle.codec.proofs.field.u32at.Reads as u32at-reads
 
--- src/record.rt:19:14
 u32at-requires : tie.Need-u32at-requires
 u32at-requires c κs = search needs
 
--- src/record.rt:20:15
 u32at-requires-2 : tie.Need-u32at-requires-2
 u32at-requires-2 c κs = search needs
 
--- src/record.rt:21:15
 u16at-requires : tie.Need-u16at-requires
 u16at-requires c κs = search needs
 
--- src/record.rt:22:15
 byte-requires : tie.Need-byte-requires
 byte-requires c κs = search needs
 
--- src/record.rt:23:17
 byte-requires-2 : tie.Need-byte-requires-2
 byte-requires-2 c κs = search needs
 
--- src/record.rt:24:17
 u16at-requires-2 : tie.Need-u16at-requires-2
 u16at-requires-2 c κs = search needs
 
--- src/record.rt:25:15
 byte-requires-3 : tie.Need-byte-requires-3
 byte-requires-3 c κs = search needs
 
--- src/record.rt:15:1
 returns : tie.Need-returns
 unfolding recordOf
 returns c =
