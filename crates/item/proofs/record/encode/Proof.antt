@@ -22,7 +22,7 @@ pad-requires c κs =
     let f = c .before .before .before in
     let d = f .before .before .before in
     let s = d .before .before in
-    (omega (arith, s .pre .0, f .fields .kept), length-few _ _ _ (s .args .c) _ (d .describe .ensures) (s .pre .1))
+    (omega (arith, s .pre .0, f .fields .kept), omega (arith, length-few (s .args .lsn) (s .args .prev) (s .args .page) (s .args .c) (d .describe .result) (d .describe .ensures) (s .pre .1)))
 
 set-requires : tie.Need-set-requires
 set-requires c κs = search needs
