@@ -1,43 +1,40 @@
 -- Begin, Change and Load keep the invariant.
-use mathlib.Core.Path.{_≡_, refl, sym, ap, _∙_, subst}
-use mathlib.Core.Logic.{_≢_, _⊎_, inl, inr}
-use mathlib.Core.Bool.{Bool, true, false, cond, not, _&&_, _||_}
+use mathlib.Core.Path.{_≡_, refl, sym, ap, _∙_}
+use mathlib.Core.Logic.{_≢_}
+use mathlib.Core.Bool.{true, false}
 use mathlib.Core.List.{List, [], _∷_, _++_}
-use Prim.Native.Nat.{ℕ, zero, suc, _+_, _-_, _*_, _%_, _≤_, _<_}
+use Prim.Native.Nat.{ℕ, suc, _+_, _-_, _%_, _≤_, _<_}
 use native.Mathlib.Omega.{arith}
-use native.Mathlib.Decide.{decLt, ℕ-discrete}
-use lib.ListN.{length, getD, set, take, replicate, length-append, length-replicate, length-take}
-use lib.Dec.{eqb, leb, ltb}
-use borrow.Author.Tests.{eqb-true, eqb-false, leb-false, not-false, eq-eqb}
-use Rattle.laws.proofs.Tests.{byCases, true-not-false}
+use lib.ListN.{length, take, replicate}
+use lib.Dec.{eqb}
+use borrow.Author.Tests.{eqb-true, eqb-false, leb-false, not-false}
+use Rattle.laws.proofs.Tests.{true-not-false}
 use Rattle.laws.proofs.Changes.{apply-length, apply-take, fits-facts}
 use Rattle.model.specs.Tests.{firstOf}
 use Rattle.model.specs.Bytes.{splice}
-use Rattle.model.specs.Geometry.{geometryOf, item}
+use Rattle.model.specs.Geometry.{geometryOf}
 use Rattle.model.specs.Change.{kindOf, lengthOf, offsetOf, fillOf, changeFits, fits, applyChange}
 use Rattle.model.specs.Item.{imageBody, frameImage, encodeChange}
-use Rattle.model.specs.Index.{entryOf, setEntry}
-use Rattle.model.specs.State.{pendingAt, pendingBytes, frameAt, frameBytes, holder, held, lastNumber, frameCount, blank, logFull}
-use Rattle.model.specs.Refusals.{beginRows, loadRows, changeRows, frameBlocked}
-use Rattle.model.specs.Calls.{StoredItem, nothing, oneItem, Outcome, volumeAfter, withFrame, withFrames, appendedState, appendedMemory, changedImage}
-use Rattle.model.specs.AbstractLog.{Logged, AbstractLog, loggedChange}
-use Rattle.model.specs.History.{Power, off, on}
+use Rattle.model.specs.Index.{entryOf}
+use Rattle.model.specs.State.{pendingAt, pendingBytes, frameAt, frameBytes, holder, lastNumber, frameCount, blank, logFull}
+use Rattle.model.specs.Refusals.{beginRows, changeRows}
+use Rattle.model.specs.Calls.{StoredItem, nothing, volumeAfter, appendedState, appendedMemory, changedImage}
+use Rattle.model.specs.AbstractLog.{Logged, loggedChange}
 use Rattle.model.specs.declared.geometry.Geometry.{Geometry}
 use Rattle.model.specs.declared.change.Change.{Change}
 use Rattle.model.specs.declared.change.Change.the-variants.{Format}
 use Rattle.model.specs.declared.answer.Answer.{Answer}
-use Rattle.model.specs.declared.answer.Answer.the-variants.{Done, Repaired}
+use Rattle.model.specs.declared.answer.Answer.the-variants.{Done}
 use lib.Seq.{length-take-le}
-use Rattle.model.specs.declared.item.Note.{Note}
 use Rattle.model.specs.declared.state.State.{State}
 use Rattle.history.proofs.Book.{lastOf, bodyOf, last-le, number-hit, number-miss, body-hit, body-miss, last-append}
-use Rattle.history.proofs.Leaf.{format-apply, encode-take, frame-lsn, frame-body, frame-size, frame-changed}
+use Rattle.history.proofs.Leaf.{encode-take, frame-body, frame-size, frame-changed}
 use Rattle.history.proofs.Records.{recOf, recOf-new, recOf-is}
-use Rattle.history.proofs.Inv.{past-cons, Framed, Settled, frame, Memory}
+use Rattle.history.proofs.Inv.{past-cons, Settled, frame, Memory}
 use Rattle.history.proofs.Memory.{frame-count, pending-memory, pending-same, pending-other, pending-frame, frame-memory, frame-same, frame-other, frame-pending}
 use Rattle.history.proofs.LogSteps.{Joins, joins-fair, log-add, index-add}
 use Rattle.history.proofs.FrameSteps.{frames-put}
-use Rattle.history.proofs.Context.{Ctx, Kept, Passed, passed, in-range, sized, geo, len, sum, fair, few, body-size, last-entry, kept-page, kept-body, Found, found-frame, nowhere}
+use Rattle.history.proofs.Context.{Ctx, Kept, passed, in-range, sized, geo, len, sum, few, body-size, last-entry, found-frame}
 
 module _ {g : Geometry} {v m : List ℕ} {past : List StoredItem} {s : State} {k w : List Logged} (x : Ctx g v m past s k w) where
   -- the number that is given next
@@ -48,9 +45,6 @@ module _ {g : Geometry} {v m : List ℕ} {past : List StoredItem} {s : State} {k
   module _ (c : Logged) (f : ℕ) (payload image : List ℕ) (f₁ : 1 ≤ f) (f₂ : f ≤ x .al .F) (j : Joins (g .pages) (x .all) c)
       (free : eqb (s .pending) 16 ≡ false) (room : logFull g s ≡ false) (same : take (lengthOf (c .change)) payload ≡ c .bytes)
       (image-is : image ≡ frameImage (c .page) (suc (length (x .all))) (applyChange (c .change) (c .bytes) (bodyOf (c .page) (x .all)))) where
-    all′ : List Logged
-    all′ = x .all ++ (c ∷ [])
-
     less : length w < 16
     less = let ne : s .pending ≢ 16 = eqb-false (s .pending) 16 free in omega (arith, x .al .log .few, x .al .log .pending-is)
 
@@ -117,7 +111,7 @@ module _ {g : Geometry} {v m : List ℕ} {past : List StoredItem} {s : State} {k
         → (frame (s .frames) (f - 1) .page ≢ 0 → frame (s .frames) (f - 1) .page ≢ c .page → Settled (x .all) (length k) (frame (s .frames) (f - 1) .page))
         → Kept g v past (record { answer = an; state = appendedState s (c .page) f; memory = appendedMemory m s (c .page) (c .change) payload f image; stored = nothing })
         (record { durable = k; pending = w ++ (c ∷ []) })
-    unfolding volumeAfter appendedState appendedMemory rec m₁ m₂ all′
+    unfolding volumeAfter appendedState appendedMemory rec m₁ m₂
     keep-add an alone leaves =
         record {
           ns = x .ns;

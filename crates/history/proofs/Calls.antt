@@ -1,45 +1,37 @@
 -- Every call keeps the invariant, whole or cut short by a crash.
-use mathlib.Core.Path.{_≡_, refl, sym, ap, _∙_, subst}
-use mathlib.Core.Logic.{_≢_, _⊎_, inl, inr}
-use mathlib.Core.Bool.{Bool, true, false, cond, not, _&&_, _||_}
+use mathlib.Core.Path.{_≡_, refl}
+use mathlib.Core.Bool.{true, cond, not, _&&_}
 use mathlib.Core.List.{List, [], _∷_, _++_}
-use Prim.Native.Nat.{ℕ, zero, suc, _+_, _-_, _≤_, _<_}
-use native.Mathlib.Omega.{arith}
-use lib.ListN.{length, replicate}
+use Prim.Native.Nat.{ℕ, _+_}
+use lib.ListN.{length}
 use lib.Dec.{eqb}
 use borrow.Author.Tests.{eqb-true, not-true}
 use Rattle.laws.proofs.Tests.{byCases, and-left, and-right}
 use Rattle.model.specs.Tests.{Row, firstOf}
-use Rattle.model.specs.Bytes.{field}
 use Rattle.model.specs.Checksum.{sealImage}
-use Rattle.model.specs.Geometry.{Place, pageAt, slotAt, recordAt, noteAt, logSlot, noteSlot, width, geometryOf, item, store}
-use Rattle.model.specs.Item.{imageLsn, imageBody, frameImage, noteBytes}
+use Rattle.model.specs.Geometry.{Place, pageAt, slotAt, recordAt, noteAt, width, geometryOf}
+use Rattle.model.specs.Item.{noteBytes}
 use Rattle.model.specs.Index.{entryOf}
-use Rattle.model.specs.Change.{applyChange}
-use Rattle.model.specs.Repair.{viewOf, repairOf, rebuilt, classIn}
-use Rattle.model.specs.State.{frameBytes, pendingBytes, frameAt, holder, lastNumber, lastNote}
+use Rattle.model.specs.Repair.{viewOf, repairOf, classIn}
+use Rattle.model.specs.State.{frameBytes, pendingBytes, holder, lastNote}
 use Rattle.model.specs.Refusals.{pageDirty, beginRows, loadRows, changeRows, forceRows, writeRows, backupRows, noteRows}
-use Rattle.model.specs.Calls.{StoredItem, nothing, oneItem, Outcome, volumeAfter, unchanged, decided, isGood, beginOf, loadOf, changeCall, forceOf, writeOf, backupOf, noteCall, noteStored, Call, begin, load, change, force, write, backup, note, rowsOf, outcomeOf}
-use Rattle.model.specs.AbstractLog.{Logged, AbstractLog, Left, old, new, torn, moveFirst, forget, loggedChange, append, stepCall, stepCut}
-use Rattle.model.specs.History.{Power, off, on, leftVolume, leftPast, itemSealed, tornFits, payloadFits}
+use Rattle.model.specs.Calls.{StoredItem, nothing, oneItem, Outcome, volumeAfter, decided, isGood, beginOf, loadOf, changeCall, forceOf, writeOf, backupOf, noteCall, noteStored, Call, begin, load, change, force, write, backup, note, rowsOf, outcomeOf}
+use Rattle.model.specs.AbstractLog.{Logged, AbstractLog, Left, old, new, torn, forget, stepCall, stepCut}
+use Rattle.model.specs.History.{off, leftVolume, leftPast, itemSealed, tornFits, payloadFits}
 use Rattle.model.specs.declared.geometry.Geometry.{Geometry}
-use Rattle.model.specs.declared.answer.Answer.{Answer}
-use Rattle.model.specs.declared.answer.Answer.the-variants.{Done, Nothing, Refused, Repaired}
+use Rattle.model.specs.declared.answer.Answer.the-variants.{Repaired}
 use Rattle.model.specs.declared.item.Note.{Note}
 use Rattle.model.specs.declared.state.PendingNote.{PendingNote}
 use Rattle.model.specs.declared.state.PendingNote.the-variants.{Absent, Present}
 use Rattle.model.specs.declared.state.State.{State}
 use Rattle.history.proofs.Inv.{past-cons, PendingOk, Inv}
-use Rattle.history.proofs.Context.{Ctx, Kept, geo, keep-same, keep-decided}
+use Rattle.history.proofs.Context.{Ctx, Kept, geo, keep-decided}
 use Rattle.history.proofs.Appends.{keep-begin, keep-change}
 use Rattle.history.proofs.Loads.{keep-load}
 use Rattle.history.proofs.Images.{StoreOk, write-store, backup-store}
-use Rattle.history.proofs.Keeps.{force-store, forced, none-pending, some-pending, keep-force, Writes, writes, written, keep-write, Backs, backs, keep-backup, note-store, keep-note}
+use Rattle.history.proofs.Keeps.{force-store, forced, none-pending, some-pending, keep-force, Writes, writes, written, keep-write, backs, keep-backup, note-store, keep-note}
 
 module _ {g : Geometry} {v m : List ℕ} {past : List StoredItem} {s : State} {k w : List Logged} (x : Ctx g v m past s k w) where
-  abbrev B : AbstractLog
-  B = record { durable = k; pending = w }
-
   pub inv-call : (c : Call) → payloadFits c ≡ true
       → Kept g v past (outcomeOf c v m s) (cond (not (eqb (firstOf (rowsOf c v m s)) 0)) (record { durable = k; pending = w }) (stepCall (record { durable = k; pending = w }) c))
   unfolding beginOf loadOf changeCall forceOf writeOf backupOf noteCall stepCall

@@ -1,23 +1,22 @@
 -- A machine that is on and keeps the invariant, as the calls' proofs use it: its counts, its entries, the frame of a page, and calls that
 -- change nothing.
-use mathlib.Core.Path.{_≡_, refl, sym, ap, _∙_, subst}
-use mathlib.Core.Logic.{_≢_, _⊎_, inl, inr}
-use mathlib.Core.Bool.{Bool, true, false, cond, not, _&&_, _||_}
-use mathlib.Core.List.{List, [], _∷_, _++_}
-use Prim.Native.Nat.{ℕ, zero, suc, _+_, _-_, _*_, _≤_, _<_}
+use mathlib.Core.Path.{_≡_, refl, ap, _∙_}
+use mathlib.Core.Logic.{_≢_}
+use mathlib.Core.Bool.{Bool, true, false, cond, not}
+use mathlib.Core.List.{List, [], _∷_}
+use Prim.Native.Nat.{ℕ, suc, _+_, _≤_, _<_}
 use native.Mathlib.Omega.{arith}
-use lib.ListN.{length, getD, List·getD-append}
-use lib.Dec.{eqb, leb, ltb}
-use borrow.Author.Tests.{eqb-true, eqb-false, ltb-true, ltb-false, not-false, eq-eqb}
+use lib.ListN.{length, List·getD-append}
+use lib.Dec.{eqb}
+use borrow.Author.Tests.{eqb-true, ltb-true, ltb-false, not-false}
 use Rattle.laws.proofs.Tests.{byCases, within-bounds}
 use Rattle.model.specs.Tests.{Row, firstOf, within}
-use Rattle.model.specs.Geometry.{geometryOf, validVolume, item}
-use Rattle.model.specs.Item.{frameImage}
+use Rattle.model.specs.Geometry.{geometryOf}
 use Rattle.model.specs.Index.{entryOf}
-use Rattle.model.specs.State.{frameBytes, holder, held, lastNumber, frameCount, validMemory, wellFormed}
-use Rattle.model.specs.Calls.{StoredItem, nothing, oneItem, Outcome, volumeAfter, unchanged, decided}
+use Rattle.model.specs.State.{frameBytes, holder, held}
+use Rattle.model.specs.Calls.{StoredItem, nothing, Outcome, volumeAfter, unchanged, decided}
 use Rattle.model.specs.AbstractLog.{Logged, AbstractLog}
-use Rattle.model.specs.History.{Power, off, on}
+use Rattle.model.specs.History.{on}
 use Rattle.model.specs.declared.geometry.Geometry.{Geometry}
 use Rattle.model.specs.declared.answer.Answer.{Answer}
 use Rattle.model.specs.declared.answer.Answer.the-variants.{Refused}
@@ -25,13 +24,13 @@ use Rattle.model.specs.declared.item.Note.{Note}
 use Rattle.model.specs.declared.state.Entry.{Entry}
 use Rattle.model.specs.declared.state.State.{State}
 use Rattle.history.proofs.Book.{noLogged, at, lastAt, lastOf, bodyOf, replayAt, last-page, replay-last, replay-append, last-append}
-use Rattle.history.proofs.Entries.{Mark, markAt, entryFrom, Indexed}
+use Rattle.history.proofs.Entries.{markAt, entryFrom}
 use Rattle.history.proofs.Records.{AllFair, length-replay}
-use Rattle.history.proofs.Sections.{Volume, Sized, volume-sized}
+use Rattle.history.proofs.Sections.{Sized, volume-sized}
 use Rattle.history.proofs.Disk.{Holds, Noted}
-use Rattle.history.proofs.Inv.{Past, past-cons, Framed, frame, Frames, LogState, Alive, PowerInv, Inv}
+use Rattle.history.proofs.Inv.{Past, past-cons, Framed, frame, Alive, Inv}
 use Rattle.history.proofs.LogSteps.{len-all, sum-is}
-use Rattle.history.proofs.FrameSteps.{Holder, found, missing}
+use Rattle.history.proofs.FrameSteps.{found, missing}
 
 pub record Ctx (g : Geometry) (v m : List ℕ) (past : List StoredItem) (s : State) (k w : List Logged) : Type 0 where
   pub all : List Logged

@@ -1,34 +1,30 @@
 -- A volume that holds a list of changes and a list of notes: its scan gives both back, and the index that they say.
-use mathlib.Core.Path.{_≡_, refl, sym, ap, _∙_, subst}
-use mathlib.Core.Logic.{_≢_, _⊎_, inl, inr}
-use mathlib.Core.Bool.{Bool, true, false, cond, not, _&&_, _||_}
-use mathlib.Core.List.{List, [], _∷_, _++_}
+use mathlib.Core.Path.{_≡_, refl, sym, ap, _∙_}
+use mathlib.Core.Logic.{_≢_}
+use mathlib.Core.Bool.{Bool, true, _&&_, _||_}
+use mathlib.Core.List.{List, []}
 use Prim.Native.Nat.{ℕ, zero, suc, _+_, _-_, _*_, _≤_, _<_}
 use native.Mathlib.Omega.{arith}
-use native.Mathlib.Decide.{decLt, ℕ-discrete}
-use lib.ListN.{length, getD}
-use lib.Dec.{eqb, leb, ltb}
-use borrow.Author.Tests.{eq-eqb, ne-eqb, le-leb}
+use lib.ListN.{length}
+use lib.Dec.{eqb, leb}
+use borrow.Author.Tests.{eq-eqb, le-leb}
 use Rattle.laws.proofs.Tests.{byCases, and-both, or-left, or-right, every-all, within-holds}
-use Rattle.laws.proofs.Places.{In}
-use Rattle.model.specs.Tests.{every, within}
-use Rattle.model.specs.Bytes.{part, allZero}
-use Rattle.model.specs.Checksum.{sealed, sealedRun}
+use Rattle.model.specs.Bytes.{part}
 use Rattle.model.specs.Change.{kindOf}
-use Rattle.model.specs.Geometry.{Place, pageAt, slotAt, recordAt, noteAt, width, start, item}
-use Rattle.model.specs.Item.{recordOf, recordLayout, recordFor, firstIsFormat, noteOf, noteBytes, noteLayout, isWritten}
-use Rattle.model.specs.Index.{emptyIndex, entryOf, setEntry, enterNote, withNote, slotUsed}
-use Rattle.model.specs.Scan.{restZero, logRecord, noteRecord, durableCount, enterRecord, logIndex, recordFits, validLog, noteCount, noteIndex, noteFollows, noteFits, validNotes, indexOf}
+use Rattle.model.specs.Geometry.{pageAt, slotAt, recordAt, noteAt, start, item}
+use Rattle.model.specs.Item.{recordFor, noteBytes, noteLayout, isWritten}
+use Rattle.model.specs.Index.{entryOf, enterNote}
+use Rattle.model.specs.Scan.{restZero, logRecord, noteRecord, durableCount, logIndex, recordFits, validLog, noteCount, noteIndex, noteFollows, noteFits, validNotes, indexOf}
 use Rattle.model.specs.AbstractLog.{Logged}
 use Rattle.model.specs.declared.geometry.Geometry.{Geometry}
 use Rattle.model.specs.declared.item.Note.{Note}
 use Rattle.model.specs.declared.item.LogRecord.{LogRecord}
 use Rattle.model.specs.declared.state.Entry.{Entry}
-use Rattle.history.proofs.Book.{at, lastAt, last-hit, last-miss, last-le}
-use Rattle.history.proofs.Entries.{Mark, note, noNote, markAt, mark-zero, mark-hit, mark-miss, NoteOk, NotesOk, Backed, entryFrom, entry-noted, withMark, Indexed, indexed-start, indexed-set, spare-slot}
+use Rattle.history.proofs.Book.{at, lastAt, last-hit, last-miss}
+use Rattle.history.proofs.Entries.{note, markAt, mark-hit, mark-miss, NoteOk, NotesOk, entry-noted, Indexed, indexed-start, indexed-set, spare-slot}
 use Rattle.laws.proofs.Notes.{note-sealed}
 use Rattle.history.proofs.Leaf.{RecordIs, note-read}
-use Rattle.history.proofs.Records.{Fair, AllFair, recOf, recOf-is, Valid}
+use Rattle.history.proofs.Records.{AllFair, recOf, recOf-is, Faithful}
 use Rattle.history.proofs.Sections.{Volume, Sized, volume-sized, run-is, rest-zero, Tail}
 
 -- the volume holds the list l of changes
@@ -38,7 +34,7 @@ pub record Holds (g : Geometry) (v : List ℕ) (l : List Logged) : Type 0 where
   pub fair : AllFair (g .pages) l
   pub log : (i : ℕ) → i < length l → item g v (recordAt (suc i)) ≡ recOf l i
   pub tail : Tail g v recordAt 60 (length l) (g .records)
-  pub images : (p : ℕ) → 1 ≤ p → p ≤ g .pages → Valid g p l (item g v (pageAt p))
+  pub images : (p : ℕ) → 1 ≤ p → p ≤ g .pages → Faithful g p l (item g v (pageAt p))
 
 -- and the list ns of notes
 pub record Noted (g : Geometry) (v : List ℕ) (l : List Logged) (ns : List Note) : Type 0 where
@@ -46,7 +42,7 @@ pub record Noted (g : Geometry) (v : List ℕ) (l : List Logged) (ns : List Note
   pub each : (i : ℕ) → i < length ns → item g v (noteAt (suc i)) ≡ noteBytes (note ns i)
   pub tail : Tail g v noteAt 12 (length ns) (g .notes)
   pub fit : NotesOk (g .pages) (g .slots) l ns
-  pub backups : (p : ℕ) → 1 ≤ p → p ≤ g .pages → markAt p ns (length ns) .slot ≢ 0 → Valid g p l (item g v (slotAt (markAt p ns (length ns) .slot)))
+  pub backups : (p : ℕ) → 1 ≤ p → p ≤ g .pages → markAt p ns (length ns) .slot ≢ 0 → Faithful g p l (item g v (slotAt (markAt p ns (length ns) .slot)))
 
 -- the items of a section are parts at equal distances
 record-part : (g : Geometry) (v : List ℕ) (i : ℕ) → part v (start g (recordAt 1) + (60 + 4) * i) (60 + 4) ≡ item g v (recordAt (suc i))
@@ -149,9 +145,6 @@ module _ (g : Geometry) (v : List ℕ) (l : List Logged) (h : Holds g v l) where
 
     -- a note that may follow passes the scan's tests
     module _ (i : ℕ) (b : i < length ns) where
-      x : Note
-      x = note ns i
-
       x-ok : NoteOk (g .pages) (g .slots) l ns i (note ns i)
       x-ok = o .fit i b
 

@@ -1,23 +1,23 @@
 -- The page recovery index, page by page: what its log columns say of a list of changes, and its note columns of a list of notes.
-use mathlib.Core.Path.{_≡_, refl, sym, ap, _∙_, subst}
-use mathlib.Core.Logic.{_≢_, _⊎_, inl, inr}
-use mathlib.Core.Bool.{Bool, true, false, cond, _||_}
+use mathlib.Core.Path.{_≡_, refl, sym, ap, _∙_}
+use mathlib.Core.Logic.{_≢_}
+use mathlib.Core.Bool.{Bool, true, false, cond}
 use mathlib.Core.List.{List, [], _∷_, _++_}
-use Prim.Native.Nat.{ℕ, zero, suc, _+_, _-_, _≤_, _<_}
+use Prim.Native.Nat.{ℕ, zero, suc, _-_, _≤_, _<_}
 use native.Mathlib.Omega.{arith}
-use native.Mathlib.Decide.{decLt, ℕ-discrete}
+use native.Mathlib.Decide.{ℕ-discrete}
 use native.Mathlib.Nat.{le-of-suc-le-suc}
-use lib.ListN.{length, getD, set, replicate, length-set, length-append, length-replicate, getD-replicate, List·getD-append}
+use lib.ListN.{length, getD, length-set, length-append, length-replicate, getD-replicate, List·getD-append}
 use lib.Seq.{getD-set-same, getD-set-other, getD-append-seam}
 use lib.Dec.{eqb}
-use borrow.Author.Tests.{eq-eqb, eqb-true, ne-eqb, eqb-false}
+use borrow.Author.Tests.{eq-eqb, ne-eqb}
 use Rattle.model.specs.declared.item.Note.{Note}
 use Rattle.model.specs.declared.state.Entry.{Entry}
 use Rattle.model.specs.Item.{isWritten}
-use Rattle.model.specs.Index.{emptyEntry, emptyIndex, entryOf, setEntry, withNote, enterNote, slotUsed}
+use Rattle.model.specs.Index.{emptyEntry, emptyIndex, entryOf, setEntry, withNote, slotUsed}
 use Rattle.model.specs.AbstractLog.{Logged}
 use Rattle.laws.proofs.Tests.{byCases}
-use Rattle.history.proofs.Book.{at, lastAt, last-hit, last-miss, last-le, last-ge, last-zero}
+use Rattle.history.proofs.Book.{at, lastAt, last-ge, last-zero}
 
 -- ---- what notes say of a page
 

@@ -1,24 +1,24 @@
 -- A restart, a crash between calls and damage keep the invariant.
 use mathlib.Core.Path.{_≡_, refl, sym, ap, _∙_, subst}
-use mathlib.Core.Logic.{_≢_, _⊎_, inl, inr, ⊎-elim}
-use mathlib.Core.Bool.{Bool, true, false, cond, not, _&&_, _||_}
-use mathlib.Core.List.{List, [], _∷_, _++_, append-nil}
-use Prim.Native.Nat.{ℕ, zero, suc, _+_, _-_, _*_, _≤_, _<_}
+use mathlib.Core.Logic.{_≢_, _⊎_, inl, inr}
+use mathlib.Core.Bool.{true, false, cond, _&&_}
+use mathlib.Core.List.{List, [], _∷_, append-nil}
+use Prim.Native.Nat.{ℕ, zero, suc, _+_, _-_, _≤_, _<_}
 use native.Mathlib.Omega.{arith}
 use native.Mathlib.Decide.{ℕ-discrete}
 use lib.ListN.{length, getD, replicate, length-replicate, getD-replicate}
 use lib.Dec.{eqb}
 use native.Mathlib.Nat.{le-of-suc-le-suc}
-use borrow.Author.Tests.{eqb-true, eq-eqb, not-true}
-use Rattle.laws.proofs.Tests.{byCases, and-left, and-right, and-both, or-cases, or-neither, true-not-false, within-bounds, within-holds, first-none}
-use Rattle.model.specs.Tests.{firstOf, within}
-use Rattle.model.specs.Geometry.{Place, pageAt, slotAt, recordAt, noteAt, geometryOf, validVolume, item, store}
-use Rattle.model.specs.Item.{imagePage, validImage, validSomewhere, isWritten}
-use Rattle.model.specs.Index.{emptyEntry, entryOf, slotUsed}
-use Rattle.model.specs.Scan.{validLog, validNotes, durableCount, noteCount, indexOf}
+use borrow.Author.Tests.{eqb-true, eq-eqb}
+use Rattle.laws.proofs.Tests.{byCases, and-both, or-neither, true-not-false, within-bounds, within-holds}
+use Rattle.model.specs.Tests.{firstOf}
+use Rattle.model.specs.Geometry.{Place, pageAt, slotAt, recordAt, noteAt, item, store}
+use Rattle.model.specs.Item.{validImage, validSomewhere, isWritten}
+use Rattle.model.specs.Index.{emptyEntry, slotUsed}
+use Rattle.model.specs.Scan.{indexOf}
 use Rattle.model.specs.State.{validMemory, frameCount, emptyFrame}
 use Rattle.model.specs.Refusals.{restartRows}
-use Rattle.model.specs.Calls.{StoredItem, nothing, oneItem, restartState, restartOf}
+use Rattle.model.specs.Calls.{StoredItem, restartState, restartOf}
 use Rattle.model.specs.AbstractLog.{Logged, AbstractLog, forget}
 use Rattle.model.specs.History.{Power, off, on, restarted, isImage, storedBefore, validAsNoted, passesAt}
 use Rattle.model.specs.declared.geometry.Geometry.{Geometry}
@@ -27,24 +27,19 @@ use Rattle.model.specs.declared.state.Entry.{Entry}
 use Rattle.model.specs.declared.state.Frame.{Frame}
 use Rattle.model.specs.declared.state.PendingNote.{PendingNote}
 use Rattle.model.specs.declared.state.PendingNote.the-variants.{Absent, Present}
-use Rattle.model.specs.declared.state.State.{State}
-use Rattle.history.proofs.Entries.{Mark, markAt, Indexed, spare-slot, slot-spare}
+use Rattle.history.proofs.Entries.{markAt, Indexed, spare-slot, slot-spare}
 use Rattle.history.proofs.Leaf.{valid-page}
-use Rattle.history.proofs.Records.{Valid}
-use Rattle.history.proofs.Sections.{Sized, volume-sized}
-use Rattle.history.proofs.Disk.{Holds, Noted, durable-count, valid-log, note-count, valid-notes, index-is}
-use Rattle.history.proofs.Inv.{Fine, image-fine, Past, PendingOk, Memory, frame, Frames, Alive, PowerInv, Inv}
+use Rattle.history.proofs.Records.{Faithful}
+use Rattle.history.proofs.Sections.{volume-sized}
+use Rattle.history.proofs.Disk.{Holds, Noted, durable-count, note-count, index-is}
+use Rattle.history.proofs.Inv.{image-fine, Past, PendingOk, frame, Alive, PowerInv, Inv}
 use Rattle.history.proofs.Stores.{page-holds, page-noted, page-slots, slot-holds, slot-noted, slot-same, slot-other, pending-keep}
 use Rattle.history.proofs.Memory.{memory-is}
 
 -- ---- Restart
 
 module _ (g : Geometry) (v : List ℕ) (k : List Logged) (h : Holds g v k) (ns : List Note) (o : Noted g v k ns) where
-  -- only a wrongly sized memory is refused
-  pub restart-rows : (m : List ℕ) → validMemory (length m) ≡ true → firstOf (restartRows v m) ≡ 0
-  unfolding restartRows
-  restart-rows m t = rw (h .vol .geo, h .vol .ok, t, valid-log g v k h, valid-notes g v k h ns o)
-
+  -- a Restart that is not refused was lent a memory of the right size
   pub restart-memory : (m : List ℕ) → firstOf (restartRows v m) ≡ 0 → validMemory (length m) ≡ true
   unfolding restartRows
   restart-memory m e = byCases (validMemory (length m)) (λ t. t) (λ t. absurd (let z : 2 ≡ 0 = rw (h .vol .ok, t) at e in omega arith))
@@ -126,8 +121,8 @@ somewhere g xs q lo hi t = rw (valid-page g q xs t) (and-both (within-holds (g .
 
 -- what damage may leave in slot i, as the notes see it
 pub record SlotDamage (g : Geometry) (k : List Logged) (ns : List Note) (i : ℕ) (xs : List ℕ) : Type 0 where
-  pub given : (q : ℕ) → 1 ≤ q → q ≤ g .pages → markAt q ns (length ns) .slot ≡ i → Valid g q k xs
-  pub outside : ((p : ℕ) → 1 ≤ p → p ≤ 64 → markAt p ns (length ns) .slot ≢ i) → (q : ℕ) → 1 ≤ q → q ≤ g .pages → Valid g q k xs
+  pub given : (q : ℕ) → 1 ≤ q → q ≤ g .pages → markAt q ns (length ns) .slot ≡ i → Faithful g q k xs
+  pub outside : ((p : ℕ) → 1 ≤ p → p ≤ 64 → markAt p ns (length ns) .slot ≢ i) → (q : ℕ) → 1 ≤ q → q ≤ g .pages → Faithful g q k xs
 
 module _ (g : Geometry) (v : List ℕ) (k : List Logged) (h : Holds g v k) (ns : List Note) (o : Noted g v k ns) where
   idx : Indexed (indexOf g v) k (length k) (length k) ns (length ns)
@@ -163,7 +158,7 @@ module _ (g : Geometry) (v : List ℕ) (k : List Logged) (h : Holds g v k) (ns :
   pending-damage i xs lo hi five d Absent t = tt
   pending-damage i xs lo hi five d (Present y) t = (t .0, t .1, λ z. go z (ℕ-discrete (y .slot) i))
     where
-      go : isWritten y ≡ false → Dec (y .slot ≡ i) → Valid g (y .page) k (item g (store g v (slotAt i) xs) (slotAt (y .slot)))
+      go : isWritten y ≡ false → Dec (y .slot ≡ i) → Faithful g (y .page) k (item g (store g v (slotAt i) xs) (slotAt (y .slot)))
       go z (yes e) =
           rw (e, slot-same g v k h ns o i xs lo hi five)
           (d .outside (subst (λ (n : ℕ). (p : ℕ) → 1 ≤ p → p ≤ 64 → markAt p ns (length ns) .slot ≢ n) e (t .0 .backed z .spare)) (y .page) (t .0 .low) (t .0 .high))
@@ -202,7 +197,7 @@ inv-damage g v past x b (pageAt p) xs r five d i =
           (page-slots g v (b .durable) (i .holds) (i .ns) (i .noted) p xs (w .0) (w .1) five f)) (i .live);
     }
   where
-    valid : (validImage g p xs ≡ false) ⊎ (storedBefore (pageAt p) xs past ≡ true) → Valid g p (b .durable) xs
+    valid : (validImage g p xs ≡ false) ⊎ (storedBefore (pageAt p) xs past ≡ true) → Faithful g p (b .durable) xs
     valid (inl e) = λ t. absurd (true-not-false t e)
     valid (inr e) = image-fine g (b .durable) xs (i .past-ok (pageAt p) xs r e) p
 inv-damage g v past x b (slotAt n) xs r five d i =

@@ -1,45 +1,39 @@
 -- The values of the facts of every legal history.
-use mathlib.Core.Path.{_≡_, refl, sym, ap, _∙_, subst}
-use mathlib.Core.Logic.{_≢_, _⊎_, inl, inr}
-use mathlib.Core.Bool.{Bool, true, false, cond, not}
-use mathlib.Core.List.{List, [], _∷_, _++_}
-use Prim.Native.Nat.{ℕ, zero, suc, _+_, _-_, _≤_, _<_}
+use mathlib.Core.Path.{_≡_, sym, ap, _∙_, subst}
+use mathlib.Core.Logic.{_≢_}
+use mathlib.Core.Bool.{Bool, true, false, cond}
+use mathlib.Core.List.{List}
+use Prim.Native.Nat.{ℕ, suc, _≤_}
 use native.Mathlib.Omega.{arith}
-use native.Mathlib.Decide.{ℕ-discrete}
-use lib.ListN.{length, take}
+use lib.ListN.{length}
 use lib.Dec.{eqb, ltb}
-use borrow.Author.Tests.{eqb-true, le-ltb}
+use borrow.Author.Tests.{le-ltb}
 use Rattle.laws.proofs.Tests.{byCases}
-use Rattle.model.specs.Tests.{firstOf, within}
-use Rattle.model.specs.Geometry.{Place, pageAt, slotAt, geometryOf, item}
-use Rattle.model.specs.Item.{imageLsn, imageBody, validImage}
+use Rattle.model.specs.Geometry.{Place, pageAt, slotAt, item}
+use Rattle.model.specs.Item.{imageLsn, validImage}
 use Rattle.model.specs.Index.{entryOf}
 use Rattle.model.specs.Scan.{indexOf}
-use Rattle.model.specs.Repair.{classOf, viewOf, classIn}
-use Rattle.model.specs.Calls.{StoredItem, inspectOf, refusalOf}
-use Rattle.model.specs.AbstractLog.{Logged, AbstractLog, lastPlace, replay}
-use Rattle.model.specs.History.{Power, off, on, isImage, storedBefore}
-use Rattle.model.specs.Claim.{History, Legal, reached, logOf, keptOf, inspection}
-use Rattle.model.specs.declared.geometry.Geometry.{Geometry}
-use Rattle.model.specs.declared.answer.Class.{Class}
+use Rattle.model.specs.Repair.{classOf}
+use Rattle.model.specs.AbstractLog.{Logged}
+use Rattle.model.specs.History.{Power, on, isImage, storedBefore}
+use Rattle.model.specs.Claim.{History, Legal, reached, logOf, keptOf}
 use Rattle.model.specs.declared.answer.Class.the-variants.{Good, Behind, Stale, Failed}
-use Rattle.model.specs.declared.item.Note.{Note}
 use Rattle.model.specs.declared.state.Entry.{Entry}
 use Rattle.model.specs.declared.state.State.{State}
-use Rattle.history.specs.Facts.{volumeOf, headingOf, Sound, Restarts, Answers, IsReplay, StoredImage, OwnImage, SameEntry, Facts}
-use Rattle.history.proofs.Book.{at, lastAt, lastOf, last-hit, last-ge, last-is, last-take, replay-take}
-use Rattle.history.proofs.Entries.{Mark, markAt, entryFrom, Indexed, slots-apart}
-use Rattle.history.proofs.Records.{Valid}
-use Rattle.history.proofs.Sections.{Sized, volume-sized}
-use Rattle.history.proofs.Disk.{Holds, index-is}
+use Rattle.history.specs.Facts.{volumeOf, headingOf, IsReplay, StoredImage, OwnImage, IndexEntry, SameEntry, Facts}
+use Rattle.history.proofs.Book.{at, lastOf, last-hit, last-ge, last-is, last-take, replay-take}
+use Rattle.history.proofs.Entries.{markAt, entryFrom, slots-apart}
+use Rattle.history.proofs.Records.{ReplayOf, Faithful}
+use Rattle.history.proofs.Sections.{volume-sized}
+use Rattle.history.proofs.Disk.{index-is}
 use Rattle.history.proofs.Inv.{Inv}
 use Rattle.history.proofs.Context.{Ctx, entry-is, durable-last}
 use Rattle.history.proofs.WellFormed.{state-ok, memory-ok}
 use Rattle.history.proofs.Refusals.{call-ordinary, load-kept, restart-right, restart-wrong, inspect-right, inspect-wrong, inspect-kept}
-use Rattle.history.proofs.Reached.{geometryFor, context, tied}
+use Rattle.history.proofs.Reached.{madeWith, context, tied}
 
--- a good image is a replay
-is-replay : (p : ℕ) (k : List Logged) (x : List ℕ) → Rattle.history.proofs.Records.Good p k x → IsReplay p k x
+-- a replay in the words of the facts
+is-replay : (p : ℕ) (k : List Logged) (x : List ℕ) → ReplayOf p k x → IsReplay p k x
 is-replay p k x f =
     record {
       low = omega (arith, f .lsn-is);
@@ -59,34 +53,31 @@ not-failed n d w b e = rest (eqb n d) (ltb n w) (rw (le-ltb d n b) at e)
     rest false false e = let z : _≡_ {A = ℕ} 0 1 = cc in omega arith
 
 module _ (h : History) (legal : Legal h) where
-  g : Geometry
-  g = geometryFor (h .pages) (h .slots) (h .records) (h .notes)
-
-  i : Inv (geometryFor (h .pages) (h .slots) (h .records) (h .notes)) (reached h .volume) (reached h .past) (reached h .power) (logOf h)
+  i : Inv (madeWith h) (reached h .volume) (reached h .past) (reached h .power) (logOf h)
   i = tied h legal
 
-  heading : headingOf h ≡ geometryFor (h .pages) (h .slots) (h .records) (h .notes)
+  heading : headingOf h ≡ madeWith h
   heading = i .holds .vol .geo
 
   p64 : h .pages ≤ 64
-  p64 = volume-sized (geometryFor (h .pages) (h .slots) (h .records) (h .notes)) (volumeOf h) (i .holds .vol) .p-high
+  p64 = volume-sized (madeWith h) (volumeOf h) (i .holds .vol) .p-high
 
   -- a page's entry, as the volume gives it
   entry : (p : ℕ) → 1 ≤ p → p ≤ h .pages → entryOf (indexOf (headingOf h) (volumeOf h)) p ≡ entryFrom (lastOf p (keptOf h)) (lastOf p (keptOf h)) (markAt p (i .ns) (length (i .ns)))
   entry p lo hi =
-      rw heading (index-is (geometryFor (h .pages) (h .slots) (h .records) (h .notes)) (volumeOf h) (keptOf h) (i .holds) (i .ns) (i .noted) .entry p lo (omega (arith, p64)))
+      rw heading (index-is (madeWith h) (volumeOf h) (keptOf h) (i .holds) (i .ns) (i .noted) .entry p lo (omega (arith, p64)))
 
   -- the machine that is on
   module _ (m : List ℕ) (s : State) (e : reached h .power ≡ on m s) where
-    ctx : Ctx (geometryFor (h .pages) (h .slots) (h .records) (h .notes)) (volumeOf h) m (reached h .past) s (keptOf h) (logOf h .pending)
-    ctx = context (geometryFor (h .pages) (h .slots) (h .records) (h .notes)) (volumeOf h) m (reached h .past) s (logOf h)
-        (subst (λ (y : Power). Inv (geometryFor (h .pages) (h .slots) (h .records) (h .notes)) (volumeOf h) (reached h .past) y (logOf h)) e i)
+    ctx : Ctx (madeWith h) (volumeOf h) m (reached h .past) s (keptOf h) (logOf h .pending)
+    ctx = context (madeWith h) (volumeOf h) m (reached h .past) s (logOf h)
+        (subst (λ (y : Power). Inv (madeWith h) (volumeOf h) (reached h .past) y (logOf h)) e i)
 
     same-entry : (p : ℕ) → 1 ≤ p → p ≤ h .pages → SameEntry h s p
     same-entry p lo hi =
         let a = entry-is ctx p lo hi in
         let b : entryOf (indexOf (headingOf h) (volumeOf h)) p ≡ entryFrom (lastOf p (keptOf h)) (lastOf p (keptOf h)) (markAt p (ctx .ns) (length (ctx .ns))) =
-        rw heading (index-is (geometryFor (h .pages) (h .slots) (h .records) (h .notes)) (volumeOf h) (keptOf h) (ctx .hs) (ctx .ns) (ctx .no) .entry p lo (omega (arith, p64))) in
+        rw heading (index-is (madeWith h) (volumeOf h) (keptOf h) (ctx .hs) (ctx .ns) (ctx .no) .entry p lo (omega (arith, p64))) in
         let d = durable-last ctx p lo hi in
         record {
           durable = ap (λ (y : Entry). y .durable) a ∙ (d ∙ sym (ap (λ (y : Entry). y .durable) b));
@@ -104,7 +95,7 @@ module _ (h : History) (legal : Legal h) where
     abbrev own : List ℕ
     own = item (headingOf h) (volumeOf h) (pageAt p)
 
-    own-good : Valid (headingOf h) p (keptOf h) own
+    own-good : Faithful (headingOf h) p (keptOf h) own
     own-good = rw heading (i .holds .images p lo hi)
 
     not-above : validImage (headingOf h) p own ≡ true → imageLsn own ≤ entryOf (indexOf (headingOf h) (volumeOf h)) p .durable
@@ -122,7 +113,7 @@ module _ (h : History) (legal : Legal h) where
               (λ t. t);
         }
 
-    noted-page : Rattle.history.specs.Facts.Noted h p
+    noted-page : IndexEntry h p
     noted-page =
         record {
           durable = ap (λ (y : Entry). y .durable) (entry p lo hi) ∙ sym (last-is p (keptOf h));
@@ -131,7 +122,7 @@ module _ (h : History) (legal : Legal h) where
               (ap (λ (y : Entry). y .slot) (entry p lo hi)) nz t);
         }
       where
-        copy : (b : ℕ) → b ≡ markAt p (i .ns) (length (i .ns)) .slot → b ≢ 0 → Valid (headingOf h) p (keptOf h) (item (headingOf h) (volumeOf h) (slotAt b))
+        copy : (b : ℕ) → b ≡ markAt p (i .ns) (length (i .ns)) .slot → b ≢ 0 → Faithful (headingOf h) p (keptOf h) (item (headingOf h) (volumeOf h) (slotAt b))
         copy b q nz = rw (heading, q) (i .noted .backups p lo hi (λ z. nz (q ∙ z)))
 
 pub facts : Facts
@@ -140,12 +131,12 @@ facts =
       sound = λ h l m s e. record { memory = memory-ok (ctx h l m s e); state = state-ok (ctx h l m s e) };
       calls = λ h l m s e c. call-ordinary (ctx h l m s e) c;
       restarts = λ h l m. record {
-        right = restart-right (geometryFor (h .pages) (h .slots) (h .records) (h .notes)) (volumeOf h) (keptOf h) (i h l .holds) (i h l .ns) (i h l .noted) m;
-        wrong = restart-wrong (geometryFor (h .pages) (h .slots) (h .records) (h .notes)) (volumeOf h) (keptOf h) (i h l .holds) (i h l .ns) (i h l .noted) m;
+        right = restart-right (madeWith h) (volumeOf h) (keptOf h) (i h l .holds) (i h l .ns) (i h l .noted) m;
+        wrong = restart-wrong (madeWith h) (volumeOf h) (keptOf h) (i h l .holds) (i h l .ns) (i h l .noted) m;
       };
       answers = λ h l p buffer. record {
-        right = inspect-right (geometryFor (h .pages) (h .slots) (h .records) (h .notes)) (volumeOf h) (keptOf h) (i h l .holds) (i h l .ns) (i h l .noted) p buffer;
-        wrong = inspect-wrong (geometryFor (h .pages) (h .slots) (h .records) (h .notes)) (volumeOf h) (keptOf h) (i h l .holds) (i h l .ns) (i h l .noted) p buffer;
+        right = inspect-right (madeWith h) (volumeOf h) (keptOf h) (i h l .holds) (i h l .ns) (i h l .noted) p buffer;
+        wrong = inspect-wrong (madeWith h) (volumeOf h) (keptOf h) (i h l .holds) (i h l .ns) (i h l .noted) p buffer;
       };
       stored = stored-image;
       own = own-image;
@@ -158,6 +149,6 @@ facts =
           (λ z. nz (a ∙ z)) (sym a ∙ (e ∙ b));
       loads = λ h l m s e p f nz. load-kept (ctx h l m s e) p f (λ z. nz (last-is p (keptOf h) ∙ z));
       inspects = λ h l p buffer nz.
-          inspect-kept (geometryFor (h .pages) (h .slots) (h .records) (h .notes)) (volumeOf h) (keptOf h) (i h l .holds) (i h l .ns) (i h l .noted) p buffer
-          (λ lo hi z. nz (last-is p (keptOf h) ∙ (sym (ap (λ (y : Entry). y .durable) (index-is (geometryFor (h .pages) (h .slots) (h .records) (h .notes)) (volumeOf h) (keptOf h) (i h l .holds) (i h l .ns) (i h l .noted) .entry p lo (omega (arith, p64 h l)))) ∙ z)));
+          inspect-kept (madeWith h) (volumeOf h) (keptOf h) (i h l .holds) (i h l .ns) (i h l .noted) p buffer
+          (λ lo hi z. nz (last-is p (keptOf h) ∙ (sym (ap (λ (y : Entry). y .durable) (index-is (madeWith h) (volumeOf h) (keptOf h) (i h l .holds) (i h l .ns) (i h l .noted) .entry p lo (omega (arith, p64 h l)))) ∙ z)));
     }

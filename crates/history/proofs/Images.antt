@@ -1,40 +1,30 @@
 -- Write and Backup keep the invariant: the image that they store is a replay, and the note that they leave may follow.
-use mathlib.Core.Path.{_≡_, refl, sym, ap, _∙_, subst}
-use mathlib.Core.Logic.{_≢_, _⊎_, inl, inr}
-use mathlib.Core.Bool.{Bool, true, false, cond, not, _&&_, _||_}
-use mathlib.Core.List.{List, [], _∷_, _++_}
-use Prim.Native.Nat.{ℕ, zero, suc, _+_, _-_, _*_, _≤_, _<_}
+use mathlib.Core.Path.{_≡_, refl, sym, _∙_}
+use mathlib.Core.Bool.{true, false}
+use mathlib.Core.List.{List, _∷_}
+use Prim.Native.Nat.{ℕ, zero, suc, _+_, _-_, _≤_}
 use native.Mathlib.Omega.{arith}
-use lib.ListN.{length, getD, set}
-use lib.Dec.{eqb, leb, ltb}
-use borrow.Author.Tests.{eqb-false, leb-false, ltb-false, not-false}
-use Rattle.laws.proofs.Tests.{byCases, true-not-false, and-left, and-right, within-bounds}
+use lib.ListN.{length}
+use Rattle.laws.proofs.Tests.{true-not-false}
 use Rattle.laws.proofs.Items.{sealImage-valid, frameImage-page, frameImage-zeros}
-use Rattle.model.specs.Tests.{Row, firstOf, within}
 use Rattle.model.specs.Checksum.{imageSealed, sealImage}
-use Rattle.model.specs.Geometry.{Place, pageAt, slotAt, recordAt, noteAt, width, geometryOf, item, store}
-use Rattle.model.specs.Item.{imageLsn, imageBody, validImage, frameImage, isWritten}
+use Rattle.model.specs.Geometry.{Place, pageAt, slotAt, width, store}
+use Rattle.model.specs.Item.{imageLsn, frameImage, isWritten}
 use Rattle.model.specs.Index.{slotUsed}
-use Rattle.model.specs.State.{frameBytes, holder, held, notePending, lastNote, notesFull}
-use Rattle.model.specs.Refusals.{pageDirty, notDurable, writeRows, backupRows}
-use Rattle.model.specs.Calls.{StoredItem, nothing, oneItem, Outcome, volumeAfter, withFrame, withFrames, nextNote}
-use Rattle.model.specs.AbstractLog.{Logged, AbstractLog}
-use Rattle.model.specs.History.{Power, off, on, isImage, itemSealed}
+use Rattle.model.specs.State.{frameBytes, holder, lastNote}
+use Rattle.model.specs.Calls.{StoredItem, oneItem}
+use Rattle.model.specs.AbstractLog.{Logged}
+use Rattle.model.specs.History.{itemSealed}
 use Rattle.model.specs.declared.geometry.Geometry.{Geometry}
-use Rattle.model.specs.declared.answer.Answer.{Answer}
 use Rattle.model.specs.declared.item.Note.{Note}
-use Rattle.model.specs.declared.state.PendingNote.{PendingNote}
-use Rattle.model.specs.declared.state.PendingNote.the-variants.{Absent, Present}
 use Rattle.model.specs.declared.state.State.{State}
-use Rattle.history.proofs.Book.{at, lastAt, lastOf, bodyOf, last-le, last-below}
-use Rattle.history.proofs.Entries.{Mark, markAt, NoteOk, Backed, mark-ok, slot-spare}
+use Rattle.history.proofs.Book.{at, lastOf, bodyOf, last-le, last-below}
+use Rattle.history.proofs.Entries.{markAt, NoteOk, Backed, mark-ok, slot-spare}
 use Rattle.history.proofs.Leaf.{frame-lsn, frame-size, image-lsn, image-body, image-size, valid-sealed}
-use Rattle.history.proofs.Records.{Good, Valid}
 use Rattle.history.proofs.Disk.{Holds, Noted}
-use Rattle.history.proofs.Inv.{Fine, Image, image-fine, Past, past-cons, PendingOk, Framed, Settled, frame}
-use Rattle.history.proofs.Stores.{page-holds, page-noted, slot-holds, slot-noted, slot-same}
-use Rattle.history.proofs.FrameSteps.{frames-clean}
-use Rattle.history.proofs.Context.{Ctx, Kept, Passed, passed, in-range, sized, geo, len, sum, few, body-size, durable-last, kept-page, kept-body, Found, found-frame, keep-same}
+use Rattle.history.proofs.Inv.{Fine, Image, image-fine, Past, past-cons, Settled}
+use Rattle.history.proofs.Stores.{page-holds, page-noted, slot-holds, slot-noted}
+use Rattle.history.proofs.Context.{Ctx, sized, len, few, body-size, durable-last, kept-page, kept-body, Found}
 
 -- an item that may be stored: what it leaves whole, and torn
 pub record StoreOk (g : Geometry) (v : List ℕ) (past : List StoredItem) (k : List Logged) (ns : List Note) (at : Place) (xs : List ℕ) (k′ : List Logged) (ns′ : List Note) : Type 0 where

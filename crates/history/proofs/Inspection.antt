@@ -1,20 +1,17 @@
 -- What Inspect shows of a volume that holds a list of changes and notes: 7 for a blank page, else the page's number and replay.
-use mathlib.Core.Path.{_≡_, refl, sym, ap, _∙_, subst}
-use mathlib.Core.Logic.{_≢_, _⊎_, inl, inr}
-use mathlib.Core.Bool.{Bool, true, false, cond, not}
-use mathlib.Core.List.{List, [], _∷_, _++_}
-use Prim.Native.Nat.{ℕ, zero, suc, _+_, _-_, _*_, _≤_, _<_}
+use mathlib.Core.Path.{_≡_, refl, sym, ap, _∙_}
+use mathlib.Core.Logic.{_≢_}
+use mathlib.Core.Bool.{cond}
+use mathlib.Core.List.{List, _++_}
+use Prim.Native.Nat.{ℕ, zero, suc, _≤_}
 use native.Mathlib.Omega.{arith}
-use native.Mathlib.Decide.{ℕ-discrete}
 use lib.ListN.{length}
 use lib.Dec.{eqb}
 use borrow.Author.Tests.{eq-eqb, ne-eqb}
-use Rattle.laws.proofs.Tests.{byCases, within-holds}
-use Rattle.model.specs.Tests.{firstOf, within}
+use Rattle.laws.proofs.Tests.{within-holds}
+use Rattle.model.specs.Tests.{firstOf}
 use Rattle.model.specs.Bytes.{bytesOf, part}
 use Rattle.model.specs.Checksum.{sealImage}
-use Rattle.model.specs.Geometry.{geometryOf}
-use Rattle.model.specs.Item.{frameImage}
 use Rattle.model.specs.Index.{entryOf}
 use Rattle.model.specs.Scan.{indexOf}
 use Rattle.model.specs.Repair.{viewOf, rebuilt, rebuiltBody}
@@ -23,9 +20,8 @@ use Rattle.model.specs.Calls.{inspectOf, refusalOf}
 use Rattle.model.specs.AbstractLog.{Logged}
 use Rattle.model.specs.declared.geometry.Geometry.{Geometry}
 use Rattle.model.specs.declared.item.Note.{Note}
-use Rattle.model.specs.declared.state.Entry.{Entry}
-use Rattle.history.proofs.Book.{at, lastAt, lastOf, bodyOf, replayAt, last-le, last-page, replay-last}
-use Rattle.history.proofs.Entries.{Mark, markAt, entryFrom, Indexed}
+use Rattle.history.proofs.Book.{lastOf, bodyOf, replayAt, last-le, last-page, replay-last}
+use Rattle.history.proofs.Entries.{markAt, entryFrom}
 use Rattle.history.proofs.Leaf.{image-shown}
 use Rattle.history.proofs.Records.{length-replay}
 use Rattle.history.proofs.Sections.{Sized, volume-sized}

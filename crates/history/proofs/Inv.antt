@@ -1,10 +1,10 @@
 -- The invariant that ties a machine to the abstract log: what the volume holds, what calls stored, and, while the power is on, what memory
 -- and state say.
 use mathlib.Core.Path.{_≡_, refl, sym, ap, _∙_, subst}
-use mathlib.Core.Logic.{_≢_, _⊎_, inl, inr, ⊎-elim}
-use mathlib.Core.Bool.{Bool, true, false, cond, not, _&&_, _||_}
+use mathlib.Core.Logic.{_≢_, ⊎-elim}
+use mathlib.Core.Bool.{true, false, _&&_}
 use mathlib.Core.List.{List, [], _∷_, _++_}
-use Prim.Native.Nat.{ℕ, zero, suc, _+_, _-_, _*_, _%_, _≤_, _<_}
+use Prim.Native.Nat.{ℕ, suc, _+_, _-_, _*_, _≤_, _<_}
 use native.Mathlib.Omega.{arith}
 use lib.ListN.{length, getD, length-append, List·getD-append}
 use lib.Dec.{eqb}
@@ -24,16 +24,16 @@ use Rattle.model.specs.declared.state.PendingNote.{PendingNote}
 use Rattle.model.specs.declared.state.PendingNote.the-variants.{Absent, Present}
 use Rattle.model.specs.declared.state.State.{State}
 use Rattle.history.proofs.Book.{noLogged, at, lastAt, lastOf, bodyOf}
-use Rattle.history.proofs.Entries.{note, markAt, NoteOk, NotesOk, Indexed}
+use Rattle.history.proofs.Entries.{note, NoteOk, Indexed}
 use Rattle.history.proofs.Leaf.{valid-page}
-use Rattle.history.proofs.Records.{Fair, AllFair, recOf, Good, Valid, valid-append}
+use Rattle.history.proofs.Records.{AllFair, recOf, ReplayOf, Faithful, valid-append}
 use Rattle.history.proofs.Disk.{Holds, Noted}
 
 -- ---- what calls stored
 
 -- the image is a replay, whichever page it is valid as
 abbrev pub Fine : Geometry → List Logged → List ℕ → Type 0
-Fine g k xs = (p : ℕ) → Valid g p k xs
+Fine g k xs = (p : ℕ) → Faithful g p k xs
 
 -- the image is valid as some page in range, and is that page's replay
 pub record Image (g : Geometry) (k : List Logged) (xs : List ℕ) : Type 0 where
@@ -41,12 +41,12 @@ pub record Image (g : Geometry) (k : List Logged) (xs : List ℕ) : Type 0 where
   pub low : 1 ≤ page
   pub high : page ≤ g .pages
   pub valid : validImage g page xs ≡ true
-  pub good : Good page k xs
+  pub good : ReplayOf page k xs
 
 pub image-fine : (g : Geometry) (k : List Logged) (xs : List ℕ) → Image g k xs → Fine g k xs
 image-fine g k xs x p t =
     let e : x .page ≡ p = sym (valid-page g (x .page) xs (x .valid)) ∙ valid-page g p xs t in
-    subst (λ (q : ℕ). Good q k xs) e (x .good)
+    subst (λ (q : ℕ). ReplayOf q k xs) e (x .good)
 
 pub image-append : (g : Geometry) (k r : List Logged) (xs : List ℕ) → Image g k xs → Image g (k ++ r) xs
 image-append g k r xs x =
@@ -106,7 +106,7 @@ past-cons g k past (oneItem at′ ys) t f at xs i e =
 abbrev pub PendingOk : Geometry → List ℕ → List Logged → List Note → PendingNote → Type 0
 PendingOk g v k ns Absent = Unit {0}
 PendingOk g v k ns (Present x) =
-    NoteOk (g .pages) (g .slots) k ns (length ns) x × (length ns < g .notes) × (isWritten x ≡ false → Valid g (x .page) k (item g v (slotAt (x .slot))))
+    NoteOk (g .pages) (g .slots) k ns (length ns) x × (length ns < g .notes) × (isWritten x ≡ false → Faithful g (x .page) k (item g v (slotAt (x .slot))))
 
 -- a memory of F frames
 pub record Memory (F : ℕ) (m : List ℕ) : Type 0 where

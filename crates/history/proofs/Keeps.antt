@@ -1,26 +1,25 @@
 -- Force, Write, Backup and Note keep the invariant.
-use mathlib.Core.Path.{_≡_, refl, sym, ap, _∙_, subst}
-use mathlib.Core.Logic.{_≢_, _⊎_, inl, inr}
-use mathlib.Core.Bool.{Bool, true, false, cond, not, _&&_, _||_}
+use mathlib.Core.Path.{_≡_, refl, ap, _∙_, subst}
+use mathlib.Core.Bool.{true, false, cond}
 use mathlib.Core.List.{List, [], _∷_, _++_}
-use Prim.Native.Nat.{ℕ, zero, suc, _+_, _-_, _*_, _≤_, _<_}
+use Prim.Native.Nat.{ℕ, suc, _+_, _-_, _≤_, _<_}
 use native.Mathlib.Omega.{arith}
-use lib.ListN.{length, getD, set}
-use lib.Dec.{eqb, leb, ltb}
-use borrow.Author.Tests.{eq-eqb, ne-eqb, eqb-false, leb-false, ltb-false, not-false}
+use lib.ListN.{length}
+use lib.Dec.{eqb}
+use borrow.Author.Tests.{eq-eqb, ne-eqb, leb-false, ltb-false}
 use Rattle.laws.proofs.Tests.{byCases, true-not-false, within-holds}
 use Rattle.laws.proofs.Notes.{note-length}
-use Rattle.model.specs.Tests.{Row, firstOf, within}
+use Rattle.model.specs.Tests.{firstOf}
 use Rattle.model.specs.Bytes.{field}
 use Rattle.model.specs.Checksum.{sealImage}
-use Rattle.model.specs.Geometry.{Place, pageAt, slotAt, recordAt, noteAt, logSlot, noteSlot, geometryOf, item, store}
-use Rattle.model.specs.Item.{imageLsn, recordOf, isWritten, noteBytes}
-use Rattle.model.specs.Index.{entryOf, setEntry, withDurable, slotUsed, enterNote}
-use Rattle.model.specs.State.{frameBytes, pendingBytes, holder, held, notePending, lastNote, notesFull}
-use Rattle.model.specs.Refusals.{pageDirty, notDurable, writeRows, backupRows}
-use Rattle.model.specs.Calls.{StoredItem, nothing, oneItem, Outcome, volumeAfter, unchanged, withFrame, withFrames, nextNote, forcedState, notedState, noteStored}
-use Rattle.model.specs.AbstractLog.{Logged, AbstractLog, moveFirst}
-use Rattle.model.specs.History.{Power, off, on}
+use Rattle.model.specs.Geometry.{pageAt, slotAt, recordAt, noteAt, logSlot, geometryOf, store}
+use Rattle.model.specs.Item.{imageLsn, recordOf, noteBytes}
+use Rattle.model.specs.Index.{slotUsed}
+use Rattle.model.specs.State.{frameBytes, pendingBytes, holder, notePending, lastNote}
+use Rattle.model.specs.Refusals.{pageDirty, writeRows, backupRows}
+use Rattle.model.specs.Calls.{StoredItem, oneItem, Outcome, volumeAfter, unchanged, withFrame, withFrames, nextNote, forcedState, notedState, noteStored}
+use Rattle.model.specs.AbstractLog.{Logged, moveFirst}
+use Rattle.model.specs.History.{on}
 use Rattle.model.specs.declared.geometry.Geometry.{Geometry}
 use Rattle.model.specs.declared.answer.Answer.{Answer}
 use Rattle.model.specs.declared.answer.Answer.the-variants.{Done, Nothing}
@@ -30,15 +29,14 @@ use Rattle.model.specs.declared.state.PendingNote.{PendingNote}
 use Rattle.model.specs.declared.state.PendingNote.the-variants.{Absent, Present}
 use Rattle.model.specs.declared.state.State.{State}
 use Rattle.history.proofs.Book.{at, atA, lenA}
-use Rattle.history.proofs.Entries.{NoteOk, lenN}
+use Rattle.history.proofs.Entries.{lenN}
 use Rattle.history.proofs.Records.{recOf, recOf-is, Fair, valid-append}
-use Rattle.history.proofs.Disk.{Holds, Noted}
-use Rattle.history.proofs.Inv.{past-cons, past-append, PendingOk, Settled, frame, note-append, image-fine, Inv}
+use Rattle.history.proofs.Inv.{past-cons, past-append, PendingOk, note-append, image-fine, Inv}
 use Rattle.history.proofs.Stores.{record-size, force-holds, force-noted, torn-holds, torn-noted, rec-slots, note-holds, note-noted, note-torn, slot-same, pending-keep}
-use Rattle.history.proofs.LogSteps.{inside, oldest-is, oldest-fair, oldest-page, log-force, index-force, index-note}
+use Rattle.history.proofs.LogSteps.{oldest-is, oldest-fair, oldest-page, log-force, index-force, index-note}
 use Rattle.history.proofs.FrameSteps.{frames-clean, frames-later}
-use Rattle.history.proofs.Context.{Ctx, Kept, Passed, passed, in-range, sized, geo, len, sum, Found, found-frame, keep-same}
-use Rattle.history.proofs.Images.{StoreOk, lsn-is, sealed-size, settled, image-is, write-note, backup-note, write-store, backup-store}
+use Rattle.history.proofs.Context.{Ctx, Kept, passed, in-range, sized, geo, len, Found, found-frame, keep-same}
+use Rattle.history.proofs.Images.{StoreOk, sealed-size, settled, image-is, write-note, backup-note, write-store, backup-store}
 
 record-page : (r : List ℕ) → field 2 8 r ≡ recordOf r .page
 unfolding recordOf

@@ -1,19 +1,16 @@
 -- Items and changes as the theorem uses them, within the bounds of a volume: a record, an image and a note read back what they were made
 -- from.
-use mathlib.Core.Path.{_≡_, refl, sym, ap, _∙_}
-use mathlib.Core.Logic.{_≢_, _⊎_, inl, inr}
-use mathlib.Core.Bool.{Bool, true, false, cond, _&&_, _||_}
-use mathlib.Core.List.{List, [], _∷_, _++_, append-assoc}
-use Prim.Native.Nat.{ℕ, zero, suc, _+_, _-_, _*_, _≤_, _<_}
+use mathlib.Core.Path.{_≡_, refl, ap, _∙_}
+use mathlib.Core.Bool.{true}
+use mathlib.Core.List.{List, _++_}
+use Prim.Native.Nat.{ℕ, _≤_}
 use native.Mathlib.Omega.{arith}
-use lib.ListN.{length, getD, take, drop, replicate, length-append, length-take, length-drop, length-replicate}
-use lib.Seq.{take-take, length-take-le, take-all, take-at, drop-at}
-use lib.Dec.{eqb, leb, lit≤}
-use borrow.Author.Tests.{eq-eqb, eqb-true, leb-true}
-use Rattle.laws.proofs.Fields.{bytesOf-length}
-use Rattle.laws.proofs.Items.{frameImage-length, frameImage-page, frameImage-lsn, frameImage-body, sealImage-length, sealImage-field, sealImage-part, image-facts}
+use lib.ListN.{length, take, replicate}
+use lib.Seq.{take-take, take-all, take-at, drop-at}
+use lib.Dec.{eqb, lit≤}
+use Rattle.laws.proofs.Items.{frameImage-length, frameImage-lsn, frameImage-body, sealImage-length, sealImage-field, sealImage-part, image-facts}
 use Rattle.laws.proofs.Changes.{Encodes, encoded-length, encoded-sealed, encoded-back, encoded-layout, encoded-applies}
-use Rattle.laws.proofs.Notes.{NoteFits, note-back}
+use Rattle.laws.proofs.Notes.{note-back}
 use Rattle.model.specs.declared.geometry.Geometry.{Geometry}
 use Rattle.model.specs.declared.change.Change.{Change}
 use Rattle.model.specs.declared.change.Change.the-variants.{Format, Put, Slide}
@@ -85,10 +82,6 @@ module _ (g : Geometry) (p n : ℕ) (body : List ℕ) (hp : p ≤ 64) (hn : n �
 
   pub image-size : length (sealImage g (frameImage p n body)) ≡ 256
   image-size = sealImage-length g (frameImage p n body) frame-size
-
-  pub image-page : (q : ℕ) → validImage g q (sealImage g (frameImage p n body)) ≡ true → p ≡ q
-  image-page q h =
-      sym (frameImage-page p n body hb (omega arith)) ∙ (sym (sealImage-field g (frameImage p n body) frame-size 2 0 (lit≤ tt)) ∙ image-facts g q (sealImage g (frameImage p n body)) h .page)
 
   -- number and body, as inspection shows them
   pub image-shown : part (sealImage g (frameImage p n body)) 4 248 ≡ bytesOf 4 n ++ body

@@ -1,37 +1,33 @@
 -- Load keeps the invariant: a page in no frame is repaired to its replay, and its walk is never broken.
-use mathlib.Core.Path.{_≡_, refl, sym, ap, _∙_, subst}
-use mathlib.Core.Logic.{_≢_, _⊎_, inl, inr}
-use mathlib.Core.Bool.{Bool, true, false, cond, not, _&&_, _||_}
+use mathlib.Core.Path.{_≡_, refl, sym, ap, _∙_}
+use mathlib.Core.Logic.{_≢_}
+use mathlib.Core.Bool.{Bool, true, false, cond, not}
 use mathlib.Core.List.{List, [], _∷_, _++_}
-use Prim.Native.Nat.{ℕ, zero, suc, _+_, _-_, _*_, _≤_, _<_}
+use Prim.Native.Nat.{ℕ, zero, suc, _-_, _≤_, _<_}
 use native.Mathlib.Omega.{arith}
-use lib.ListN.{length, getD, set}
-use lib.Dec.{eqb, leb, ltb}
-use borrow.Author.Tests.{eqb-false, not-false}
-use Rattle.laws.proofs.Tests.{byCases, true-not-false}
+use lib.ListN.{length}
+use borrow.Author.Tests.{eqb-false}
+use Rattle.laws.proofs.Tests.{true-not-false}
 use Rattle.model.specs.Tests.{Row, firstOf, within}
 use Rattle.model.specs.Bytes.{splice}
-use Rattle.model.specs.Geometry.{geometryOf, validVolume, item}
+use Rattle.model.specs.Geometry.{geometryOf, validVolume}
 use Rattle.model.specs.Item.{frameImage}
 use Rattle.model.specs.Index.{entryOf}
-use Rattle.model.specs.Repair.{View, viewOf, walkOf, isBroken, rebuilt, rebuiltBody}
-use Rattle.model.specs.State.{frameAt, frameBytes, holder, held, frameCount, validMemory, wellFormed, blank}
+use Rattle.model.specs.Repair.{viewOf, walkOf, isBroken, rebuilt}
+use Rattle.model.specs.State.{frameAt, held, frameCount, validMemory, wellFormed, blank}
 use Rattle.model.specs.Refusals.{loadRows, frameBlocked, chainBroken}
-use Rattle.model.specs.Calls.{StoredItem, nothing, oneItem, Outcome, volumeAfter, withFrame, withFrames}
-use Rattle.model.specs.AbstractLog.{Logged, AbstractLog}
-use Rattle.model.specs.History.{Power, off, on}
+use Rattle.model.specs.Calls.{StoredItem, nothing, volumeAfter, withFrame, withFrames}
+use Rattle.model.specs.AbstractLog.{Logged}
 use Rattle.model.specs.declared.geometry.Geometry.{Geometry}
 use Rattle.model.specs.declared.answer.Answer.{Answer}
 use Rattle.model.specs.declared.state.State.{State}
 use Rattle.history.proofs.Book.{lastAt, lastOf, bodyOf, last-le}
-use Rattle.history.proofs.Entries.{markAt}
 use Rattle.history.proofs.Leaf.{frame-size}
-use Rattle.history.proofs.Inv.{past-cons, Framed, Settled, frame, Memory}
+use Rattle.history.proofs.Inv.{past-cons, Settled, frame}
 use Rattle.history.proofs.Memory.{frame-count, frame-memory, frame-same, frame-other, frame-pending}
-use Rattle.history.proofs.LogSteps.{Joins}
 use Rattle.history.proofs.FrameSteps.{frames-put}
 use Rattle.history.proofs.Views.{view-unbroken, view-body}
-use Rattle.history.proofs.Context.{Ctx, Kept, Codes, Passed, passed, in-range, sized, geo, len, sum, fair, few, body-size, entry-is, last-entry, kept-page, kept-body, nowhere}
+use Rattle.history.proofs.Context.{Ctx, Kept, Passed, passed, in-range, sized, geo, fair, few, body-size, entry-is, last-entry, kept-page, kept-body, nowhere}
 
 -- the rows before a row whose number is answered do not hold, and it does
 abbrev pub Others : ℕ → List Row → Type 0

@@ -1,12 +1,11 @@
 -- One more pending change, the oldest one forced, and one more note: what the counts, the pending records and the index then say.
-use mathlib.Core.Path.{_≡_, refl, sym, ap, _∙_, subst}
-use mathlib.Core.Logic.{_≢_}
-use mathlib.Core.Bool.{Bool, true, false}
+use mathlib.Core.Path.{_≡_, sym, ap, _∙_, subst}
+use mathlib.Core.Bool.{true}
 use mathlib.Core.List.{List, [], _∷_, _++_, append-assoc}
-use Prim.Native.Nat.{ℕ, zero, suc, _+_, _-_, _*_, _%_, _≤_, _<_}
+use Prim.Native.Nat.{ℕ, suc, _+_, _-_, _≤_, _<_}
 use native.Mathlib.Omega.{arith}
-use native.Mathlib.Decide.{decLt, ℕ-discrete}
-use lib.ListN.{length, getD, length-append, List·getD-append}
+use native.Mathlib.Decide.{decLt}
+use lib.ListN.{length, length-append, List·getD-append}
 use lib.Dec.{eqb}
 use Rattle.model.specs.Change.{kindOf, lengthOf, fits}
 use Rattle.model.specs.Index.{entryOf, setEntry, withLast, withDurable, enterNote}
@@ -16,8 +15,8 @@ use Rattle.model.specs.declared.geometry.Geometry.{Geometry}
 use Rattle.model.specs.declared.item.Note.{Note}
 use Rattle.model.specs.declared.state.Entry.{Entry}
 use Rattle.history.proofs.Book.{noLogged, at, lastAt, lastOf, last-append, last-hit, last-miss, lenA, atA, lastN, number-hit, number-miss}
-use Rattle.history.proofs.Entries.{note, markAt, mark-hit, mark-miss, mark-append, lenN, noteN, NoteOk, Indexed, indexed-set, entryFrom, entry-noted}
-use Rattle.history.proofs.Records.{Fair, AllFair, fair-more, fair-prefix, recOf, recOf-append}
+use Rattle.history.proofs.Entries.{markAt, mark-hit, mark-miss, mark-append, lenN, noteN, Indexed, indexed-set, entry-noted}
+use Rattle.history.proofs.Records.{Fair, fair-more, fair-prefix, recOf, recOf-append}
 use Rattle.history.proofs.Inv.{LogState}
 
 -- a change that may join

@@ -1,29 +1,28 @@
 -- Every legal history keeps the invariant, from Make on.
-use mathlib.Core.Path.{_≡_, refl, sym, ap, _∙_, subst}
-use mathlib.Core.Logic.{_≢_, _⊎_, inl, inr, ⊎-elim}
+use mathlib.Core.Path.{_≡_, refl, ap}
+use mathlib.Core.Logic.{inl, inr, ⊎-elim}
 use mathlib.Core.Bool.{Bool, true, false, cond, not, _&&_, _||_}
-use mathlib.Core.List.{List, [], _∷_, _++_}
-use Prim.Native.Nat.{ℕ, zero, suc, _+_, _-_, _*_, _≤_, _<_}
+use mathlib.Core.List.{List, [], _∷_}
+use Prim.Native.Nat.{ℕ}
 use native.Mathlib.Omega.{arith}
 use lib.ListN.{length, replicate}
 use lib.Dec.{eqb}
-use borrow.Author.Tests.{eqb-true, eqb-false, not-true, not-false}
+use borrow.Author.Tests.{eqb-true, not-true}
 use Rattle.laws.proofs.Tests.{byCases, and-left, and-right, or-cases, true-not-false}
 use Rattle.laws.proofs.Zeros.{zero-replicate, zero-fails}
 use Rattle.laws.proofs.EmptyVolume.{empty-geometry, empty-valid, empty-item}
-use Rattle.model.specs.Tests.{firstOf}
 use Rattle.model.specs.Checksum.{sealed}
-use Rattle.model.specs.Geometry.{Place, pageAt, slotAt, recordAt, noteAt, geometryOf, validCounts, lengthFor, emptyVolume, item, store}
+use Rattle.model.specs.Geometry.{Place, pageAt, recordAt, noteAt, geometryOf, validCounts, lengthFor, emptyVolume, item}
 use Rattle.model.specs.Item.{validImage}
 use Rattle.model.specs.Scan.{indexOf}
-use Rattle.model.specs.Refusals.{makeRows, restartRows}
-use Rattle.model.specs.Calls.{StoredItem, nothing, oneItem, makeOf, refusalOf, Call, outcomeOf}
-use Rattle.model.specs.AbstractLog.{Logged, AbstractLog, emptyLog}
-use Rattle.model.specs.History.{Power, off, on, Machine, Event, restart, perform, crash, crashIn, damage, lent, isImage, isOn, payloadFits, crashFits, tornFits, passesAt, storedBefore, step, allowed, stepLog, freshMachine, allAllowed, run, logAfter}
-use Rattle.model.specs.Claim.{History, Legal, fresh, reached, logOf, keptOf}
+use Rattle.model.specs.Refusals.{makeRows}
+use Rattle.model.specs.Calls.{StoredItem, makeOf, refusalOf, outcomeOf}
+use Rattle.model.specs.AbstractLog.{AbstractLog, emptyLog}
+use Rattle.model.specs.History.{Power, off, on, Machine, Event, restart, perform, crash, crashIn, damage, lent, isImage, payloadFits, tornFits, passesAt, storedBefore, step, allowed, stepLog, freshMachine, allAllowed, run, logAfter}
+use Rattle.model.specs.Claim.{History, Legal, fresh, reached, logOf}
 use Rattle.model.specs.declared.geometry.Geometry.{Geometry}
 use Rattle.model.specs.declared.state.State.{State}
-use Rattle.history.proofs.Entries.{Mark, markAt, mark-zero}
+use Rattle.history.proofs.Entries.{Mark, mark-zero}
 use Rattle.history.proofs.Leaf.{valid-sealed}
 use Rattle.history.proofs.Inv.{Inv}
 use Rattle.history.proofs.Context.{Ctx}
@@ -126,17 +125,18 @@ made found p b l n e = byCases (validCounts p b l n && eqb (length found) (lengt
 
 -- ---- a legal history
 
-module _ (h : History) (legal : Legal h) where
-  abbrev pub geometry : Geometry
-  geometry = geometryFor (h .pages) (h .slots) (h .records) (h .notes)
+-- the geometry that Make was given
+abbrev pub madeWith : History → Geometry
+madeWith h = geometryFor (h .pages) (h .slots) (h .records) (h .notes)
 
+module _ (h : History) (legal : Legal h) where
   mk : Made (h .found) (h .pages) (h .slots) (h .records) (h .notes)
   mk = made (h .found) (h .pages) (h .slots) (h .records) (h .notes) (legal .make)
 
-  start-tied : Tied geometry (fresh h) emptyLog
+  start-tied : Tied (madeWith h) (fresh h) emptyLog
   unfolding freshMachine
   start-tied = rw (mk .volume-is) (fresh-tied (h .pages) (h .slots) (h .records) (h .notes) (mk .counts))
 
-  pub tied : Tied (geometryFor (h .pages) (h .slots) (h .records) (h .notes)) (reached h) (logOf h)
+  pub tied : Tied (madeWith h) (reached h) (logOf h)
   unfolding reached logOf
-  tied = all-steps geometry (h .events) (fresh h) emptyLog start-tied (legal .events)
+  tied = all-steps (madeWith h) (h .events) (fresh h) emptyLog start-tied (legal .events)

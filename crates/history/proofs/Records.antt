@@ -1,20 +1,19 @@
 -- Changes that the calls let join, the record of each, and images that are a replay.
-use mathlib.Core.Path.{_≡_, refl, sym, ap, _∙_}
-use mathlib.Core.Logic.{_≢_}
-use mathlib.Core.Bool.{Bool, true, false, cond}
+use mathlib.Core.Path.{_≡_, refl}
+use mathlib.Core.Bool.{true}
 use mathlib.Core.List.{List, [], _∷_, _++_}
-use Prim.Native.Nat.{ℕ, zero, suc, _+_, _-_, _≤_, _<_}
+use Prim.Native.Nat.{ℕ, zero, suc, _≤_, _<_}
 use native.Mathlib.Omega.{arith}
-use native.Mathlib.Decide.{decLt, ℕ-discrete}
-use lib.ListN.{length, getD, length-append, length-replicate, List·getD-append}
+use native.Mathlib.Decide.{decLt}
+use lib.ListN.{length, length-append, length-replicate, List·getD-append}
 use lib.Dec.{eqb}
 use borrow.Author.Tests.{eqb-true}
 use Rattle.laws.proofs.Tests.{byCases}
 use Rattle.model.specs.declared.geometry.Geometry.{Geometry}
-use Rattle.model.specs.Change.{kindOf, lengthOf, fits, zeroBody, applyChange}
+use Rattle.model.specs.Change.{kindOf, lengthOf, fits}
 use Rattle.model.specs.Item.{imageLsn, imageBody, validImage, encodeChange}
 use Rattle.model.specs.AbstractLog.{Logged}
-use Rattle.history.proofs.Book.{noLogged, at, lastAt, replayAt, last-append, replay-append, last-le, replay-hit, replay-miss, lenA, atA, lastN, lastOf}
+use Rattle.history.proofs.Book.{noLogged, at, lastAt, replayAt, last-append, replay-append, last-le, lenA, atA, lastN, lastOf}
 use Rattle.laws.proofs.Changes.{apply-length}
 use Rattle.history.proofs.Leaf.{RecordIs, record-is}
 
@@ -102,18 +101,19 @@ last-past P p l f b (suc n) h =
 -- ---- images that are a replay
 
 -- the image x is page p's at one of its changes in l
-pub record Good (p : ℕ) (l : List Logged) (x : List ℕ) : Type 0 where
+pub record ReplayOf (p : ℕ) (l : List Logged) (x : List ℕ) : Type 0 where
   pub place : ℕ
   pub lsn-is : imageLsn x ≡ suc place
   pub below : place < length l
   pub page-is : at l place .page ≡ p
   pub body-is : imageBody x ≡ replayAt p l (suc place)
 
-abbrev pub Valid : Geometry → ℕ → List Logged → List ℕ → Type 0
-Valid g p l x = validImage g p x ≡ true → Good p l x
+-- where the image is valid as page p's, it is a replay of p
+abbrev pub Faithful : Geometry → ℕ → List Logged → List ℕ → Type 0
+Faithful g p l x = validImage g p x ≡ true → ReplayOf p l x
 
--- good stays good as the list grows
-pub valid-append : (g : Geometry) (p : ℕ) (l r : List Logged) (x : List ℕ) → Valid g p l x → Valid g p (l ++ r) x
+-- a replay stays one as the list grows
+pub valid-append : (g : Geometry) (p : ℕ) (l r : List Logged) (x : List ℕ) → Faithful g p l x → Faithful g p (l ++ r) x
 valid-append g p l r x f t =
     let v = f t in
     let b : v .place < length l = v .below in

@@ -1,26 +1,25 @@
 -- Which refusals come: in a machine that keeps the invariant no call blames volume, memory, state, log, notes or chain.
-use mathlib.Core.Path.{_≡_, refl, sym, ap, _∙_, subst}
-use mathlib.Core.Logic.{_≢_, _⊎_, inl, inr}
-use mathlib.Core.Bool.{Bool, true, false, cond, not, _&&_, _||_}
-use mathlib.Core.List.{List, [], _∷_, _++_}
-use Prim.Native.Nat.{ℕ, zero, suc, _+_, _-_, _≤_, _<_}
+use mathlib.Core.Path.{_≡_, refl, sym, _∙_}
+use mathlib.Core.Logic.{_≢_}
+use mathlib.Core.Bool.{true, false, not, _&&_}
+use mathlib.Core.List.{List, [], _∷_}
+use Prim.Native.Nat.{ℕ, _≤_}
 use native.Mathlib.Omega.{arith}
 use native.Mathlib.Decide.{ℕ-discrete}
 use lib.ListN.{length}
 use lib.Dec.{eqb}
-use borrow.Author.Tests.{eqb-true, eqb-false, eq-eqb, ne-eqb}
+use borrow.Author.Tests.{eqb-true, eq-eqb, ne-eqb}
 use Rattle.laws.proofs.Tests.{byCases}
 use Rattle.model.specs.Tests.{Row, firstOf, within}
-use Rattle.model.specs.Geometry.{geometryOf, validVolume}
+use Rattle.model.specs.Geometry.{geometryOf}
 use Rattle.model.specs.Change.{fits}
 use Rattle.model.specs.Index.{entryOf, slotUsed}
-use Rattle.model.specs.Scan.{validLog, validNotes, indexOf}
-use Rattle.model.specs.State.{frameCount, validMemory, wellFormed, held, blank, logFull, notesFull, notePending}
+use Rattle.model.specs.Scan.{indexOf}
+use Rattle.model.specs.State.{frameCount, validMemory, held, blank, logFull, notesFull, notePending}
 use Rattle.model.specs.Refusals.{frameBlocked, pageDirty, notDurable, chainBroken, restartRows, beginRows, loadRows, changeRows, forceRows, writeRows, backupRows, noteRows, inspectRows}
-use Rattle.model.specs.Calls.{StoredItem, Outcome, unchanged, decided, refusalOf, beginOf, loadOf, changeCall, forceOf, writeOf, backupOf, noteCall, noteStored, restartOf, inspectOf, Call, begin, load, change, force, write, backup, note, rowsOf, outcomeOf}
+use Rattle.model.specs.Calls.{StoredItem, Outcome, decided, refusalOf, beginOf, loadOf, changeCall, forceOf, writeOf, backupOf, noteCall, noteStored, restartOf, inspectOf, Call, begin, load, change, force, write, backup, note, rowsOf, outcomeOf}
 use Rattle.model.specs.AbstractLog.{Logged}
 use Rattle.model.specs.declared.geometry.Geometry.{Geometry}
-use Rattle.model.specs.declared.answer.Answer.{Answer}
 use Rattle.model.specs.declared.item.Note.{Note}
 use Rattle.model.specs.declared.state.PendingNote.{PendingNote}
 use Rattle.model.specs.declared.state.PendingNote.the-variants.{Absent, Present}
@@ -28,7 +27,7 @@ use Rattle.model.specs.declared.state.State.{State}
 use Rattle.history.specs.Facts.{Ordinary}
 use Rattle.history.proofs.Book.{lastOf, last-mono}
 use Rattle.history.proofs.Disk.{Holds, Noted, valid-log, valid-notes}
-use Rattle.history.proofs.Context.{Ctx, Passed, in-range, geo, len, last-entry, durable-last}
+use Rattle.history.proofs.Context.{Ctx, in-range, geo, len, last-entry, durable-last}
 use Rattle.history.proofs.Loads.{Others, none-other, until, never-broken}
 use Rattle.history.proofs.WellFormed.{state-ok, memory-ok, volume-ok}
 

@@ -1,21 +1,19 @@
 -- A section of a volume (the log or the notes), by its items: the run of right checksums, and zeros past its end.
-use mathlib.Core.Path.{_≡_, refl, sym, ap, _∙_, subst}
-use mathlib.Core.Logic.{_≢_, _⊎_, inl, inr}
-use mathlib.Core.Bool.{Bool, true, false, cond, _&&_}
+use mathlib.Core.Path.{_≡_, ap, _∙_, subst}
+use mathlib.Core.Logic.{_≢_}
+use mathlib.Core.Bool.{true, false}
 use mathlib.Core.List.{List, [], _∷_, _++_}
 use Prim.Native.Nat.{ℕ, zero, suc, _+_, _-_, _*_, _≤_, _<_}
 use native.Mathlib.Omega.{arith}
-use native.Mathlib.Nat.{le-of-suc-le-suc}
-use lib.ListN.{length, take, drop, replicate}
+use lib.ListN.{length, take, drop}
 use lib.Seq.{take-add, drop-drop}
 use lib.Dec.{eqb}
-use borrow.Author.Tests.{eqb-true, eq-eqb}
-use Rattle.laws.proofs.Tests.{and-left, and-right, and-both}
+use Rattle.laws.proofs.Tests.{and-left, and-right}
 use Rattle.laws.proofs.Checksums.{run-stops, run-goes}
-use Rattle.laws.proofs.Places.{total, In, Valid, valid-facts, item-store-same, item-store-other, store-length, geometry-store, valid-store}
+use Rattle.laws.proofs.Places.{total, In, valid-facts, item-store-same, item-store-other, geometry-store, valid-store}
 use Rattle.model.specs.Bytes.{part, allZero}
 use Rattle.model.specs.Checksum.{sealed, sealedRun}
-use Rattle.model.specs.Geometry.{Place, pageAt, slotAt, recordAt, noteAt, width, start, item, store, geometryOf, validVolume}
+use Rattle.model.specs.Geometry.{Place, width, start, item, store, geometryOf, validVolume}
 use Rattle.model.specs.Scan.{restZero}
 use Rattle.model.specs.declared.geometry.Geometry.{Geometry}
 

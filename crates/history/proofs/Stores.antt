@@ -1,19 +1,19 @@
 -- What each store, whole or torn, leaves of the volume's part of the invariant.
-use mathlib.Core.Path.{_≡_, refl, sym, ap, _∙_, subst}
+use mathlib.Core.Path.{_≡_, refl, sym, ap, _∙_}
 use mathlib.Core.Logic.{_≢_, _⊎_, inl, inr}
-use mathlib.Core.Bool.{Bool, true, false, cond, not, _&&_, _||_}
+use mathlib.Core.Bool.{true, false}
 use mathlib.Core.List.{List, [], _∷_, _++_}
-use Prim.Native.Nat.{ℕ, zero, suc, _+_, _-_, _*_, _≤_, _<_}
+use Prim.Native.Nat.{ℕ, suc, _≤_, _<_}
 use native.Mathlib.Omega.{arith}
 use native.Mathlib.Decide.{decLt, ℕ-discrete}
-use lib.ListN.{length, getD, List·getD-append}
+use lib.ListN.{length, List·getD-append}
 use Rattle.laws.proofs.Tests.{byCases}
 use Rattle.laws.proofs.Places.{In, item-length}
 use Rattle.laws.proofs.Zeros.{zero-is, zero-fails}
 use Rattle.laws.proofs.Notes.{note-length}
 use Rattle.model.specs.Bytes.{allZero}
 use Rattle.model.specs.Checksum.{sealed}
-use Rattle.model.specs.Geometry.{Place, pageAt, slotAt, recordAt, noteAt, width, start, item, store}
+use Rattle.model.specs.Geometry.{Place, pageAt, slotAt, recordAt, noteAt, start, item, store}
 use Rattle.model.specs.Item.{noteBytes, isWritten}
 use Rattle.model.specs.AbstractLog.{Logged}
 use Rattle.model.specs.declared.geometry.Geometry.{Geometry}
@@ -21,9 +21,8 @@ use Rattle.model.specs.declared.item.Note.{Note}
 use Rattle.model.specs.declared.state.PendingNote.{PendingNote}
 use Rattle.model.specs.declared.state.PendingNote.the-variants.{Absent, Present}
 use Rattle.history.proofs.Book.{at, lenA}
-use Rattle.history.proofs.Entries.{Mark, note, noNote, markAt, mark-hit, mark-miss, mark-append, lenN, noteN, withMark, NoteOk, NotesOk, Backed, mark-ok}
-use Rattle.history.proofs.Leaf.{RecordIs}
-use Rattle.history.proofs.Records.{Fair, AllFair, fair-more, recOf, recOf-is, recOf-append, Valid, valid-append}
+use Rattle.history.proofs.Entries.{note, noNote, markAt, mark-hit, mark-miss, mark-append, lenN, noteN, NoteOk, NotesOk, mark-ok}
+use Rattle.history.proofs.Records.{Fair, fair-more, recOf, recOf-is, recOf-append, Faithful, valid-append}
 use Rattle.history.proofs.Sections.{Volume, Sized, volume-sized, volume-size, volume-store, store-same, store-other, Tail}
 use Rattle.history.proofs.Disk.{Holds, Noted}
 use Rattle.history.proofs.Inv.{PendingOk, note-append}
@@ -40,7 +39,7 @@ module _ (g : Geometry) (v v′ : List ℕ) where
 
   module _ (k : List Logged) where
     holds-keep : Holds g v k → Volume g v′ → ((i : ℕ) → 1 ≤ i → i ≤ g .records → item g v′ (recordAt i) ≡ item g v (recordAt i))
-        → ((p : ℕ) → 1 ≤ p → p ≤ g .pages → Valid g p k (item g v′ (pageAt p))) → Holds g v′ k
+        → ((p : ℕ) → 1 ≤ p → p ≤ g .pages → Faithful g p k (item g v′ (pageAt p))) → Holds g v′ k
     holds-keep h vol e f =
         record {
           vol = vol;
@@ -53,7 +52,7 @@ module _ (g : Geometry) (v v′ : List ℕ) where
 
     noted-keep : (k′ : List Logged) (ns : List Note) → Noted g v k ns → ((i : ℕ) → 1 ≤ i → i ≤ g .notes → item g v′ (noteAt i) ≡ item g v (noteAt i))
         → NotesOk (g .pages) (g .slots) k′ ns
-        → ((p : ℕ) → 1 ≤ p → p ≤ g .pages → markAt p ns (length ns) .slot ≢ 0 → Valid g p k′ (item g v′ (slotAt (markAt p ns (length ns) .slot))))
+        → ((p : ℕ) → 1 ≤ p → p ≤ g .pages → markAt p ns (length ns) .slot ≢ 0 → Faithful g p k′ (item g v′ (slotAt (markAt p ns (length ns) .slot))))
         → Noted g v′ k′ ns
     noted-keep k′ ns o e f b =
         record {
@@ -76,17 +75,14 @@ module _ (g : Geometry) (v : List ℕ) (k : List Logged) (h : Holds g v k) (ns :
   slot-high p = mark-ok (g .pages) (g .slots) k ns (o .fit) p (length ns) (omega arith) .slots
 
   -- a backup that the index names is read as before where the store is elsewhere
-  backups-other : (v′ : List ℕ) (k′ : List Logged) → ((p : ℕ) (y : List ℕ) → Valid g p k y → Valid g p k′ y)
+  backups-other : (v′ : List ℕ) (k′ : List Logged) → ((p : ℕ) (y : List ℕ) → Faithful g p k y → Faithful g p k′ y)
       → ((i : ℕ) → 1 ≤ i → i ≤ g .slots → item g v′ (slotAt i) ≡ item g v (slotAt i))
-      → (p : ℕ) → 1 ≤ p → p ≤ g .pages → markAt p ns (length ns) .slot ≢ 0 → Valid g p k′ (item g v′ (slotAt (markAt p ns (length ns) .slot)))
+      → (p : ℕ) → 1 ≤ p → p ≤ g .pages → markAt p ns (length ns) .slot ≢ 0 → Faithful g p k′ (item g v′ (slotAt (markAt p ns (length ns) .slot)))
   backups-other v′ k′ up e p lo hi b =
       rw (e (slot p) (omega arith) (slot-high p)) (up p (item g v (slotAt (slot p))) (o .backups p lo hi b))
 
   -- the next record's place
   module _ (xs : List ℕ) (b : length k < g .records) (six : length xs ≡ 64) where
-    v₁ : List ℕ
-    v₁ = store g v (recordAt (suc (length k))) xs
-
     here : In g (recordAt (suc (length k)))
     here = omega arith
 
@@ -158,7 +154,7 @@ module _ (g : Geometry) (v : List ℕ) (k : List Logged) (h : Holds g v k) (ns :
         (backups-other (store g v (recordAt (suc (length k))) xs) (k ++ (c ∷ [])) (λ p y. valid-append g p k (c ∷ []) y) (rec-slots xs b record-size))
 
   -- a page's image: whole, torn or damaged
-  module _ (i : ℕ) (xs : List ℕ) (lo : 1 ≤ i) (hi : i ≤ g .pages) (five : length xs ≡ 256) (f : Valid g i k xs) where
+  module _ (i : ℕ) (xs : List ℕ) (lo : 1 ≤ i) (hi : i ≤ g .pages) (five : length xs ≡ 256) (f : Faithful g i k xs) where
     page-other : (q : Place) → In g q → start g q ≢ start g (pageAt i) → item g (store g v (pageAt i) xs) q ≡ item g v q
     page-other q n ne = store-other g v (h .vol) (pageAt i) xs (lo, hi) five q n ne
 
@@ -170,7 +166,7 @@ module _ (g : Geometry) (v : List ℕ) (k : List Logged) (h : Holds g v k) (ns :
         holds-keep g v (store g v (pageAt i) xs) k h (volume-store g v (h .vol) (pageAt i) xs (lo, hi) five)
         (λ j a b. page-other (recordAt j) (a, b) (omega arith)) (λ p a b. go p a b (ℕ-discrete p i))
       where
-        go : (p : ℕ) → 1 ≤ p → p ≤ g .pages → Dec (p ≡ i) → Valid g p k (item g (store g v (pageAt i) xs) (pageAt p))
+        go : (p : ℕ) → 1 ≤ p → p ≤ g .pages → Dec (p ≡ i) → Faithful g p k (item g (store g v (pageAt i) xs) (pageAt p))
         go p a b (yes e) = rw (e, store-same g v (h .vol) (pageAt i) xs (lo, hi) five) f
         go p a b (no e) = rw (page-other (pageAt p) (a, b) (omega arith)) (h .images p a b)
 
@@ -192,12 +188,12 @@ module _ (g : Geometry) (v : List ℕ) (k : List Logged) (h : Holds g v k) (ns :
         holds-keep g v (store g v (slotAt i) xs) k h (volume-store g v (h .vol) (slotAt i) xs (lo, hi) five)
         (λ j a b. slot-other (recordAt j) (a, b) (omega arith)) (λ p a b. rw (slot-other (pageAt p) (a, b) (omega arith)) (h .images p a b))
 
-    pub slot-noted : ((p : ℕ) → 1 ≤ p → p ≤ g .pages → markAt p ns (length ns) .slot ≡ i → Valid g p k xs) → Noted g (store g v (slotAt i) xs) k ns
+    pub slot-noted : ((p : ℕ) → 1 ≤ p → p ≤ g .pages → markAt p ns (length ns) .slot ≡ i → Faithful g p k xs) → Noted g (store g v (slotAt i) xs) k ns
     slot-noted f =
         noted-keep g v (store g v (slotAt i) xs) k k ns o (λ j a b. slot-other (noteAt j) (a, b) (omega arith)) (o .fit)
         (λ p a b z. go p a b z (ℕ-discrete (slot p) i))
       where
-        go : (p : ℕ) → 1 ≤ p → p ≤ g .pages → slot p ≢ 0 → Dec (slot p ≡ i) → Valid g p k (item g (store g v (slotAt i) xs) (slotAt (slot p)))
+        go : (p : ℕ) → 1 ≤ p → p ≤ g .pages → slot p ≢ 0 → Dec (slot p ≡ i) → Faithful g p k (item g (store g v (slotAt i) xs) (slotAt (slot p)))
         go p a b z (yes e) = rw (e, slot-same) (f p a b e)
         go p a b z (no e) = rw (slot-other (slotAt (slot p)) (omega (arith, slot-high p)) (omega arith)) (o .backups p a b z)
 
@@ -242,7 +238,7 @@ module _ (g : Geometry) (v : List ℕ) (k : List Logged) (h : Holds g v k) (ns :
       | no z ↦ inl (rw (mark-miss p (ns ++ (x ∷ [])) (length ns) (rw (noteN ns x) z), mark-append p ns (x ∷ []) (length ns) (omega arith)))
     ])
 
-    pub note-noted : length ns < g .notes → (isWritten x ≡ false → Valid g (x .page) k (item g v (slotAt (x .slot))))
+    pub note-noted : length ns < g .notes → (isWritten x ≡ false → Faithful g (x .page) k (item g v (slotAt (x .slot))))
         → Noted g (store g v (noteAt (suc (length ns))) (noteBytes x)) k (ns ++ (x ∷ []))
     note-noted b f =
         record {
@@ -294,7 +290,7 @@ module _ (g : Geometry) (v : List ℕ) (k : List Logged) (h : Holds g v k) (ns :
         backed : (p : ℕ) → 1 ≤ p → p ≤ g .pages → markAt p (ns ++ (x ∷ [])) (length (ns ++ (x ∷ []))) .slot ≢ 0
             → (markAt p (ns ++ (x ∷ [])) (length (ns ++ (x ∷ []))) .slot ≡ slot p)
             ⊎ ((isWritten x ≡ false) × (p ≡ x .page) × (markAt p (ns ++ (x ∷ [])) (length (ns ++ (x ∷ []))) .slot ≡ x .slot))
-            → Valid g p k (item g (store g v (noteAt (suc (length ns))) (noteBytes x)) (slotAt (markAt p (ns ++ (x ∷ [])) (length (ns ++ (x ∷ []))) .slot)))
+            → Faithful g p k (item g (store g v (noteAt (suc (length ns))) (noteBytes x)) (slotAt (markAt p (ns ++ (x ∷ [])) (length (ns ++ (x ∷ []))) .slot)))
         backed p lo hi z (inl e) = rw e (rw (slots-stay (noteBytes x) b six (slot p) (omega (arith, rw e at z)) (slot-high p)) (o .backups p lo hi (rw e at z)))
         backed p lo hi z (inr e) =
             let bk = x-ok .backed (e .0) in
@@ -302,7 +298,7 @@ module _ (g : Geometry) (v : List ℕ) (k : List Logged) (h : Holds g v k) (ns :
 
 -- the pending note, as the volume and the durable list change
 pub pending-keep : (g : Geometry) (v v′ : List ℕ) (k k′ : List Logged) (ns : List Note) (w : PendingNote)
-    → ((p : ℕ) (y : List ℕ) → Valid g p k y → Valid g p k′ y) → ((x : Note) → NoteOk (g .pages) (g .slots) k ns (length ns) x → NoteOk (g .pages) (g .slots) k′ ns (length ns) x)
+    → ((p : ℕ) (y : List ℕ) → Faithful g p k y → Faithful g p k′ y) → ((x : Note) → NoteOk (g .pages) (g .slots) k ns (length ns) x → NoteOk (g .pages) (g .slots) k′ ns (length ns) x)
     → ((i : ℕ) → 1 ≤ i → i ≤ g .slots → item g v′ (slotAt i) ≡ item g v (slotAt i))
     → PendingOk g v k ns w → PendingOk g v′ k′ ns w
 pending-keep g v v′ k k′ ns Absent up nup e t = tt

@@ -1,53 +1,46 @@
 -- Demands 2 and 3, proved for every legal history.
 use mathlib.Core.Path.{_≡_, refl, sym, ap, _∙_, subst}
-use mathlib.Core.Logic.{_≢_, _⊎_, inl, inr, _↔_}
-use mathlib.Core.Bool.{Bool, true, false, cond, not}
-use mathlib.Core.List.{List, [], _∷_, _++_}
-use Prim.Native.Nat.{ℕ, zero, suc, _+_, _-_, _*_, _^_, _≤_, _<_}
+use mathlib.Core.Logic.{_≢_, inl, inr, _↔_}
+use mathlib.Core.List.{List, _++_}
+use Prim.Native.Nat.{ℕ, zero, suc, _≤_}
 use native.Mathlib.Omega.{arith}
 use native.Mathlib.Decide.{ℕ-discrete}
-use lib.ListN.{length, take}
-use lib.Seq.{take-append-seam, take-at}
+use lib.ListN.{length}
+use lib.Seq.{take-append-seam}
 use lib.Dec.{eqb}
-use borrow.Author.Tests.{eqb-true, eqb-false}
+use borrow.Author.Tests.{eqb-true}
 use Rattle.laws.proofs.Tests.{byCases}
-use Rattle.laws.proofs.Fields.{bytesOf-length, read-back}
+use Rattle.laws.proofs.Fields.{read-back}
 use Rattle.model.specs.Tests.{firstOf}
-use Rattle.model.specs.Bytes.{le, bytesOf, part, splice}
-use Rattle.model.specs.Geometry.{geometryOf}
+use Rattle.model.specs.Bytes.{le, bytesOf}
 use Rattle.model.specs.Item.{frameImage}
-use Rattle.model.specs.Index.{entryOf}
-use Rattle.model.specs.Repair.{viewOf, rebuilt}
-use Rattle.model.specs.State.{frameAt, frameBytes}
+use Rattle.model.specs.State.{frameBytes}
 use Rattle.model.specs.Refusals.{loadRows}
 use Rattle.model.specs.Calls.{StoredItem, loadOf, refusalOf}
-use Rattle.model.specs.AbstractLog.{Logged, AbstractLog, replay, lastPlace}
-use Rattle.model.specs.History.{Power, off, on}
+use Rattle.model.specs.AbstractLog.{Logged}
+use Rattle.model.specs.History.{Power, on}
 use Rattle.model.specs.Claim.{History, Legal, reached, logOf, keptOf, inspection, shown, Inspects, Loads, Agree, Begins, Demand2, Demand3}
 use Rattle.model.specs.declared.geometry.Geometry.{Geometry}
 use Rattle.model.specs.declared.state.State.{State}
-use Rattle.history.proofs.Book.{at, lastAt, lastOf, bodyOf, replayAt, last-hit, last-le, replay-last, replay-append, replay-is, last-is}
+use Rattle.history.proofs.Book.{at, lastOf, bodyOf, last-hit, last-le, replay-last, replay-append, replay-is, last-is}
 use Rattle.history.proofs.Leaf.{frame-size}
 use Rattle.history.proofs.Records.{AllFair}
-use Rattle.history.proofs.Sections.{Sized, volume-sized}
+use Rattle.history.proofs.Sections.{volume-sized}
 use Rattle.history.proofs.Inv.{Inv}
 use Rattle.history.proofs.Memory.{frame-same}
 use Rattle.history.proofs.Context.{Ctx, geo, sized, few, body-size, durable-last}
 use Rattle.history.proofs.Loads.{Loaded, loads, never-broken, load-image}
 use Rattle.history.proofs.Inspection.{inspect-blank, inspect-kept}
-use Rattle.history.proofs.Reached.{geometryFor, context, tied}
+use Rattle.history.proofs.Reached.{madeWith, context, tied}
 
 -- ---- one history: Inspect
 
 module _ (h : History) (legal : Legal h) (p : ℕ) (lo : 1 ≤ p) (hi : p ≤ h .pages) (buffer : List ℕ) (size : length buffer ≡ 256) where
-  g : Geometry
-  g = geometryFor (h .pages) (h .slots) (h .records) (h .notes)
-
   shows-blank : lastOf p (keptOf h) ≡ 0 → inspection h p buffer ≡ 7
-  shows-blank = let i = tied h legal in inspect-blank (geometryFor (h .pages) (h .slots) (h .records) (h .notes)) (reached h .volume) (keptOf h) (i .holds) (i .ns) (i .noted) p lo hi buffer size
+  shows-blank = let i = tied h legal in inspect-blank (madeWith h) (reached h .volume) (keptOf h) (i .holds) (i .ns) (i .noted) p lo hi buffer size
 
   shows-kept : lastOf p (keptOf h) ≢ 0 → (inspection h p buffer ≡ 0) × (shown h p buffer ≡ bytesOf 4 (lastOf p (keptOf h)) ++ bodyOf p (keptOf h))
-  shows-kept = let i = tied h legal in inspect-kept (geometryFor (h .pages) (h .slots) (h .records) (h .notes)) (reached h .volume) (keptOf h) (i .holds) (i .ns) (i .noted) p lo hi buffer size
+  shows-kept = let i = tied h legal in inspect-kept (madeWith h) (reached h .volume) (keptOf h) (i .holds) (i .ns) (i .noted) p lo hi buffer size
 
   shows-seven : inspection h p buffer ≡ 7 → lastOf p (keptOf h) ≡ 0
   shows-seven e = elim (ℕ-discrete (lastOf p (keptOf h)) 0) [ yes z ↦ z | no z ↦ absurd (omega (arith, e, shows-kept z .0)) ]
@@ -94,8 +87,8 @@ module _ {g : Geometry} {v m : List ℕ} {past : List StoredItem} {s : State} {k
 
 loads-is : (h : History) → Legal h → (m : List ℕ) (s : State) → reached h .power ≡ on m s → (p f : ℕ) → Loads h m s p f
 loads-is h legal m s e p f =
-    let x = context (geometryFor (h .pages) (h .slots) (h .records) (h .notes)) (reached h .volume) m (reached h .past) s (logOf h)
-    (subst (λ (y : Power). Inv (geometryFor (h .pages) (h .slots) (h .records) (h .notes)) (reached h .volume) (reached h .past) y (logOf h)) e (tied h legal)) in
+    let x = context (madeWith h) (reached h .volume) m (reached h .past) s (logOf h)
+    (subst (λ (y : Power). Inv (madeWith h) (reached h .volume) (reached h .past) y (logOf h)) e (tied h legal)) in
     record {
       unbroken = λ z. never-broken x p f (sym (load-refusal x p f) ∙ z);
       loaded = λ z.
@@ -140,7 +133,7 @@ module _ (h k : History) (lh : Legal h) (lk : Legal k) (same : h .pages ≡ k .p
       number-bound : (h : History) → Legal h → (p : ℕ) → lastOf p (keptOf h) ≤ 1024
       number-bound h l p =
           let i = tied h l in
-          omega (arith, last-le p (keptOf h) (length (keptOf h)), i .holds .room, volume-sized (geometryFor (h .pages) (h .slots) (h .records) (h .notes)) (reached h .volume) (i .holds .vol) .l-high)
+          omega (arith, last-le p (keptOf h) (length (keptOf h)), i .holds .room, volume-sized (madeWith h) (reached h .volume) (i .holds .vol) .l-high)
 
   -- equal lists agree
   agree : keptOf h ≡ keptOf k → (p : ℕ) → 1 ≤ p → p ≤ h .pages → Agree h k x y p

@@ -1,22 +1,21 @@
 -- A page's repair from a volume that holds a list of changes and notes: the walk is unbroken, and the body is the page's replay.
-use mathlib.Core.Path.{_≡_, refl, sym, ap, _∙_, subst}
-use mathlib.Core.Logic.{_≢_, _⊎_, inl, inr}
-use mathlib.Core.Bool.{Bool, true, false, cond}
-use mathlib.Core.List.{List, [], _∷_, _++_}
-use Prim.Native.Nat.{ℕ, zero, suc, _+_, _-_, _≤_, _<_}
+use mathlib.Core.Path.{_≡_, refl}
+use mathlib.Core.Logic.{_≢_}
+use mathlib.Core.Bool.{false}
+use mathlib.Core.List.{List}
+use Prim.Native.Nat.{ℕ, suc, _≤_, _<_}
 use native.Mathlib.Omega.{arith}
 use lib.ListN.{length}
 use lib.Dec.{eqb}
 use borrow.Author.Tests.{eqb-false}
 use Rattle.laws.proofs.Tests.{byCases}
-use Rattle.model.specs.Geometry.{Place, slotAt, item}
 use Rattle.model.specs.Repair.{View, viewOf, walkOf, isBroken, rebuiltBody}
 use Rattle.model.specs.AbstractLog.{Logged}
 use Rattle.model.specs.declared.geometry.Geometry.{Geometry}
 use Rattle.model.specs.declared.item.Note.{Note}
 use Rattle.history.proofs.Book.{at, replayAt}
-use Rattle.history.proofs.Entries.{Mark, markAt, entryFrom}
-use Rattle.history.proofs.Records.{Valid}
+use Rattle.history.proofs.Entries.{markAt, entryFrom}
+use Rattle.history.proofs.Records.{Faithful}
 use Rattle.history.proofs.Walk.{walk-unbroken, rebuilt-is}
 use Rattle.history.proofs.Sections.{Sized, volume-sized}
 use Rattle.history.proofs.Disk.{Holds, Noted}
@@ -30,7 +29,7 @@ module _ (g : Geometry) (v : List ℕ) (k : List Logged) (h : Holds g v k) (ns :
   sz = volume-sized g v (h .vol)
 
   -- the noted backup
-  copy-ok : view .backup ≢ 0 → Valid g p k (view .copy)
+  copy-ok : view .backup ≢ 0 → Faithful g p k (view .copy)
   unfolding view
   copy-ok ne = byCases (eqb (markAt p ns (length ns) .slot) 0)
       (λ t. absurd (ne (rw t)))

@@ -1,24 +1,23 @@
 -- The chain walk over a log that holds a list of changes: it never breaks, and what it replays is the page's replay.
 use mathlib.Core.Path.{_≡_, refl, sym, ap, _∙_, subst}
-use mathlib.Core.Logic.{_≢_, _⊎_, inl, inr}
+use mathlib.Core.Logic.{_≢_}
 use mathlib.Core.Bool.{Bool, true, false, cond, _&&_, _||_}
-use mathlib.Core.List.{List, [], _∷_, _++_}
-use Prim.Native.Nat.{ℕ, zero, suc, _+_, _-_, _≤_, _<_}
+use mathlib.Core.List.{List, [], _∷_}
+use Prim.Native.Nat.{ℕ, zero, suc, _≤_, _<_}
 use native.Mathlib.Omega.{arith}
-use lib.ListN.{length, getD}
-use lib.Dec.{eqb, ltb, leb}
+use lib.ListN.{length}
+use lib.Dec.{eqb, leb}
 use borrow.Author.Tests.{eq-eqb, eqb-true, lt-ltb, le-leb}
 use Rattle.laws.proofs.Tests.{byCases, and-left, and-right, or-right, or-left, true-not-false}
 use Rattle.model.specs.declared.geometry.Geometry.{Geometry}
-use Rattle.model.specs.declared.answer.Stop.{Stop}
-use Rattle.model.specs.declared.answer.Stop.the-variants.{Own, Backup, Format, Broken}
+use Rattle.model.specs.declared.answer.Stop.the-variants.{Format}
 use Rattle.model.specs.Change.{kindOf, zeroBody, applyChange}
-use Rattle.model.specs.Item.{imageLsn, imageBody, validImage, recordOf, isFormat, firstIsFormat, applyRecord, recordFor}
+use Rattle.model.specs.Item.{imageLsn, imageBody, validImage, recordOf, isFormat}
 use Rattle.model.specs.Repair.{View, Walk, stopAt, behind, chainRecord, walkFrom, walkOf, replayChain, startBody, isBroken, ownStart, backupStart, rebuiltBody}
 use Rattle.model.specs.AbstractLog.{Logged}
 use Rattle.history.proofs.Book.{at, lastAt, replayAt, last-le, last-page, replay-hit, replay-last}
 use Rattle.history.proofs.Leaf.{format-apply, RecordIs}
-use Rattle.history.proofs.Records.{Fair, AllFair, recOf, recOf-is, Good, Valid}
+use Rattle.history.proofs.Records.{AllFair, recOf, recOf-is, Faithful}
 
 -- a walk that serves: unbroken, and its replay is page p's at number n
 pub record Serves (w : View) (p : ℕ) (l : List Logged) (n : ℕ) (k : Walk) : Type 0 where
@@ -26,10 +25,7 @@ pub record Serves (w : View) (p : ℕ) (l : List Logged) (n : ℕ) (k : Walk) : 
   pub body-is : replayChain (w .log) (k .chain) (startBody (k .stop) w) ≡ replayAt p l n
 
 module _ (g : Geometry) (P : ℕ) (P64 : P ≤ 64) (l : List Logged) (fair : AllFair P l) (few : length l ≤ 1024) (p : ℕ) (w : View)
-    (held : (i : ℕ) → i < length l → w .log (suc i) ≡ recOf l i) (own : Valid g p l (w .own)) (copy : w .backup ≢ 0 → Valid g p l (w .copy)) where
-  own-no : ℕ
-  own-no = ownStart g p w
-
+    (held : (i : ℕ) → i < length l → w .log (suc i) ≡ recOf l i) (own : Faithful g p l (w .own)) (copy : w .backup ≢ 0 → Faithful g p l (w .copy)) where
   -- where the walk stops at the own image, that is the replay
   own-serves : (n : ℕ) → ownStart g p w ≡ suc n → imageBody (w .own) ≡ replayAt p l (suc n)
   own-serves n e = byCases (validImage g p (w .own))

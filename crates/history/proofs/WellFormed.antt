@@ -1,34 +1,33 @@
 -- In a machine that is on and keeps the invariant the state is well formed and the memory valid.
-use mathlib.Core.Path.{_≡_, refl, sym, ap, _∙_, subst}
-use mathlib.Core.Logic.{_≢_, _⊎_, inl, inr}
-use mathlib.Core.Bool.{Bool, true, false, cond, not, _&&_, _||_}
-use mathlib.Core.List.{List, [], _∷_, _++_}
-use Prim.Native.Nat.{ℕ, zero, suc, _+_, _-_, _*_, _≤_, _<_}
+use mathlib.Core.Path.{_≡_, refl, sym, ap, _∙_}
+use mathlib.Core.Logic.{_≢_}
+use mathlib.Core.Bool.{true, false, not, _&&_}
+use mathlib.Core.List.{List}
+use Prim.Native.Nat.{ℕ, suc, _+_, _-_, _≤_, _<_}
 use native.Mathlib.Omega.{arith}
-use native.Mathlib.Decide.{decLt, ℕ-discrete}
+use native.Mathlib.Decide.{decLt}
 use lib.ListN.{length, getD}
-use lib.Dec.{eqb, leb, ltb}
-use borrow.Author.Tests.{eq-eqb, ne-eqb, eqb-true, eqb-false, le-leb, lt-ltb, le-ltb, ltb-true, ltb-false}
-use Rattle.laws.proofs.Tests.{byCases, and-both, or-left, or-right, true-not-false, every-all, within-holds, all-holds}
-use Rattle.model.specs.Tests.{all, every, within}
+use lib.Dec.{eqb, ltb}
+use borrow.Author.Tests.{eq-eqb, ne-eqb, eqb-true, eqb-false, le-leb, lt-ltb, le-ltb}
+use Rattle.laws.proofs.Tests.{byCases, and-both, or-left, or-right, every-all, within-holds}
+use Rattle.model.specs.Tests.{all, within}
 use Rattle.model.specs.Geometry.{geometryOf, validVolume}
 use Rattle.model.specs.Item.{isWritten, noteLayout}
 use Rattle.model.specs.Index.{emptyEntry, entryRow, entryOf}
-use Rattle.model.specs.State.{frameCount, validMemory, frameRow, holder, held, blank, lastNumber, pendingNoteFits, firstHolder, frameFits, entryFits, entryZero, pageFits, wellFormed}
+use Rattle.model.specs.State.{frameCount, validMemory, frameRow, held, blank, lastNumber, pendingNoteFits, frameFits, entryFits, pageFits, wellFormed}
 use Rattle.model.specs.Calls.{StoredItem}
 use Rattle.model.specs.AbstractLog.{Logged}
 use Rattle.model.specs.declared.geometry.Geometry.{Geometry}
 use Rattle.model.specs.declared.item.Note.{Note}
-use Rattle.model.specs.declared.state.Entry.{Entry}
 use Rattle.model.specs.declared.state.PendingNote.{PendingNote}
 use Rattle.model.specs.declared.state.PendingNote.the-variants.{Absent, Present}
 use Rattle.model.specs.declared.state.State.{State}
 use Rattle.history.proofs.Book.{lastAt, lastOf, last-le, last-mono}
-use Rattle.history.proofs.Entries.{Mark, noMark, markAt, NoteOk, mark-ok, mark-past, entryFrom}
+use Rattle.history.proofs.Entries.{markAt, NoteOk, mark-ok, mark-past, entryFrom}
 use Rattle.history.proofs.Records.{last-past}
-use Rattle.history.proofs.Inv.{PendingOk, frame, Settled}
+use Rattle.history.proofs.Inv.{PendingOk}
 use Rattle.history.proofs.Memory.{frame-count, memory-valid}
-use Rattle.history.proofs.Context.{Ctx, sized, geo, len, sum, fair, last-entry, durable-last, nowhere}
+use Rattle.history.proofs.Context.{Ctx, geo, len, sum, fair, last-entry, durable-last, nowhere}
 
 -- the layout of a note that may follow
 pub layout-ok : (P B : ℕ) (l : List Logged) (ns : List Note) (n : ℕ) (y : Note) → NoteOk P B l ns n y → noteLayout y ≡ true

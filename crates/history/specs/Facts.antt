@@ -3,7 +3,7 @@
 use Prim.Native.Nat.{ℕ, _≤_}
 use mathlib.Core.Path.{_≡_}
 use mathlib.Core.Logic.{_≢_}
-use mathlib.Core.Bool.{Bool, true, false}
+use mathlib.Core.Bool.{true, false}
 use mathlib.Core.List.{List}
 use lib.ListN.{length, take}
 use Rattle.model.specs.Geometry.{Place, pageAt, slotAt, geometryOf, item}
@@ -80,7 +80,7 @@ pub record OwnImage (h : History) (p : ℕ) : Type 0 where
 -- ---- the index
 
 -- what the volume's log and notes say of page p, and the image that they name as its backup
-pub record Noted (h : History) (p : ℕ) : Type 0 where
+pub record IndexEntry (h : History) (p : ℕ) : Type 0 where
   pub durable : entryOf (indexOf (headingOf h) (volumeOf h)) p .durable ≡ lastPlace p (keptOf h)
   pub backup : entryOf (indexOf (headingOf h) (volumeOf h)) p .slot ≢ 0
       → validImage (headingOf h) p (item (headingOf h) (volumeOf h) (slotAt (entryOf (indexOf (headingOf h) (volumeOf h)) p .slot))) ≡ true
@@ -102,7 +102,7 @@ pub record Facts : Type 0 where
   pub answers : (h : History) → Legal h → (p : ℕ) (buffer : List ℕ) → Answers h p buffer
   pub stored : (h : History) → Legal h → (at : Place) (x : List ℕ) → isImage (headingOf h) at ≡ true → storedBefore at x (reached h .past) ≡ true → StoredImage h x
   pub own : (h : History) → Legal h → (p : ℕ) → 1 ≤ p → p ≤ h .pages → OwnImage h p
-  pub noted : (h : History) → Legal h → (p : ℕ) → 1 ≤ p → p ≤ h .pages → Noted h p
+  pub noted : (h : History) → Legal h → (p : ℕ) → 1 ≤ p → p ≤ h .pages → IndexEntry h p
   pub entries : (h : History) → Legal h → (m : List ℕ) (s : State) → reached h .power ≡ on m s → (p : ℕ) → 1 ≤ p → p ≤ h .pages → SameEntry h s p
   -- no two pages share a slot
   pub slots : (h : History) → Legal h → (p q : ℕ) → 1 ≤ p → p ≤ h .pages → 1 ≤ q → q ≤ h .pages → entryOf (indexOf (headingOf h) (volumeOf h)) p .slot ≢ 0
