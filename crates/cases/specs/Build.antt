@@ -1,7 +1,7 @@
 -- What the worked cases are made of: answers as numbers, volumes built by `model`'s own encoders, machines reached by events.
 use Prim.Native.Nat.{ℕ, _+_, _*_}
 use mathlib.Core.Bool.{Bool, true, false}
-use mathlib.Core.List.{List, [], _∷_, _++_}
+use mathlib.Core.List.{List, [], _∷_, _++_, map}
 use lib.ListN.{replicate, set}
 use Rattle.model.specs.Bytes.{part}
 use Rattle.model.specs.Checksum.{sealImage}
@@ -10,6 +10,7 @@ use Rattle.model.specs.Item.{frameImage, noteBytes}
 use Rattle.model.specs.Calls.{StoredItem, oneItem, volumeAfter, inspectOf, Call, outcomeOf}
 use Rattle.model.specs.History.{Power, off, on, Machine, Event, freshMachine, run}
 use Rattle.model.specs.declared.geometry.Geometry.{Geometry}
+use Rattle.model.specs.declared.state.Entry.{Entry}
 use Rattle.model.specs.declared.answer.Class.{Class}
 use Rattle.model.specs.declared.answer.Class.the-variants.{Good, Behind, Stale, Failed}
 use Rattle.model.specs.declared.answer.Start.{Start}
@@ -23,6 +24,9 @@ use Rattle.model.specs.declared.answer.Answer.the-variants.{Refused, Nothing, D
 abbrev pub bit : Bool → ℕ
 bit false = 0
 bit true = 1
+
+abbrev pub bits : List Bool → List ℕ
+bits bs = map bit bs
 
 abbrev pub classNumber : Class → ℕ
 classNumber Good = 1
@@ -60,6 +64,9 @@ done = numbers Done
 
 abbrev pub idle : List ℕ
 idle = numbers Nothing
+
+abbrev pub entryNumbers : Entry → List ℕ
+entryNumbers e = e .last ∷ e .durable ∷ e .written ∷ e .slot ∷ e .backup ∷ []
 
 -- ---- items and volumes
 

@@ -2,8 +2,13 @@ pub mod Opened
 pub mod Rows
 pub mod Build
 pub mod Table
+pub mod Items
+pub mod Rules
 pub mod Worked
 pub mod Histories
+pub mod States
+pub mod Refused
+pub mod Allowed
 pub mod Naive
 pub mod Traps
 pub mod All
