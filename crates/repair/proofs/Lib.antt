@@ -2,3 +2,4 @@
 pub mod Links
 pub mod Walks
 pub mod Starts
+pub mod Replays

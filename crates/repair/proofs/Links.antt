@@ -64,6 +64,18 @@ pick-backup false false true o q f h = refl
 pick-backup false false false true q f h = cc
 pick-backup false false false false q f h = cc
 
+module _ (log : ℕ → List ℕ) (p : ℕ) where
+  -- every number of a chain is that of a link, and is 1 to top
+  abbrev pub Linked : ℕ → List ℕ → Type 0
+  Linked top [] = Unit {0}
+  Linked top (n ∷ ns) = (chainRecord p n (log n) ≡ true) × (1 ≤ n) × (n ≤ top) × Linked top ns
+
+  pub linked-at : (top : ℕ) (l : List ℕ) → Linked top l → (j : ℕ) → j < length l
+      → (chainRecord p (getD l j 0) (log (getD l j 0)) ≡ true) × (1 ≤ getD l j 0) × (getD l j 0 ≤ top)
+  linked-at top [] k j h = absurd (omega arith)
+  linked-at top (n ∷ ns) k zero h = (k .0, k .1, k .2)
+  linked-at top (n ∷ ns) k (suc j) h = linked-at top ns (k .3) j (omega arith)
+
 module _ (log : ℕ → List ℕ) (p own backup : ℕ) where
   -- a step that reads, reads a link
   pub record Reads (n prev : ℕ) (format : Bool) : Type 0 where
@@ -142,23 +154,12 @@ module _ (log : ℕ → List ℕ) (p own backup : ℕ) where
       (λ o. rw o (format-follows (isFormat (recordOf (log n))) (recordOf (log n) .prev) n (λ q. walkFrom f log p own backup q)))
       (λ o. rw o))))))
 
-  -- every number of a chain is that of a link, and is 1 to top
-  abbrev pub Linked : ℕ → List ℕ → Type 0
-  Linked top [] = Unit {0}
-  Linked top (n ∷ ns) = (chainRecord p n (log n) ≡ true) × (1 ≤ n) × (n ≤ top) × Linked top ns
-
-  pub linked-at : (top : ℕ) (l : List ℕ) → Linked top l → (j : ℕ) → j < length l
-      → (chainRecord p (getD l j 0) (log (getD l j 0)) ≡ true) × (1 ≤ getD l j 0) × (getD l j 0 ≤ top)
-  linked-at top [] k j h = absurd (omega arith)
-  linked-at top (n ∷ ns) k zero h = (k .0, k .1, k .2)
-  linked-at top (n ∷ ns) k (suc j) h = linked-at top ns (k .3) j (omega arith)
-
-  pub walk-linked : (top f n : ℕ) → 1 ≤ n → n ≤ top → Linked top (walkFrom f log p own backup n .chain)
+  pub walk-linked : (top f n : ℕ) → 1 ≤ n → n ≤ top → Linked log p top (walkFrom f log p own backup n .chain)
   walk-linked top zero n h l = rw (walk-none n) tt
   walk-linked top (suc f) n h l = rw (walk-follows f n h) (go (λ q. walk-linked top f q) (stepOf log p own backup n) refl)
     where
-      go : ((q : ℕ) → 1 ≤ q → q ≤ top → Linked top (walkFrom f log p own backup q .chain))
-          → (s : Step) → stepOf log p own backup n ≡ s → Linked top (follow s n (λ q. walkFrom f log p own backup q) .chain)
+      go : ((q : ℕ) → 1 ≤ q → q ≤ top → Linked log p top (walkFrom f log p own backup q .chain))
+          → (s : Step) → stepOf log p own backup n ≡ s → Linked log p top (follow s n (λ q. walkFrom f log p own backup q) .chain)
       go ih (Halt s) e = tt
       go ih (Read prev true) e = (step-reads n prev true e .link-is, h, l, tt)
       go ih (Read prev false) e =

@@ -4,12 +4,16 @@ ghost use mathlib.Core.Bool.{true};
 ghost use Prim.Native.Nat.{_+_, _≤_};
 ghost use lib.ListN.{length};
 ghost use Rattle.model.specs.Geometry.{geometryOf, validVolume, recordAt, item};
-ghost use Rattle.model.specs.Repair.{classOf, viewOf, ownStart, backupStart, chainRecord};
+ghost use Rattle.model.specs.Item.{imageBody};
+ghost use Rattle.model.specs.Repair.{classOf, viewOf, ownStart, backupStart, chainRecord, walkOf, startBody, replayChain, rebuilt, startOf, repairOf};
 ghost use Rattle.repair.specs.Chain.{Ready, chainOf, stepOf};
 use codec::checksum;
+use codec::part;
 use item::image;
 use item::record;
 use model::answer::Class;
+use model::answer::Repair;
+use model::answer::Start;
 use model::answer::Stop;
 use model::geometry::Geometry;
 use model::state::Entry;
@@ -136,4 +140,88 @@ pub fn walk(v: &[u8], g: Geometry, e: Entry, page: u32) -> Chain
         }
     };
     Chain { stop, count, lsns }
+}
+
+// Copies an image's body.
+fn copy_body(x: &[u8], body: &mut [u8])
+    requires { ⌜ (length (now x) ≡ 256) × (length (now body) ≡ 244) ⌝ }
+    ensures { λ _. ⌜ now (body .exit) ≡ imageBody (now (x .entry)) ⌝ }
+{
+    part::copy(body, &x[8..252]);
+}
+
+// Sets the body on which a replay starts; a format replaces all of it.
+fn begin(v: &[u8], g: Geometry, e: Entry, page: u32, stop: Stop, body: &mut [u8])
+    requires { ⌜ Ready (now v) g e page ⌝ }
+    requires { ⌜ (stop ≡ walkOf g page (viewOf g (now v) e page) .stop) × (length (now body) ≡ 244) ⌝ }
+    ensures { λ _. ⌜ now (body .exit) ≡ startBody stop (viewOf g (now (v .entry)) e page) ⌝ }
+{
+    match stop {
+        Stop::Own => copy_body(place::page(v, g, page), body),
+        Stop::Backup => copy_body(place::slot(v, g, e.slot as u32), body),
+        Stop::Format => part::fill(body, 0),
+        Stop::Broken => part::fill(body, 0),
+    }
+}
+
+// Replays a chain's records on a body, oldest first.
+fn replay(v: &[u8], g: Geometry, e: Entry, page: u32, c: Chain, body: &mut [u8])
+    requires { ⌜ Ready (now v) g e page ⌝ }
+    requires { ⌜ (c ≡ chainOf g page (viewOf g (now v) e page)) × (length (now body) ≡ 244) ⌝ }
+    ensures { λ _. ⌜ now (body .exit) ≡ replayChain (λ n. item g (now (v .entry)) (recordAt n)) (walkOf g page (viewOf g (now (v .entry)) e page) .chain) (now (body .entry)) ⌝ }
+{
+    let lsns = c.lsns;
+    let mut i = c.count as usize;
+    while 0 < i {
+        i -= 1;
+        let n = lsns[i];
+        record::replay(place::record(v, g, n), body);
+    }
+}
+
+// The page's image as a frame holds it, from the start that the walk found and the records behind it.
+pub fn rebuild(v: &[u8], g: Geometry, e: Entry, page: u32, c: Chain, dst: &mut [u8])
+    requires { ⌜ Ready (now v) g e page ⌝ }
+    requires { ⌜ (c ≡ chainOf g page (viewOf g (now v) e page)) × (length (now dst) ≡ 256) ⌝ }
+    ensures { λ _. ⌜ now (dst .exit) ≡ rebuilt g page (viewOf g (now (v .entry)) e page) ⌝ }
+{
+    let stop = c.stop;
+    let body = &mut dst[8..252];
+    begin(v, g, e, page, stop, body);
+    replay(v, g, e, page, c, body);
+    image::build(dst, page, e.durable);
+}
+
+// The start that is answered.
+fn start(stop: Stop) -> Start
+    ensures { λ r. ⌜ r ≡ startOf stop ⌝ }
+{
+    match stop {
+        Stop::Own => Start::Own,
+        Stop::Backup => Start::Backup,
+        Stop::Format => Start::Format,
+        Stop::Broken => Start::Format,
+    }
+}
+
+// The class, the start and the count replayed.
+pub fn answer(v: &[u8], g: Geometry, e: Entry, page: u32, c: Chain) -> Repair
+    requires { ⌜ Ready (now v) g e page ⌝ }
+    requires { ⌜ c ≡ chainOf g page (viewOf g (now v) e page) ⌝ }
+    ensures { λ r. ⌜ r ≡ repairOf g page (viewOf g (now (v .entry)) e page) ⌝ }
+{
+    let x = place::page(v, g, page);
+    let class = class(
+        image::valid(g, page, x),
+        image::lsn(x),
+        e.durable,
+        e.written,
+    );
+    let stop = c.stop;
+    let start = start(stop);
+    Repair {
+        class,
+        start,
+        count: c.count,
+    }
 }

@@ -1,0 +1,195 @@
+-- The replay as a loop makes it, from the end of the chain to its front, and the image that is built around it.
+use Prim.Native.Nat.{ℕ, zero, suc, _+_, _-_, _≤_, _<_}
+use mathlib.Core.Path.{_≡_, refl, sym, ap, _∙_, subst}
+use mathlib.Core.Bool.{Bool, true, false}
+use mathlib.Core.List.{List, [], _∷_, _++_}
+use native.Mathlib.Omega.{arith}
+use native.Mathlib.Numerals.{add-one}
+use lib.ListN.{length, getD, take, drop, length-append, length-take, length-drop}
+use lib.Seq.{drop-cons, drop-length, getD-take, length-take-le, take-at}
+use borrow.Rule.Slice.PartMut.{putMid}
+use Rattle.laws.proofs.Zeros.{zeros}
+use Rattle.laws.proofs.Parts.{splice-length, part-splice, put-splice}
+use Rattle.model.specs.Bytes.{part, splice}
+use Rattle.model.specs.Geometry.{pageAt, slotAt, item}
+use Rattle.model.specs.Item.{imageLsn, imageBody, validImage, frameImage, recordLayout, applyRecord}
+use Rattle.model.specs.Repair.{classOf, View, viewOf, walkFrom, walkOf, ownStart, backupStart, replayChain, startBody, rebuiltBody, rebuilt, startOf, repairOf}
+use Rattle.model.specs.declared.answer.Stop.{Stop}
+use Rattle.model.specs.declared.answer.Stop.the-variants.{Own, Backup, Format, Broken}
+use Rattle.model.specs.declared.answer.Class.{Class}
+use Rattle.model.specs.declared.answer.Start.{Start}
+use Rattle.model.specs.declared.answer.Repair.{Repair}
+use Rattle.model.specs.declared.state.Entry.{Entry}
+use Rattle.model.specs.declared.geometry.Geometry.{Geometry}
+use Rattle.repair.specs.Chain.{chainOf}
+use Rattle.repair.specs.declared.Chain.{Chain}
+use Rattle.repair.proofs.Links.{Link, link, Linked, linked-at, walk-none, walk-linked, walk-backup}
+
+-- ---- a whole walk
+
+module _ (g : Geometry) (p : ℕ) (w : View) where
+  -- its chain's records are links
+  pub chain-linked : Linked (w .log) p (w .durable) (walkOf g p w .chain)
+  unfolding walkOf
+  chain-linked = go (w .durable)
+    where
+      go : (n : ℕ) → Linked (w .log) p n (walkFrom n (w .log) p (ownStart g p w) (backupStart g p w) n .chain)
+      go zero = rw (walk-none (w .log) p (ownStart g p w) (backupStart g p w) 0) tt
+      go (suc n) = walk-linked (w .log) p (ownStart g p w) (backupStart g p w) (suc n) (suc n) (suc n) (omega arith) (omega arith)
+
+  -- where it stops at the backup, there is one
+  pub stop-backup : walkOf g p w .stop ≡ Backup → 1 ≤ backupStart g p w
+  unfolding walkOf
+  stop-backup e = go (w .durable) e
+    where
+      go : (n : ℕ) → walkFrom n (w .log) p (ownStart g p w) (backupStart g p w) n .stop ≡ Backup → 1 ≤ backupStart g p w
+      go zero q =
+          let z : Broken ≡ Backup = rw (walk-none (w .log) p (ownStart g p w) (backupStart g p w) 0) at q in
+          let f : _≡_ {A = ℕ} 0 1 = cc in
+          absurd (omega arith)
+      go (suc n) q = walk-backup (w .log) p (ownStart g p w) (backupStart g p w) (suc n) (suc n) (omega arith) q
+
+  -- the struct that holds it
+  module _ (c : Chain) (c-is : c ≡ chainOf g p w) where
+    pub stop-is : c .stop ≡ walkOf g p w .stop
+    unfolding chainOf
+    stop-is = ap (λ (k : Chain). k .stop) c-is
+
+    pub count-is : c .count ≡ length (walkOf g p w .chain)
+    unfolding chainOf
+    count-is = ap (λ (k : Chain). k .count) c-is
+
+    pub lsns-are : c .lsns ≡ walkOf g p w .chain ++ zeros (1024 - length (walkOf g p w .chain))
+    unfolding chainOf
+    lsns-are = ap (λ (k : Chain). k .lsns) c-is
+
+    pub count-held : c .count ≤ length (c .lsns)
+    count-held =
+        omega (arith, count-is, ap length lsns-are, length-append (walkOf g p w .chain) (zeros (1024 - length (walkOf g p w .chain))))
+
+    pub front-is : take (c .count) (c .lsns) ≡ walkOf g p w .chain
+    front-is =
+        ap (take (c .count)) lsns-are ∙ take-at (walkOf g p w .chain) (zeros (1024 - length (walkOf g p w .chain))) (c .count) (sym count-is)
+
+    pub front-linked : Linked (w .log) p (w .durable) (take (c .count) (c .lsns))
+    front-linked = subst (Linked (w .log) p (w .durable)) (sym front-is) chain-linked
+
+-- ---- the loop
+
+-- a record that may be replayed
+pub record Replayed (log : ℕ → List ℕ) (top n : ℕ) : Type 0 where
+  pub layout : recordLayout (log n) ≡ true
+  pub low : 1 ≤ n
+  pub high : n ≤ top
+
+-- the changes from place i of a chain on
+pub replay-more : (log : ℕ → List ℕ) (c : List ℕ) (i : ℕ) (body : List ℕ) → i < length c
+    → applyRecord (log (getD c i 0)) (replayChain log (drop (i + 1) c) body) ≡ replayChain log (drop i c) body
+unfolding replayChain
+replay-more log c i body h = rw (add-one, drop-cons c i 0 h)
+
+pub replay-none : (log : ℕ → List ℕ) (c : List ℕ) (body : List ℕ) → body ≡ replayChain log (drop (length c) c) body
+unfolding replayChain
+replay-none log c body = rw (drop-length c)
+
+-- the chain is the first k numbers of an array, and the changes of its records from place i on are made
+pub record Replaying (log : ℕ → List ℕ) (k : ℕ) (lsns body₀ body : List ℕ) (i : ℕ) : Type 0 where
+  pub below : i ≤ k
+  pub held : k ≤ length lsns
+  pub few : length lsns ≡ 1024
+  pub made : body ≡ replayChain log (drop i (take k lsns)) body₀
+  pub size : length body ≡ 244
+
+module _ (log : ℕ → List ℕ) (k : ℕ) (lsns : List ℕ) where
+  pub replaying-start : (body : List ℕ) → k ≤ length lsns → length lsns ≡ 1024 → length body ≡ 244 → Replaying log k lsns body body k
+  replaying-start body h few size =
+      let l : length (take k lsns) ≡ k = length-take-le k lsns h in
+      record {
+        below = omega arith;
+        held = h;
+        few = few;
+        made = replay-none log (take k lsns) body ∙ ap (λ (x : ℕ). replayChain log (drop x (take k lsns)) body) l;
+        size = size;
+      }
+
+  module _ (body₀ body : List ℕ) (i : ℕ) (some : 0 < i) (h : Replaying log k lsns body₀ body i) where
+    inside : i - 1 < length (take k lsns)
+    inside = omega (arith, h .below, length-take-le k lsns (h .held))
+
+    number-is : getD (take k lsns) (i - 1) 0 ≡ getD lsns (i - 1) 0
+    number-is = getD-take k lsns (i - 1) 0 (omega (arith, h .below))
+
+    pub replaying-on : (r x : List ℕ) → r ≡ log (getD lsns (i - 1) 0) → x ≡ applyRecord r body → length x ≡ length body
+        → Replaying log k lsns body₀ x (i - 1)
+    replaying-on r x r-is x-is l =
+        let e : i ≡ i - 1 + 1 = omega arith in
+        record {
+          below = omega (arith, h .below);
+          held = h .held;
+          few = h .few;
+          made =
+              x-is ∙ ap (λ (y : List ℕ). applyRecord y body) (r-is ∙ ap log (sym number-is))
+              ∙ ap (applyRecord (log (getD (take k lsns) (i - 1) 0))) (h .made ∙ ap (λ (n : ℕ). replayChain log (drop n (take k lsns)) body₀) e)
+              ∙ replay-more log (take k lsns) (i - 1) body₀ inside;
+          size = l ∙ h .size;
+        }
+
+    -- the record that the loop comes to
+    pub replayed : (p top : ℕ) → Linked log p top (take k lsns) → Replayed log top (getD lsns (i - 1) 0)
+    replayed p top linked =
+        let f = linked-at log p top (take k lsns) linked (i - 1) inside in
+        subst (Replayed log top) number-is
+        (record { layout = link p (getD (take k lsns) (i - 1) 0) (log (getD (take k lsns) (i - 1) 0)) (f .0) .layout; low = f .1; high = f .2 })
+
+    pub in-array : i - 1 < 1024
+    in-array = omega (arith, h .below, h .held, h .few)
+
+-- ---- the image
+
+-- the part of an image that holds its body
+pub body-length : (dst : List ℕ) → length dst ≡ 256 → length (take 244 (drop 8 dst)) ≡ 244
+body-length dst h = simp (length-take, length-drop) (omega arith)
+
+-- a body put in its part of an image
+module _ (dst b : List ℕ) (size : length dst ≡ 256) (len : length b ≡ 244) where
+  fits : 8 + length b ≤ length dst
+  fits = omega arith
+
+  pub around-length : length (putMid 8 244 dst b) ≡ 256
+  around-length = rw (put-splice dst 8 244 b len) (splice-length dst 8 b fits ∙ size)
+
+  pub around-body : part (putMid 8 244 dst b) 8 244 ≡ b
+  around-body = rw (put-splice dst 8 244 b len) (ap (part (splice dst 8 b) 8) (sym len) ∙ part-splice dst 8 b fits)
+
+-- what was begun, replayed and built is the rebuilt image
+pub built : (g : Geometry) (p : ℕ) (w : View) (c : Chain) → c ≡ chainOf g p w → (dst first last out : List ℕ) → length dst ≡ 256 → length last ≡ 244
+    → first ≡ startBody (c .stop) w → last ≡ replayChain (w .log) (walkOf g p w .chain) first
+    → out ≡ frameImage p (w .durable) (part (putMid 8 244 dst last) 8 244) → out ≡ rebuilt g p w
+unfolding rebuiltBody
+built g p w c c-is dst first last out size len f l o =
+    let s : first ≡ startBody (walkOf g p w .stop) w = f ∙ ap (λ (k : Stop). startBody k w) (stop-is g p w c c-is) in
+    let b : last ≡ replayChain (w .log) (walkOf g p w .chain) (startBody (walkOf g p w .stop) w) = l ∙ ap (replayChain (w .log) (walkOf g p w .chain)) s in
+    o ∙ ap (frameImage p (w .durable)) (around-body dst last size len ∙ b)
+
+-- ---- the start and the answer
+
+module _ (g : Geometry) (v : List ℕ) (e : Entry) (p : ℕ) (stop : Stop) (b : List ℕ) where
+  pub begun-own : (x : List ℕ) → stop ≡ Own → x ≡ item g v (pageAt p) → b ≡ imageBody x → b ≡ startBody stop (viewOf g v e p)
+  begun-own x s x-is b-is = rw s (b-is ∙ ap imageBody x-is)
+
+  pub begun-backup : (x : List ℕ) → stop ≡ Backup → x ≡ item g v (slotAt (e .slot)) → b ≡ imageBody x → b ≡ startBody stop (viewOf g v e p)
+  begun-backup x s x-is b-is = rw s (b-is ∙ ap imageBody x-is)
+
+  module _ (n : ℕ) (len : n ≡ 244) (b-is : b ≡ zeros n) where
+    pub begun-format : stop ≡ Format → b ≡ startBody stop (viewOf g v e p)
+    begun-format s = rw s (b-is ∙ ap zeros len)
+
+    pub begun-broken : stop ≡ Broken → b ≡ startBody stop (viewOf g v e p)
+    begun-broken s = rw s (b-is ∙ ap zeros len)
+
+pub answered : (g : Geometry) (v : List ℕ) (e : Entry) (p : ℕ) (c : Chain) → c ≡ chainOf g p (viewOf g v e p) → (x : List ℕ) (valid : Bool) (n : ℕ) (k : Class) (s : Start)
+    → x ≡ item g v (pageAt p) → valid ≡ validImage g p x → n ≡ imageLsn x → k ≡ classOf valid n (e .durable) (e .written) → s ≡ startOf (c .stop)
+    → _≡_ {A = Repair} (record { class = k; start = s; count = c .count }) (repairOf g p (viewOf g v e p))
+unfolding repairOf
+answered g v e p c c-is x valid n k s x-is valid-is n-is k-is s-is =
+    rw (k-is, valid-is, n-is, x-is, s-is, stop-is g p (viewOf g v e p) c c-is, count-is g p (viewOf g v e p) c c-is)

@@ -1,0 +1,44 @@
+use borrow.Author.Needs.{needs}
+use Rattle.repair.proofs.Starts.{page-fits}
+use Rattle.repair.proofs.Replays.{answered}
+use Rattle.repair.proofs.answer.Statement.{statement}
+use Rattle.repair.proofs.answer.Tie as tie
+use Rattle.repair.proofs.answer.Reads as reads
+use Rattle.repair.proofs.answer.Lts as lts
+use Rattle.item.proofs.image.lsn.Reads as lsn-reads
+use Rattle.item.proofs.image.valid.Reads as valid-reads
+use Rattle.repair.proofs.class.Reads as class-reads
+use Rattle.repair.proofs.start.Reads as start-reads
+use Rattle.volume.proofs.place.page.Reads as page-reads
+
+-- src/lib.rt:213:9
+page-requires : tie.Need-page-requires
+page-requires c κs = page-fits _ _ _ _ (c .before .pre .0)
+
+-- src/lib.rt:214:23
+valid-requires : tie.Need-valid-requires
+valid-requires c κs = search needs
+
+-- src/lib.rt:214:49
+lsn-requires : tie.Need-lsn-requires
+lsn-requires c κs = search needs
+
+-- src/lib.rt:214:9
+class-requires : tie.Need-class-requires
+class-requires c κs = search needs
+
+-- src/lib.rt:216:9
+start-requires : tie.Need-start-requires
+start-requires c κs = search needs
+
+-- src/lib.rt:208:1
+returns : tie.Need-returns
+returns c =
+    let b = c .before .before .before .before .before .before in
+    answered _ _ (b .args .e) _ (b .args .c) (b .pre .1) _ _ _ _ _ (c .before .before .before .before .page .ensures) (c .before .before .before .valid .ensures) (c .before .before .lsn .ensures)
+    (c .before .class .ensures) (c .start .ensures)
+
+pub answer-spec : {M : Type 1} → statement M
+answer-spec =
+    tie.close
+    (tie.spec page-requires valid-requires lsn-requires class-requires start-requires returns)
