@@ -2,7 +2,7 @@
 use mathlib.Core.Path.{_≡_, sym, ap, _∙_, subst}
 use mathlib.Core.Logic.{_≢_}
 use mathlib.Core.Bool.{Bool, true, false, cond}
-use mathlib.Core.List.{List}
+use mathlib.Core.List.{List, _++_}
 use Prim.Native.Nat.{ℕ, suc, _≤_}
 use native.Mathlib.Omega.{arith}
 use lib.ListN.{length}
@@ -20,14 +20,14 @@ use Rattle.model.specs.Claim.{History, Legal, reached, logOf, keptOf}
 use Rattle.model.specs.declared.answer.Class.the-variants.{Good, Behind, Stale, Failed}
 use Rattle.model.specs.declared.state.Entry.{Entry}
 use Rattle.model.specs.declared.state.State.{State}
-use Rattle.history.specs.Facts.{volumeOf, headingOf, IsReplay, StoredImage, OwnImage, IndexEntry, SameEntry, Facts}
-use Rattle.history.proofs.Book.{at, lastOf, last-hit, last-ge, last-is, last-take, replay-take}
+use Rattle.history.specs.Facts.{volumeOf, headingOf, IsReplay, StoredImage, OwnImage, IndexEntry, SameEntry, Counts, LivePage, Facts}
+use Rattle.history.proofs.Book.{at, lastOf, last-hit, last-ge, last-is, replay-is, last-take, replay-take}
 use Rattle.history.proofs.Entries.{markAt, entryFrom, slots-apart}
 use Rattle.history.proofs.Records.{ReplayOf, Faithful}
 use Rattle.history.proofs.Sections.{volume-sized}
 use Rattle.history.proofs.Disk.{index-is}
 use Rattle.history.proofs.Inv.{Inv}
-use Rattle.history.proofs.Context.{Ctx, entry-is, durable-last}
+use Rattle.history.proofs.Context.{Ctx, entry-is, last-entry, durable-last, found-frame}
 use Rattle.history.proofs.WellFormed.{state-ok, memory-ok}
 use Rattle.history.proofs.Refusals.{call-ordinary, load-kept, restart-right, restart-wrong, inspect-right, inspect-wrong, inspect-kept}
 use Rattle.history.proofs.Reached.{madeWith, context, tied}
@@ -86,6 +86,18 @@ module _ (h : History) (legal : Legal h) where
           backup = ap (λ (y : Entry). y .backup) a ∙ sym (ap (λ (y : Entry). y .backup) b);
         }
 
+    counts-are : Counts h s
+    counts-are = record { durable = ctx .al .log .durable-is; pending = ctx .al .log .pending-is; few = ctx .al .log .few }
+
+    live-page : (p : ℕ) → 1 ≤ p → p ≤ h .pages → LivePage h m s p
+    live-page p lo hi =
+        let sp : ctx .all ≡ keptOf h ++ logOf h .pending = ctx .al .log .split in
+        record {
+          last = rw (last-is p (keptOf h ++ logOf h .pending), ← sp) (last-entry ctx p lo hi);
+          frame = λ t.
+              rw (last-is p (keptOf h ++ logOf h .pending), replay-is p (keptOf h ++ logOf h .pending), ← sp) (found-frame ctx p lo (rw t) .framed .frame-is);
+        }
+
   stored-image : (at : Place) (x : List ℕ) → isImage (headingOf h) at ≡ true → storedBefore at x (reached h .past) ≡ true → StoredImage h x
   stored-image at x r e =
       let f = i .past-ok at x (rw heading at r) e in
@@ -142,6 +154,8 @@ facts =
       own = own-image;
       noted = noted-page;
       entries = same-entry;
+      counts = counts-are;
+      live = live-page;
       slots = λ h l p q p1 p2 q1 q2 nz e.
           let a : entryOf (indexOf (headingOf h) (volumeOf h)) p .slot ≡ markAt p (i h l .ns) (length (i h l .ns)) .slot = ap (λ (y : Entry). y .slot) (entry h l p p1 p2) in
           let b : entryOf (indexOf (headingOf h) (volumeOf h)) q .slot ≡ markAt q (i h l .ns) (length (i h l .ns)) .slot = ap (λ (y : Entry). y .slot) (entry h l q q1 q2) in

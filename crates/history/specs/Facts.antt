@@ -4,18 +4,18 @@ use Prim.Native.Nat.{ℕ, _≤_}
 use mathlib.Core.Path.{_≡_}
 use mathlib.Core.Logic.{_≢_}
 use mathlib.Core.Bool.{true, false}
-use mathlib.Core.List.{List}
+use mathlib.Core.List.{List, _++_}
 use lib.ListN.{length, take}
 use Rattle.model.specs.Geometry.{Place, pageAt, slotAt, geometryOf, item}
-use Rattle.model.specs.Item.{imageLsn, imageBody, validImage}
+use Rattle.model.specs.Item.{imageLsn, imageBody, validImage, frameImage}
 use Rattle.model.specs.Index.{entryOf}
 use Rattle.model.specs.Scan.{indexOf}
 use Rattle.model.specs.Repair.{viewOf, classIn}
-use Rattle.model.specs.State.{frameCount, validMemory, wellFormed}
+use Rattle.model.specs.State.{frameCount, validMemory, frameBytes, holder, held, wellFormed}
 use Rattle.model.specs.Calls.{Call, outcomeOf, restartOf, loadOf, refusalOf}
 use Rattle.model.specs.AbstractLog.{Logged, lastPlace, replay}
 use Rattle.model.specs.History.{on, isImage, storedBefore}
-use Rattle.model.specs.Claim.{History, Legal, reached, keptOf, inspection}
+use Rattle.model.specs.Claim.{History, Legal, reached, logOf, keptOf, inspection}
 use Rattle.model.specs.declared.geometry.Geometry.{Geometry}
 use Rattle.model.specs.declared.answer.Class.the-variants.{Failed}
 use Rattle.model.specs.declared.state.State.{State}
@@ -93,6 +93,20 @@ pub record SameEntry (h : History) (s : State) (p : ℕ) : Type 0 where
   pub slot : entryOf (s .index) p .slot ≡ entryOf (indexOf (headingOf h) (volumeOf h)) p .slot
   pub backup : entryOf (s .index) p .backup ≡ entryOf (indexOf (headingOf h) (volumeOf h)) p .backup
 
+-- ---- the live machine and the abstract log
+
+-- the counts are those of the two lists
+pub record Counts (h : History) (s : State) : Type 0 where
+  pub durable : s .durable ≡ length (keptOf h)
+  pub pending : s .pending ≡ length (logOf h .pending)
+  pub few : length (logOf h .pending) ≤ 16
+
+-- of page p, over the durable and the pending changes: its last number; and a frame that holds it holds its replay, check bytes zero
+pub record LivePage (h : History) (m : List ℕ) (s : State) (p : ℕ) : Type 0 where
+  pub last : entryOf (s .index) p .last ≡ lastPlace p (keptOf h ++ logOf h .pending)
+  pub frame : held s p ≡ true
+      → frameBytes m (holder s p) ≡ frameImage p (lastPlace p (keptOf h ++ logOf h .pending)) (replay p (keptOf h ++ logOf h .pending))
+
 -- ---- all of them
 
 pub record Facts : Type 0 where
@@ -104,6 +118,8 @@ pub record Facts : Type 0 where
   pub own : (h : History) → Legal h → (p : ℕ) → 1 ≤ p → p ≤ h .pages → OwnImage h p
   pub noted : (h : History) → Legal h → (p : ℕ) → 1 ≤ p → p ≤ h .pages → IndexEntry h p
   pub entries : (h : History) → Legal h → (m : List ℕ) (s : State) → reached h .power ≡ on m s → (p : ℕ) → 1 ≤ p → p ≤ h .pages → SameEntry h s p
+  pub counts : (h : History) → Legal h → (m : List ℕ) (s : State) → reached h .power ≡ on m s → Counts h s
+  pub live : (h : History) → Legal h → (m : List ℕ) (s : State) → reached h .power ≡ on m s → (p : ℕ) → 1 ≤ p → p ≤ h .pages → LivePage h m s p
   -- no two pages share a slot
   pub slots : (h : History) → Legal h → (p q : ℕ) → 1 ≤ p → p ≤ h .pages → 1 ≤ q → q ≤ h .pages → entryOf (indexOf (headingOf h) (volumeOf h)) p .slot ≢ 0
       → entryOf (indexOf (headingOf h) (volumeOf h)) p .slot ≡ entryOf (indexOf (headingOf h) (volumeOf h)) q .slot → p ≡ q
