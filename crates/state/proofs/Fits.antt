@@ -8,7 +8,7 @@ use lib.ListN.{length}
 use native.Mathlib.Numerals.{add-one}
 use borrow.Author.Tests.{lt-ltb, le-ltb}
 use Rattle.laws.proofs.Tests.{when-true, when-false}
-use Rattle.model.specs.Tests.{all, every, firstOf}
+use Rattle.model.specs.Tests.{Row, all, every, firstOf}
 use Rattle.model.specs.Geometry.{geometryOf, validVolume}
 use Rattle.model.specs.Index.{entryRow}
 use Rattle.model.specs.State.{frameCount, validMemory, frameRow, lastNumber, held, blank, pendingNoteFits, firstHolder, frameFits, entryFits, entryZero, pageFits, wellFormed}
@@ -64,3 +64,16 @@ pub refusal-is : (s : State) (v m : List ℕ) (size count : ℕ) (g : Geometry) 
     → length m ≡ size
     → k ≡ firstOf (stateRows v m s [])
 refusal-is s v m size count g formed memory valid a b k eg ec ef em ev ea eb ek en = rw (ek, eb, ea, ev, em, ef, ec, eg, ← en)
+
+-- a call's own rows come after them
+after : (a b c : Bool) (n : ℕ)
+    → cond (not (eqb (cond a 1 (cond b 2 (cond c 2 0))) 0)) (cond a 1 (cond b 2 (cond c 2 0))) n ≡ cond a 1 (cond b 2 (cond c 2 n))
+after true b c n = refl
+after false true c n = refl
+after false false true n = refl
+after false false false n = refl
+
+pub refusal-then : (v m : List ℕ) (s : State) (rows : List Row) (k rest : ℕ) → k ≡ firstOf (stateRows v m s []) → rest ≡ firstOf rows
+    → cond (not (eqb k 0)) k rest ≡ firstOf (stateRows v m s rows)
+refusal-then v m s rows k rest ek er =
+    rw (ek, er) (after (not (validVolume v)) (not (validMemory (length m))) (not (wellFormed (geometryOf v) (frameCount (length m)) s)) (firstOf rows))

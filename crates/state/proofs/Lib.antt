@@ -2,3 +2,5 @@
 pub mod Tables
 pub mod Forced
 pub mod Fits
+pub mod Facts
+pub mod Holder
