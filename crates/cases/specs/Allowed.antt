@@ -43,6 +43,10 @@ allowedRows =
     ∷ row "damage: a slot outside it" (may stored (hits (slotAt 2) (forged1 ∷ forged2 ∷ image 3 1 (replicate 244 1) ∷ image 0 1 (replicate 244 1) ∷ broken sevens ∷ []))) (0 ∷ 0 ∷ 1 ∷ 1 ∷ 1 ∷ [])
     ∷ row "damage: a slot whose note is owed" (may owing (hits (slotAt 2) (forged2 ∷ forged1 ∷ sevens ∷ broken sevens ∷ []))) (0 ∷ 0 ∷ 1 ∷ 1 ∷ [])
     ∷ row "damage: what damage put there does not count as stored" (may moved (hits (slotAt 1) (forged2 ∷ sevens ∷ []))) (0 ∷ 1 ∷ [])
+    ∷ row "damage: an image that a crash left new was stored, one left old was not"
+    (may (run stored (perform note ∷ crashIn (write 2) new ∷ [])) (hits (pageAt 2) (image 2 2 (replicate 244 9) ∷ []))
+    ++ may (run stored (perform note ∷ crashIn (write 2) old ∷ [])) (hits (pageAt 2) (image 2 2 (replicate 244 9) ∷ [])))
+    (1 ∷ 0 ∷ [])
     ∷ row "damage: only images, 256 bytes" (may stored (hits (pageAt 1) (replicate 255 0 ∷ []) ++ (hits (pageAt 0) (replicate 256 0 ∷ []) ++ (hits (pageAt 3) (replicate 256 0 ∷ []) ++ (hits (slotAt 3) (replicate 256 0 ∷ []) ++ (hits (slotAt 0) (replicate 256 0 ∷ []) ++ (hits (recordAt 1) (replicate 256 0 ∷ []) ++ hits (noteAt 1) (replicate 256 0 ∷ [])))))))) (0 ∷ 0 ∷ 0 ∷ 0 ∷ 0 ∷ 0 ∷ 0 ∷ [])
     ∷ row "crash: what it may leave of a record"
     (may (run stored (perform (slide 1 (5 ∷ [])) ∷ []))

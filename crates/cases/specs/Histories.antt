@@ -73,6 +73,7 @@ forcesCut =
           ∷ does (load 1 1) (fromOwn Good 0)
           ∷ does (slide 1 (0x45 ∷ [])) done
           ∷ told (restart (memory 2)) done
+          ∷ does (load 1 2) (refused 4)
           ∷ does (slide 1 (0x45 ∷ [])) (refused 8)
           ∷ does (load 1 1) (fromOwn Good 0)
           ∷ does (slide 1 (0x46 ∷ [])) done

@@ -5,11 +5,11 @@ use mathlib.Core.List.{List, [], _∷_, _++_, map}
 use lib.ListN.{length, replicate, take, set}
 use Rattle.model.specs.Checksum.{seal}
 use Rattle.model.specs.Geometry.{pageAt, slotAt, recordAt, noteAt, geometryOf, emptyVolume}
-use Rattle.model.specs.Item.{recordBytes, encodeChange, noteBytes}
+use Rattle.model.specs.Item.{validImage, encodeChange, noteBytes}
 use Rattle.model.specs.Index.{entryOf, slotUsed}
 use Rattle.model.specs.Scan.{validLog, validNotes, indexOf}
 use Rattle.model.specs.Repair.{classOf, viewOf, walkOf, isBroken}
-use Rattle.model.specs.Calls.{StoredItem, oneItem, restartOf}
+use Rattle.model.specs.Calls.{StoredItem, oneItem, restartOf, inspectOf}
 use Rattle.model.specs.declared.change.Change.the-variants.{Format, Put, Slide}
 use Rattle.model.specs.declared.item.LogRecord.{LogRecord}
 use Rattle.model.specs.declared.item.Note.{Note}
@@ -140,6 +140,7 @@ walkRows =
     (take 4 (inspected (whole (ownFails ∷ oneItem (slotAt 1) (image 2 3 body3) ∷ oneItem (noteAt 1) (backupNote 1 1 1 3) ∷ [])) 1))
     (fromFormat Failed 2)
     ∷ row "walk: a backup that is not noted" (take 4 (inspected (whole (ownFails ∷ oneItem (slotAt 1) (image 1 3 body3) ∷ [])) 1)) (fromFormat Failed 2)
+    ∷ row "inspect: the check is set" (bits (validImage small 1 (inspectOf (whole (ownFails ∷ [])) 1 (replicate 256 0) .buffer) ∷ [])) (1 ∷ [])
     ∷ row "walk: records that break it"
     (map breaks (record3 ∷ broken record3 ∷ put 4 1 1 ∷ put 3 1 2 ∷ seal 60 (set record3 15 1) ∷ put 3 3 1 ∷ put 3 4 1 ∷ put 3 0 1 ∷ encodeChange 3 3 1 (Format 1) [] ∷ []))
     (0 ∷ 1 ∷ 1 ∷ 1 ∷ 1 ∷ 1 ∷ 1 ∷ 1 ∷ 1 ∷ [])

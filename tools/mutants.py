@@ -1,0 +1,211 @@
+#!/usr/bin/env python3
+"""Tries wrong edits of the definitions (tools/mutants.txt): each must make a computed case or a proof fail.
+
+An edit is applied to a copy of the crates that it needs, in a temporary folder. For `cases` the one theorem about all rows is replaced by
+one declaration for each row or history that the edit names, so that a failure says which caught it; the check must fail there, by a
+computed test that is now false, and nowhere else. For `history` the check must fail in a proof of `laws` or `history`, and not for a name
+that is missing or a text that is not read.
+
+    python3 tools/mutants.py [--only WORD] [--crate cases|history] [--search]
+
+--only tries the edits whose name holds WORD. --search tries each edit against every row and history, and prints all that catch it.
+Exit status 0 if every edit is caught, else 1.
+"""
+import argparse
+import re
+import shutil
+import subprocess
+import sys
+import tempfile
+from pathlib import Path
+
+ROOT = Path(__file__).resolve().parent.parent
+SPECS = Path("crates/model/specs")
+PROBE = """-- One declaration for each row or history asked for: made by tools/mutants.py.
+use Prim.Native.String.{String}
+use mathlib.Core.Bool.{Bool, true, false, cond}
+use mathlib.Core.List.{List, [], _∷_}
+use lib.Dec.{T}
+use lib.Text.{eqt}
+use Rattle.cases.specs.Opened.{opened}
+use Rattle.cases.specs.Rows.{Row, same}
+use Rattle.cases.specs.All.{rows}
+use Rattle.cases.specs.Worked.{Worked, computes}
+use Rattle.cases.specs.Histories.{histories}
+
+row : String → List Row → Bool
+row n [] = false
+row n (r ∷ rs) = let rest = row n rs in let here = same (r .found) (r .says) in cond (eqt (r .name) n) here rest
+
+history : String → List Worked → Bool
+history n [] = false
+history n (w ∷ ws) = let rest = history n ws in let here = computes w in cond (eqt (w .name) n) here rest
+"""
+# errors that say that an edit is no definition, and nothing of what it means
+NOT_READ = re.compile(r"Parse|cannot be named|not in scope|unknown name|was not admitted|cannot be unfolded|has no `|components|needs a type")
+
+
+def read_edits(text):
+    """The edits of the list: blocks of '== name', 'file F', 'crates C..', 'caught NAME', '- old' and '+ new' lines."""
+    edits = []
+    for line in text.splitlines():
+        word, _, rest = line.partition(" ")
+        if word == "==":
+            edits.append({"name": rest, "file": "", "crates": ["cases"], "caught": [], "old": [], "new": []})
+        elif word == "file":
+            edits[-1]["file"] = rest + ".antt"
+        elif word == "crates":
+            edits[-1]["crates"] = rest.split()
+        elif word == "caught":
+            edits[-1]["caught"].append(rest)
+        elif word == "-":
+            edits[-1]["old"].append(rest)
+        elif word == "+":
+            edits[-1]["new"].append(rest)
+        elif line.strip() and word != "#":
+            sys.exit(f"mutants.txt: cannot read: {line}")
+    return edits
+
+
+def table():
+    """The names of the rows and of the histories, as the specs write them."""
+    rows, histories = [], []
+    for path in sorted((ROOT / "crates/cases/specs").glob("*.antt")):
+        text = path.read_text()
+        rows += re.findall(r'\brow\s+"([^"]+)"', text)
+        histories += re.findall(r'\bname = "([^"]+)"', text)
+    return rows, histories
+
+
+def needed(crate):
+    """The lines of crates.txt for a crate and what it depends on in this repository."""
+    lines = {}
+    for line in (ROOT / "crates.txt").read_text().splitlines():
+        name, colon, deps = line.partition("#")[0].partition(":")
+        if colon:
+            lines[name.strip()] = deps.split()
+    todo, done = [crate], []
+    while todo:
+        name = todo.pop()
+        if name in lines and name not in done:
+            done.append(name)
+            todo += lines[name]
+    return {name: lines[name] for name in lines if name in done}
+
+
+def copy(crate, to):
+    lines = needed(crate)
+    for name in lines:
+        shutil.copytree(ROOT / "crates" / name, to / "crates" / name)
+    (to / "crates.txt").write_text("".join(f"{name}: {' '.join(deps)}\n" for name, deps in lines.items()))
+    if crate == "cases":
+        for path in (to / "crates/cases/proofs").glob("*.antt"):
+            path.unlink()
+        (to / "crates/cases/proofs/Lib.antt").write_text("pub mod Probe\n")
+
+
+def write_probe(to, rows, names):
+    text = PROBE
+    for i, name in enumerate(names):
+        kind, of = ("row", "rows") if name in rows else ("history", "histories")
+        text += f'\ncaught-{i} : T ({kind} "{name}" {of})\nunfolding opened rows histories {kind}\ncaught-{i} = tt\n'
+    (to / "crates/cases/proofs/Probe.antt").write_text(text)
+
+
+def check(crate, to):
+    run = subprocess.run(["rt", "check", crate], cwd=to, capture_output=True, text=True)
+    out = run.stdout + run.stderr
+    return run.returncode, re.findall(r"^(\S+?):\d+:\d+: error: (.*(?:\n  .*)*)", out, re.M), out
+
+
+def try_cases(to, edit, rows, names):
+    """Which of the names catch the edit; None where it is no definition or there is no verdict."""
+    write_probe(to, rows, names)
+    status, errors, out = check("cases", to)
+    caught = []
+    for path, text in errors:
+        hit = re.match(r"`caught-(\d+)`: (?:expected type|.*type mismatch)", text)
+        if path.endswith("/Probe.antt") and hit and "step limit" not in text:
+            caught.append(names[int(hit.group(1))])
+        elif "step limit" not in text:
+            return None, f"{path}: {text}"
+    if status not in (0, 1) or (status == 1 and not errors):
+        return None, out[-400:]
+    return caught, ""
+
+
+def try_history(to):
+    """The first proof that the edit breaks; None where it is no definition, '' where it survives."""
+    status, errors, out = check("history", to)
+    if status == 0:
+        return "", ""
+    for path, text in errors:
+        if re.search(r"/crates/(laws|history)/proofs/", path) and not NOT_READ.search(text):
+            proof = Path(path)
+            return f"{proof.parts[proof.parts.index('proofs') - 1]}: {proof.stem} {text.split(':')[0]}", ""
+        return None, f"{path}: {text}"
+    return None, out[-400:]
+
+
+def apply(to, edit):
+    """Writes the edit; gives back what undoes it."""
+    path = to / SPECS / edit["file"]
+    before = path.read_text()
+    old, new = "\n".join(edit["old"]), "\n".join(edit["new"])
+    if before.count(old) != 1:
+        sys.exit(f"mutants.txt: {edit['name']}: the old text stands {before.count(old)} times in {edit['file']}")
+    path.write_text(before.replace(old, new))
+    return lambda: path.write_text(before)
+
+
+def run(crate, edits, search):
+    rows, histories = table()
+    failed = 0
+    with tempfile.TemporaryDirectory() as folder:
+        to = Path(folder)
+        copy(crate, to)
+        every = rows + histories
+        if crate == "cases":
+            named = every if search else list(dict.fromkeys(n for e in edits for n in e["caught"]))
+            lost = [n for n in named if n not in every]
+            caught, why = try_cases(to, None, rows, named)
+            if lost or caught or caught is None:
+                print(f"{crate}: the definitions as they are: {lost or caught or why}")
+                return 1
+        for edit in edits:
+            undo = apply(to, edit)
+            if crate == "cases":
+                wanted = every if search else edit["caught"]
+                caught, why = try_cases(to, edit, rows, wanted)
+                bad = not caught or (not search and caught != wanted)
+                verdict = "no verdict: " + why if caught is None else "caught by " + "; ".join(caught) if caught else "SURVIVES"
+            else:
+                proof, why = try_history(to)
+                bad = not proof
+                verdict = "no verdict: " + why if proof is None else "caught by " + proof if proof else "SURVIVES"
+            undo()
+            failed += bad
+            print(f"{crate}: {'NOT CAUGHT' if bad else 'ok'}: {edit['file'][:-5]}: {edit['name']}: {verdict}", flush=True)
+    return failed
+
+
+def main():
+    words = argparse.ArgumentParser()
+    words.add_argument("--only", default="")
+    words.add_argument("--crate", choices=["cases", "history"])
+    words.add_argument("--search", action="store_true")
+    given = words.parse_args()
+    edits = [e for e in read_edits((ROOT / "tools/mutants.txt").read_text()) if given.only in e["name"]]
+    failed = 0
+    for crate in [given.crate] if given.crate else ["cases", "history"]:
+        mine = [e for e in edits if crate in e["crates"]]
+        if mine and not needed(crate):
+            print(f"{crate}: there is no such crate yet; {len(mine)} edits wait for it")
+        elif mine:
+            failed += run(crate, mine, given.search)
+    print(f"mutants: {'all caught' if not failed else str(failed) + ' not caught'}")
+    return 1 if failed else 0
+
+
+if __name__ == "__main__":
+    sys.exit(main())
