@@ -6,9 +6,10 @@ one declaration for each row or history that the edit names, so that a failure s
 computed test that is now false, and nowhere else. For `history` the check must fail in a proof of `laws` or `history`, and not for a name
 that is missing or a text that is not read.
 
-    python3 tools/mutants.py [--only WORD] [--crate cases|history] [--search]
+    python3 tools/mutants.py [--only WORD] [--crate cases|history] [--search] [--jobs N]
 
 --only tries the edits whose name holds WORD. --search tries each edit against every row and history, and prints all that catch it.
+--jobs tries N at a time.
 Exit status 0 if every edit is caught, else 1.
 """
 import argparse
@@ -17,6 +18,7 @@ import shutil
 import subprocess
 import sys
 import tempfile
+from concurrent.futures import ThreadPoolExecutor
 from pathlib import Path
 
 ROOT = Path(__file__).resolve().parent.parent
@@ -118,7 +120,7 @@ def check(crate, to):
     return run.returncode, re.findall(r"^(\S+?):\d+:\d+: error: (.*(?:\n  .*)*)", out, re.M), out
 
 
-def try_cases(to, edit, rows, names):
+def try_cases(to, rows, names):
     """Which of the names catch the edit; None where it is no definition or there is no verdict."""
     write_probe(to, rows, names)
     status, errors, out = check("cases", to)
@@ -135,14 +137,14 @@ def try_cases(to, edit, rows, names):
 
 
 def try_history(to):
-    """The first proof that the edit breaks; None where it is no definition, '' where it survives."""
+    """The first proof that the edit breaks, or none; None where it is no definition."""
     status, errors, out = check("history", to)
     if status == 0:
-        return "", ""
+        return [], ""
     for path, text in errors:
         if re.search(r"/crates/(laws|history)/proofs/", path) and not NOT_READ.search(text):
             proof = Path(path)
-            return f"{proof.parts[proof.parts.index('proofs') - 1]}: {proof.stem} {text.split(':')[0]}", ""
+            return [f"{proof.parts[proof.parts.index('proofs') - 1]}: {proof.stem} {text.split(':')[0]}"], ""
         return None, f"{path}: {text}"
     return None, out[-400:]
 
@@ -158,35 +160,47 @@ def apply(to, edit):
     return lambda: path.write_text(before)
 
 
+def judge(crate, to, edit, rows, wanted):
+    """Whether the edit is caught, and the words that say by what."""
+    undo = apply(to, edit)
+    caught, why = try_cases(to, rows, wanted) if crate == "cases" else try_history(to)
+    undo()
+    if caught is None:
+        return False, "no verdict: " + why
+    if not caught:
+        return False, "SURVIVES"
+    missed = [name for name in edit["caught"] if crate == "cases" and name not in caught]
+    return not missed, "caught by " + "; ".join(caught) + ("; NOT by " + "; ".join(missed) if missed else "")
+
+
 def run(crate, edits, search):
+    """Tries edits in a copy of their own; gives the number that are not caught."""
     rows, histories = table()
     failed = 0
     with tempfile.TemporaryDirectory() as folder:
         to = Path(folder)
         copy(crate, to)
-        every = rows + histories
-        if crate == "cases":
-            named = every if search else list(dict.fromkeys(n for e in edits for n in e["caught"]))
-            lost = [n for n in named if n not in every]
-            caught, why = try_cases(to, None, rows, named)
-            if lost or caught or caught is None:
-                print(f"{crate}: the definitions as they are: {lost or caught or why}")
-                return 1
         for edit in edits:
-            undo = apply(to, edit)
-            if crate == "cases":
-                wanted = every if search else edit["caught"]
-                caught, why = try_cases(to, edit, rows, wanted)
-                bad = not caught or (not search and caught != wanted)
-                verdict = "no verdict: " + why if caught is None else "caught by " + "; ".join(caught) if caught else "SURVIVES"
-            else:
-                proof, why = try_history(to)
-                bad = not proof
-                verdict = "no verdict: " + why if proof is None else "caught by " + proof if proof else "SURVIVES"
-            undo()
-            failed += bad
-            print(f"{crate}: {'NOT CAUGHT' if bad else 'ok'}: {edit['file'][:-5]}: {edit['name']}: {verdict}", flush=True)
+            caught, words = judge(crate, to, edit, rows, rows + histories if search else edit["caught"])
+            failed += not caught
+            print(f"{crate}: {'ok' if caught else 'NOT CAUGHT'}: {edit['file'][:-5]}: {edit['name']}: {words}", flush=True)
     return failed
+
+
+def sound(edits):
+    """The rows and histories that the edits name are there, and hold of the definitions as they are."""
+    rows, histories = table()
+    named = list(dict.fromkeys(name for edit in edits for name in edit["caught"]))
+    lost = [name for name in named if name not in rows + histories]
+    if lost:
+        print("cases: no such row or history: " + "; ".join(lost))
+        return False
+    with tempfile.TemporaryDirectory() as folder:
+        copy("cases", Path(folder))
+        caught, why = try_cases(Path(folder), rows, named)
+    if caught or caught is None:
+        print(f"cases: the definitions as they are: {'; '.join(caught or [why])}")
+    return caught == []
 
 
 def main():
@@ -194,15 +208,19 @@ def main():
     words.add_argument("--only", default="")
     words.add_argument("--crate", choices=["cases", "history"])
     words.add_argument("--search", action="store_true")
+    words.add_argument("--jobs", type=int, default=1)
     given = words.parse_args()
     edits = [e for e in read_edits((ROOT / "tools/mutants.txt").read_text()) if given.only in e["name"]]
     failed = 0
     for crate in [given.crate] if given.crate else ["cases", "history"]:
         mine = [e for e in edits if crate in e["crates"]]
-        if mine and not needed(crate):
+        if not needed(crate):
             print(f"{crate}: there is no such crate yet; {len(mine)} edits wait for it")
-        elif mine:
-            failed += run(crate, mine, given.search)
+        elif crate == "cases" and not sound(mine):
+            failed += 1
+        else:
+            with ThreadPoolExecutor(given.jobs) as pool:
+                failed += sum(pool.map(lambda i: run(crate, mine[i :: given.jobs], given.search), range(given.jobs)))
     print(f"mutants: {'all caught' if not failed else str(failed) + ' not caught'}")
     return 1 if failed else 0
 

@@ -7,7 +7,7 @@ use Rattle.model.specs.Bytes.{part}
 use Rattle.model.specs.Checksum.{sealImage}
 use Rattle.model.specs.Geometry.{emptyVolume, lengthFor}
 use Rattle.model.specs.Item.{frameImage, noteBytes}
-use Rattle.model.specs.Calls.{StoredItem, oneItem, volumeAfter, inspectOf, Call, outcomeOf}
+use Rattle.model.specs.Calls.{StoredItem, volumeAfter, inspectOf, Call, outcomeOf}
 use Rattle.model.specs.History.{Power, off, on, Machine, Event, freshMachine, run}
 use Rattle.model.specs.declared.geometry.Geometry.{Geometry}
 use Rattle.model.specs.declared.state.Entry.{Entry}
@@ -15,7 +15,6 @@ use Rattle.model.specs.declared.answer.Class.{Class}
 use Rattle.model.specs.declared.answer.Class.the-variants.{Good, Behind, Stale, Failed}
 use Rattle.model.specs.declared.answer.Start.{Start}
 use Rattle.model.specs.declared.answer.Start.the-variants.{Own, Backup, Format}
-use Rattle.model.specs.declared.answer.Repair.{Repair}
 use Rattle.model.specs.declared.answer.Answer.{Answer}
 use Rattle.model.specs.declared.answer.Answer.the-variants.{Refused, Nothing, Done, Repaired}
 

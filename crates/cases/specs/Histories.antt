@@ -6,9 +6,9 @@ use Rattle.model.specs.Geometry.{pageAt, slotAt}
 use Rattle.model.specs.Item.{encodeChange}
 use Rattle.model.specs.Calls.{Call, begin, load, change, force, write, backup, note}
 use Rattle.model.specs.AbstractLog.{Logged, old, new, torn}
-use Rattle.model.specs.History.{Event, restart, perform, crash, crashIn, damage}
+use Rattle.model.specs.History.{restart, perform, crash, crashIn, damage}
 use Rattle.model.specs.declared.change.Change.{Change}
-use Rattle.model.specs.declared.change.Change.the-variants.{Format, Put, Slide}
+use Rattle.model.specs.declared.change.Change.the-variants.{Format, Slide}
 use Rattle.model.specs.declared.answer.Class.the-variants.{Good, Behind, Stale, Failed}
 use Rattle.cases.specs.Build.{fromOwn, fromBackup, fromFormat, refused, done, idle, image, broken, backupNote, memory}
 use Rattle.cases.specs.Worked.{Told, Worked, told, quiet}

@@ -1,20 +1,18 @@
 -- Rows on the smallest definitions: number fields and parts, the checksum, the volume's geometry, changes, and the layouts of the items.
-use Prim.Native.Nat.{ℕ, _+_, _*_}
-use mathlib.Core.Bool.{Bool, true, false}
-use mathlib.Core.List.{List, [], _∷_, _++_, map}
+use Prim.Native.Nat.{ℕ}
+use mathlib.Core.Bool.{Bool}
+use mathlib.Core.List.{List, [], _∷_, _++_}
 use lib.ListN.{length, replicate, take, drop, set}
-use Rattle.model.specs.Bytes.{bytesOf, field, byteAt, part, splice, allZero, startsWith, sameBytes}
+use Rattle.model.specs.Bytes.{bytesOf, field, part, splice, allZero, startsWith, sameBytes}
 use Rattle.model.specs.Checksum.{checksum, withChecksum, seal, sealed, sealedRun}
 use Rattle.model.specs.Geometry.{pageAt, slotAt, recordAt, noteAt, start, geometryOf, validCounts, validVolume, emptyVolume}
 use Rattle.model.specs.Change.{changeFits, applyChange}
-use Rattle.model.specs.Item.{validImage, validSomewhere, frameImage, recordOf, recordLayout, recordBytes, encodeChange, applyRecord, noteLayout, noteBytes}
+use Rattle.model.specs.Item.{validImage, validSomewhere, frameImage, recordLayout, recordBytes, encodeChange, applyRecord, noteLayout, noteBytes}
 use Rattle.model.specs.Calls.{makeOf}
 use Rattle.model.specs.declared.change.Change.the-variants.{Format, Put, Slide}
 use Rattle.model.specs.declared.geometry.Geometry.{Geometry}
-use Rattle.model.specs.declared.item.LogRecord.{LogRecord}
-use Rattle.model.specs.declared.item.Note.{Note}
 use Rattle.cases.specs.Rows.{Row, row}
-use Rattle.cases.specs.Build.{bits, small, image, numbers, refused, done}
+use Rattle.cases.specs.Build.{bits, small, image, numbers, refused}
 
 -- ---- bytes and checksum
 

@@ -1,15 +1,13 @@
 -- Repairs, and a Backup, that fall into document 01's three traps. Each is `model`'s own but for one thing.
 use Prim.Native.Nat.{ℕ}
-use mathlib.Core.Bool.{Bool, true, false, cond}
-use mathlib.Core.List.{List, [], _∷_}
+use mathlib.Core.Bool.{cond}
+use mathlib.Core.List.{List}
 use Rattle.model.specs.Geometry.{geometryOf}
 use Rattle.model.specs.Item.{imageBody, validImage}
 use Rattle.model.specs.Index.{entryOf, setEntry}
 use Rattle.model.specs.Scan.{indexOf}
-use Rattle.model.specs.Repair.{View, viewOf, ownStart, Walk, walkFrom, replayChain, startBody, rebuiltBody}
+use Rattle.model.specs.Repair.{View, viewOf, ownStart, walkFrom, replayChain, startBody, rebuiltBody}
 use Rattle.model.specs.Calls.{Outcome, backupOf}
-use Rattle.model.specs.declared.geometry.Geometry.{Geometry}
-use Rattle.model.specs.declared.state.Entry.{Entry}
 use Rattle.model.specs.declared.state.State.{State}
 
 abbrev pub viewIn : List ℕ → ℕ → View

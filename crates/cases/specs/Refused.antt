@@ -1,15 +1,13 @@
 -- Rows on the refusals: each call's numbers, and for each two neighbours in its table a situation in which both hold, so that the lower wins.
-use Prim.Native.Nat.{ℕ, _+_, _*_}
-use mathlib.Core.Bool.{Bool, true, false}
+use Prim.Native.Nat.{ℕ}
 use mathlib.Core.List.{List, [], _∷_, _++_, map}
-use lib.ListN.{length, replicate, take, set}
+use lib.ListN.{replicate, set}
 use Rattle.model.specs.Tests.{firstOf}
 use Rattle.model.specs.Geometry.{pageAt, recordAt, geometryOf, store}
 use Rattle.model.specs.State.{zeroState}
 use Rattle.model.specs.Calls.{Call, begin, load, change, force, write, backup, note, rowsOf, inspectOf}
 use Rattle.model.specs.History.{Power, off, on, Machine, Event, restart, perform, damage, run}
-use Rattle.model.specs.declared.change.Change.the-variants.{Format, Put, Slide}
-use Rattle.model.specs.declared.state.State.{State}
+use Rattle.model.specs.declared.change.Change.the-variants.{Format, Put}
 use Rattle.cases.specs.Rows.{Row, row}
 use Rattle.cases.specs.Build.{numbers, refused, idle, broken, memory, reach, asked}
 use Rattle.cases.specs.Histories.{slide, sevens}

@@ -1,20 +1,17 @@
 -- Rows on what is read from a volume: the restart rule clause by clause, the index, the classes, and the walk with refusal 19.
-use Prim.Native.Nat.{ℕ, _+_, _*_}
-use mathlib.Core.Bool.{Bool, true, false}
+use Prim.Native.Nat.{ℕ}
+use mathlib.Core.Bool.{true, false}
 use mathlib.Core.List.{List, [], _∷_, _++_, map}
 use lib.ListN.{length, replicate, take, set}
 use Rattle.model.specs.Checksum.{seal}
-use Rattle.model.specs.Geometry.{pageAt, slotAt, recordAt, noteAt, geometryOf, emptyVolume}
+use Rattle.model.specs.Geometry.{slotAt, recordAt, noteAt, geometryOf, emptyVolume}
 use Rattle.model.specs.Item.{validImage, encodeChange, noteBytes}
 use Rattle.model.specs.Index.{entryOf, slotUsed}
 use Rattle.model.specs.Scan.{validLog, validNotes, indexOf}
 use Rattle.model.specs.Repair.{classOf, viewOf, walkOf, isBroken}
 use Rattle.model.specs.Calls.{StoredItem, oneItem, restartOf, inspectOf}
-use Rattle.model.specs.declared.change.Change.the-variants.{Format, Put, Slide}
-use Rattle.model.specs.declared.item.LogRecord.{LogRecord}
-use Rattle.model.specs.declared.item.Note.{Note}
-use Rattle.model.specs.declared.state.Entry.{Entry}
-use Rattle.model.specs.declared.answer.Class.the-variants.{Good, Behind, Stale, Failed}
+use Rattle.model.specs.declared.change.Change.the-variants.{Format, Put}
+use Rattle.model.specs.declared.answer.Class.the-variants.{Good, Behind, Failed}
 use Rattle.cases.specs.Rows.{Row, row}
 use Rattle.cases.specs.Build.{bit, bits, numbers, classNumber, fromOwn, fromBackup, fromFormat, refused, small, image, broken, writtenNote, backupNote, storedIn, smallVolume, inspected, memory, entryNumbers}
 use Rattle.cases.specs.Table.{record1, record2, record3, whole, body1, body3, own, ownFails, at3}

@@ -1,16 +1,16 @@
 -- Rows on memory and state: when a state is well formed, clause by clause, and what each call leaves of state and memory.
-use Prim.Native.Nat.{ℕ, _+_, _*_}
+use Prim.Native.Nat.{ℕ}
 use mathlib.Core.Bool.{Bool, true, false}
 use mathlib.Core.List.{List, [], _∷_, _++_, map}
-use lib.ListN.{length, replicate, take, drop, set}
+use lib.ListN.{length, replicate, take}
 use Rattle.model.specs.Bytes.{part, allZero, sameBytes}
-use Rattle.model.specs.Geometry.{pageAt, slotAt}
+use Rattle.model.specs.Geometry.{pageAt}
 use Rattle.model.specs.Item.{encodeChange}
-use Rattle.model.specs.Index.{emptyIndex, entryOf, setEntry}
-use Rattle.model.specs.State.{validMemory, pendingAt, frameAt, emptyFrame, frameOf, wellFormed, zeroState, holder}
-use Rattle.model.specs.Calls.{Call, begin, load, change, force, write, backup, note, restartOf, forceOf, volumeAfter, Outcome}
-use Rattle.model.specs.History.{Power, off, on, Machine, Event, restart, perform, crash, damage, run}
-use Rattle.model.specs.declared.change.Change.the-variants.{Format, Put, Slide}
+use Rattle.model.specs.Index.{entryOf}
+use Rattle.model.specs.State.{validMemory, pendingAt, frameAt, emptyFrame, frameOf, wellFormed}
+use Rattle.model.specs.Calls.{begin, load, force, write, backup, note, restartOf, forceOf, volumeAfter}
+use Rattle.model.specs.History.{Power, off, on, Machine, restart, perform, crash, damage, run}
+use Rattle.model.specs.declared.change.Change.the-variants.{Format, Slide}
 use Rattle.model.specs.declared.item.Note.{Note}
 use Rattle.model.specs.declared.state.Entry.{Entry}
 use Rattle.model.specs.declared.state.Frame.{Frame}
@@ -18,7 +18,7 @@ use Rattle.model.specs.declared.state.PendingNote.{PendingNote}
 use Rattle.model.specs.declared.state.PendingNote.the-variants.{Absent, Present}
 use Rattle.model.specs.declared.state.State.{State}
 use Rattle.cases.specs.Rows.{Row, row}
-use Rattle.cases.specs.Build.{bit, bits, numbers, refused, small, image, broken, memory, reach, entryNumbers}
+use Rattle.cases.specs.Build.{bit, bits, refused, small, image, broken, memory, reach, entryNumbers}
 use Rattle.cases.specs.Histories.{slide, sevens, slidImage}
 
 -- ---- well formed

@@ -1,10 +1,9 @@
 -- K1 to K12 of document 01, as rows. K6 to K12 have K5's counts and the records 1 format page 1, 2 format page 2, 3 put page 1.
 use Prim.Native.Nat.{ℕ}
-use mathlib.Core.Bool.{Bool, true, false}
 use mathlib.Core.List.{List, [], _∷_, _++_}
 use lib.ListN.{length, replicate, take}
 use Rattle.model.specs.Checksum.{checksum}
-use Rattle.model.specs.Geometry.{pageAt, slotAt, recordAt, noteAt, emptyVolume, validVolume, lengthFor}
+use Rattle.model.specs.Geometry.{pageAt, slotAt, recordAt, noteAt, emptyVolume, validVolume}
 use Rattle.model.specs.Change.{zeroBody, fits, applyChange}
 use Rattle.model.specs.Item.{encodeChange, validImage}
 use Rattle.model.specs.Calls.{StoredItem, oneItem, makeOf, begin, change}

@@ -1,6 +1,6 @@
 -- A worked history: each event with what it answers, what the history kept, and what inspection then shows of each page. `computes` tests
 -- it; `Computed` is what the test shows.
-use Prim.Native.Nat.{ℕ, zero, suc, _+_}
+use Prim.Native.Nat.{ℕ, zero, suc}
 use Prim.Native.String.{String}
 use mathlib.Core.Path.{_≡_}
 use mathlib.Core.Bool.{Bool, true, false, cond, _&&_}
@@ -11,7 +11,7 @@ use Rattle.model.specs.Bytes.{bytesOf, part}
 use Rattle.model.specs.Geometry.{lengthFor}
 use Rattle.model.specs.Change.{kindOf, lengthOf, offsetOf, fillOf}
 use Rattle.model.specs.Item.{imageLsn, imageBody}
-use Rattle.model.specs.Calls.{makeOf, inspectOf, restartOf, refusalOf, Inspected}
+use Rattle.model.specs.Calls.{makeOf, inspectOf, restartOf, refusalOf}
 use Rattle.model.specs.AbstractLog.{Logged, AbstractLog, emptyLog, lastPlace, replay}
 use Rattle.model.specs.History.{Machine, Event, restart, perform, crash, crashIn, damage, lent, step, allowed, stepLog}
 use Rattle.model.specs.Claim.{History, Legal, fresh, reached, keptOf}
