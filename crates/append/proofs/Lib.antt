@@ -1,0 +1,5 @@
+-- Laws that belong to no one function.
+pub mod Rows
+pub mod Outcomes
+pub mod Open
+pub mod Parts

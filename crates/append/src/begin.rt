@@ -1,0 +1,79 @@
+// Begin: the first format of a blank page.
+ghost use mathlib.Core.Path.{_≡_};
+ghost use mathlib.Core.List.{List};
+ghost use Prim.Native.Nat.{ℕ, _+_, _-_, _≤_, _<_};
+ghost use lib.ListN.{length, replicate};
+ghost use Rattle.append.specs.Rows.{beginTail};
+ghost use Rattle.model.specs.Tests.{firstOf};
+ghost use Rattle.model.specs.Item.{frameImage};
+ghost use Rattle.model.specs.Refusals.{beginRows};
+ghost use Rattle.model.specs.Calls.{replyOf, beginOf};
+use crate::pending;
+use codec::part;
+use item::image;
+use model::answer::Answer;
+use model::answer::Reply;
+use model::change::Change;
+use model::geometry::Geometry;
+use model::state::State;
+use state::entries;
+use state::frames;
+use state::next;
+use state::rows;
+use volume::heading;
+
+// The rows of Begin's own, for a memory of so many frames.
+fn own(g: Geometry, count: usize, s: State, page: u32, frame: u32) -> u32
+    ensures { λ r. ⌜ r ≡ firstOf (beginTail g count s page frame) ⌝ }
+{
+    let outside = !((1 <= page) & (page <= g.pages));
+    let noframe = !((1 <= frame) & (frame as usize <= count));
+    let blank = entries::blank(s, page);
+    let dirty = frames::frame(s, frame).dirty;
+    let log = pending::full(g, s);
+    let table = rows::first(!blank, 9, rows::first(dirty, 10, log));
+    rows::first(outside, 3, rows::first(noframe, 4, table))
+}
+
+// The refusal, the lowest that holds; size is the memory's.
+fn refusal(v: &[u8], size: usize, s: State, page: u32, frame: u32) -> u32
+    ensures { λ r. ⌜ ((m : List ℕ) → length m ≡ size → r ≡ firstOf (beginRows (now (v .entry)) m s page frame)) ⌝ }
+{
+    let no = rows::refusal(v, size, s);
+    let g = heading::geometry(v);
+    let count = volume::memory::frames(size);
+    let rest = own(g, count, s, page, frame);
+    rows::first(no != 0, no, rest)
+}
+
+// Makes a frame's bytes the image of a page of which every body byte is the fill.
+fn format(x: &mut [u8], page: u32, lsn: u32, fill: u8)
+    requires { ⌜ (length (now x) ≡ 256) × (page < 65536) ⌝ }
+    ensures { λ _. ⌜ now (x .exit) ≡ frameImage page lsn (replicate 244 fill) ⌝ }
+{
+    part::fill(x, fill);
+    image::build(x, page, lsn);
+}
+
+// Begins a blank page in a frame: its format is pending, the frame is dirty, and a clean page in it makes way.
+// Ruled out: refusing 12 while the log has room; a dirty frame's page that makes way.
+pub fn begin(s: State, volume: &[u8], memory: &mut [u8], page: u32, frame: u32, fill: u8) -> Reply
+    ensures reply { λ r. ⌜ r ≡ replyOf (beginOf (now (volume .entry)) (now (memory .entry)) s page frame fill) ⌝ }
+    ensures memory { λ _. ⌜ now (memory .exit) ≡ beginOf (now (volume .entry)) (now (memory .entry)) s page frame fill .memory ⌝ }
+{
+    let no = refusal(volume, memory.len(), s, page, frame);
+    if no != 0 {
+        return Reply {
+            answer: Answer::Refused(no),
+            state: s,
+        };
+    }
+    let lsn = pending::pend(memory, s, page, Change::Format { fill }, [0; 44]);
+    let at = volume::memory::frameat(frame);
+    let end = at + 256;
+    format(&mut memory[at..end], page, lsn, fill);
+    Reply {
+        answer: Answer::Done,
+        state: next::appended(s, page, frame),
+    }
+}
