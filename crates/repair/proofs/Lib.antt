@@ -3,3 +3,4 @@ pub mod Links
 pub mod Walks
 pub mod Starts
 pub mod Replays
+pub mod Unbroken
