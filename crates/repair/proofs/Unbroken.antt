@@ -154,9 +154,19 @@ module _ (g : Geometry) (v : List ℕ) (few : g .pages ≤ 64) (ok : (i : ℕ) �
         let falls : e .prev < suc i = omega (arith, prev-is, before .high) in
         all-holds
         (sealed 60 (item g v (recordAt (suc i))) ∷ eqb (e .lsn) (suc i) ∷ eqb (e .page) p ∷ recordLayout (item g v (recordAt (suc i)))
-        ∷ ltb (e .prev) (suc i) ∷ firstIsFormat e ∷ [])
-        (sealed-is, (eq-eqb _ _ (f .lsn-is), (eq-eqb _ _ page-is, (f .layout,
-        (lt-ltb _ _ falls, (f .first, tt))))))
+        ∷ ltb (e .prev) (suc i) ∷ firstIsFormat e ∷ []) (
+          sealed-is,
+          (
+            eq-eqb _ _ (f .lsn-is),
+            (
+              eq-eqb _ _ page-is,
+              (
+                f .layout,
+                (lt-ltb _ _ falls, (f .first, tt)),
+              ),
+            ),
+          ),
+        )
 
   -- the walk from a record of page p
   unbroken-from : (own backup f i : ℕ) → i < f → i < durableCount g v → logRecord g v (suc i) .page ≡ p

@@ -34,6 +34,7 @@ pub struct Chain {
 }
 
 // The class of an image that is valid or not, with number n.
+// Ruled out: Good for every valid image; Behind for an image above the newest durable number.
 pub fn class(valid: bool, n: u32, durable: u32, written: u32) -> Class
     ensures { λ r. ⌜ r ≡ classOf valid n durable written ⌝ }
 {
@@ -116,6 +117,7 @@ fn look(v: &[u8], g: Geometry, page: u32, own: u32, backup: u32, n: u32) -> Step
 }
 
 // The chain walk, from the newest durable number down.
+// Ruled out: an older own image, or the backup, taken at a number that is not its own (both tried); a format left out of its chain.
 pub fn walk(v: &[u8], g: Geometry, e: Entry, page: u32) -> Chain
     requires { ⌜ Ready (now v) g e page ⌝ }
     ensures { λ r. ⌜ r ≡ chainOf g page (viewOf g (now (v .entry)) e page) ⌝ }
@@ -180,6 +182,7 @@ fn replay(v: &[u8], g: Geometry, e: Entry, page: u32, c: Chain, body: &mut [u8])
 }
 
 // The page's image as a frame holds it, from the start that the walk found and the records behind it.
+// Ruled out: the disk's image handed over as it is, and a replay that leaves a record out (both tried).
 pub fn rebuild(v: &[u8], g: Geometry, e: Entry, page: u32, c: Chain, dst: &mut [u8])
     requires { ⌜ Ready (now v) g e page ⌝ }
     requires { ⌜ (c ≡ chainOf g page (viewOf g (now v) e page)) × (length (now dst) ≡ 256) ⌝ }
@@ -205,6 +208,7 @@ fn start(stop: Stop) -> Start
 }
 
 // The class, the start and the count replayed.
+// Ruled out: a made-up count (tried); start Own for an image that is not valid.
 pub fn answer(v: &[u8], g: Geometry, e: Entry, page: u32, c: Chain) -> Repair
     requires { ⌜ Ready (now v) g e page ⌝ }
     requires { ⌜ c ≡ chainOf g page (viewOf g (now v) e page) ⌝ }

@@ -1,3 +1,4 @@
+-- `repair::answer` meets its contract, from what class and start ensure.
 use borrow.Author.Needs.{needs}
 use Rattle.repair.proofs.Starts.{page-fits}
 use Rattle.repair.proofs.Replays.{answered}
@@ -11,27 +12,21 @@ use Rattle.repair.proofs.class.Reads as class-reads
 use Rattle.repair.proofs.start.Reads as start-reads
 use Rattle.volume.proofs.place.page.Reads as page-reads
 
--- src/lib.rt:213:9
 page-requires : tie.Need-page-requires
 page-requires c κs = page-fits _ _ _ _ (c .before .pre .0)
 
--- src/lib.rt:214:23
 valid-requires : tie.Need-valid-requires
 valid-requires c κs = search needs
 
--- src/lib.rt:214:49
 lsn-requires : tie.Need-lsn-requires
 lsn-requires c κs = search needs
 
--- src/lib.rt:214:9
 class-requires : tie.Need-class-requires
 class-requires c κs = search needs
 
--- src/lib.rt:216:9
 start-requires : tie.Need-start-requires
 start-requires c κs = search needs
 
--- src/lib.rt:208:1
 returns : tie.Need-returns
 returns c =
     let b = c .before .before .before .before .before .before in

@@ -1,3 +1,4 @@
+-- `repair::backup_number` meets its contract, by the laws of Starts.
 use borrow.Author.Needs.{needs}
 use Rattle.repair.proofs.Starts.{slot-none, slot-fits, backup-valid, backup-none}
 use Rattle.repair.proofs.backup_number.Statement.{statement}
@@ -8,33 +9,26 @@ use Rattle.item.proofs.image.lsn.Reads as lsn-reads
 use Rattle.item.proofs.image.valid.Reads as valid-reads
 use Rattle.volume.proofs.place.slot.Reads as slot-reads
 
--- src/lib.rt:65:16
 cast-slot : tie.Need-cast-slot
 cast-slot c = search needs
 
--- src/lib.rt:67:9
 returns : tie.Need-returns
 returns c = slot-none _ _ (c .before .before .before .args .e) _ (c .if1 .taken)
 
--- src/lib.rt:69:9
 slot-requires : tie.Need-slot-requires
 slot-requires c κs = slot-fits _ _ _ _ (c .before .before .before .pre) (c .if1 .left)
 
--- src/lib.rt:70:17
 valid-requires : tie.Need-valid-requires
 valid-requires c κs = search needs
 
--- src/lib.rt:70:45
 lsn-requires : tie.Need-lsn-requires
 lsn-requires c κs = search needs
 
--- src/lib.rt:61:1
 returns-2 : tie.Need-returns-2
 returns-2 c =
     backup-valid _ _ (c .before .before .before .before .before .before .before .before .args .e) _ (c .before .before .before .before .before .if1 .left) _ (c .before .before .before .before .slot .ensures)
     _ (c .before .before .before .valid .ensures) _ (c .before .before .lsn .ensures) (c .if2 .taken)
 
--- src/lib.rt:61:1
 returns-3 : tie.Need-returns-3
 returns-3 c =
     backup-none _ _ (c .before .before .before .before .before .before .before .before .args .e) _ (c .before .before .before .before .before .if1 .left) _ (c .before .before .before .before .slot .ensures)

@@ -1,3 +1,4 @@
+-- `repair::begin` meets its contract: one law of Replays for each start. A walk stops at the backup only where a slot is noted.
 use borrow.Author.Needs.{needs}
 use mathlib.Core.Path.{_≡_, sym, ap, _∙_}
 use lib.ListN.{length}
@@ -12,88 +13,69 @@ use Rattle.repair.proofs.copy_body.Reads as copy-body-reads
 use Rattle.volume.proofs.place.page.Reads as page-reads
 use Rattle.volume.proofs.place.slot.Reads as slot-reads
 
--- src/lib.rt:160:32
 enum-told : tie.Need-enum-told
 enum-told c = search needs
 
--- src/lib.rt:160:32
 page-requires : tie.Need-page-requires
 page-requires c κs = page-fits _ _ _ _ (c .before .before .before .before .pre .0)
 
--- src/lib.rt:160:22
 copy-body-requires : tie.Need-copy-body-requires
 copy-body-requires c κs =
     let h = c .before .before .before .before .before .before .pre in
     (ap length (c .before .page .ensures) ∙ page-length _ _ _ _ (h .0), h .1 .1)
 
--- src/lib.rt:161:53
 enum-told-2 : tie.Need-enum-told-2
 enum-told-2 c = search needs
 
--- src/lib.rt:161:53
 cast-slot : tie.Need-cast-slot
 cast-slot c = search needs
 
--- src/lib.rt:161:35
 slot-requires : tie.Need-slot-requires
 slot-requires c κs =
     let h = c .before .before .before .before .before .pre in
     slot-fits _ _ _ _ (h .0) (backup-some _ _ (c .before .before .before .before .before .args .e) _ (stop-backup _ _ _ (sym (h .1 .0) ∙ c .before .enum-told2 .given .1)))
 
--- src/lib.rt:161:25
 copy-body-requires-2 : tie.Need-copy-body-requires-2
 copy-body-requires-2 c κs =
     let h = c .before .before .before .before .before .before .before .pre in
     (ap length (c .before .slot .ensures) ∙ slot-length _ _ _ _ (h .0) (backup-some _ _ (c .before .before .before .before .before .before .before .args .e) _ (stop-backup _ _ _ (sym (h .1 .0) ∙ c .before .before .before .enum-told2 .given .1))), h .1 .1)
 
--- src/lib.rt:162:36
 enum-told-3 : tie.Need-enum-told-3
 enum-told-3 c = search needs
 
--- src/lib.rt:162:25
 fill-requires : tie.Need-fill-requires
 fill-requires c κs = search needs
 
--- src/lib.rt:163:36
 enum-told-4 : tie.Need-enum-told-4
 enum-told-4 c = search needs
 
--- src/lib.rt:163:25
 fill-requires-2 : tie.Need-fill-requires-2
 fill-requires-2 c κs = search needs
 
--- src/lib.rt:154:1
 same-length : tie.Need-same-length
 same-length c = search needs
 
--- src/lib.rt:154:1
 returns : tie.Need-returns
 returns c =
     begun-own _ _ (c .before .before .before .before .before .before .before .before .before .args .e) _ _ _ _ (c .before .before .before .before .before .enum-told .given .1) (c .before .before .before .before .page .ensures) (c .before .before .copy-body .ensures)
 
--- src/lib.rt:154:1
 same-length-2 : tie.Need-same-length-2
 same-length-2 c = search needs
 
--- src/lib.rt:154:1
 returns-2 : tie.Need-returns-2
 returns-2 c =
     begun-backup _ _ (c .before .before .before .before .before .before .before .before .before .before .args .e) _ _ _ _ (c .before .before .before .before .before .before .enum-told2 .given .1) (c .before .before .before .before .slot .ensures) (c .before .before .copy-body2 .ensures)
 
--- src/lib.rt:154:1
 same-length-3 : tie.Need-same-length-3
 same-length-3 c = search needs
 
--- src/lib.rt:154:1
 returns-3 : tie.Need-returns-3
 returns-3 c =
     begun-format _ _ (c .before .before .before .before .before .before .before .before .args .e) _ _ _ _ (c .before .before .before .before .before .before .before .before .pre .1 .1) (c .before .before .fill .ensures) (c .before .before .before .before .enum-told3 .given .1)
 
--- src/lib.rt:154:1
 same-length-4 : tie.Need-same-length-4
 same-length-4 c = search needs
 
--- src/lib.rt:154:1
 returns-4 : tie.Need-returns-4
 returns-4 c =
     begun-broken _ _ (c .before .before .before .before .before .before .before .before .args .e) _ _ _ _ (c .before .before .before .before .before .before .before .before .pre .1 .1) (c .before .before .fill2 .ensures) (c .before .before .before .before .enum-told4 .given .1)

@@ -1,4 +1,4 @@
--- `class` goes by the tests of `classOf`, in their order.
+-- `repair::class` meets its contract: the tests of `classOf`, in their order.
 use borrow.Author.Tests.{eq-eqb, ne-eqb, lt-ltb, le-ltb}
 use Rattle.model.specs.Repair.{classOf}
 use Rattle.repair.proofs.class.Statement.{statement}

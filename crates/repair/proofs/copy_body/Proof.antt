@@ -1,3 +1,4 @@
+-- `repair::copy_body` meets its contract: the part that is copied is the image's body.
 use borrow.Author.Needs.{needs}
 use Rattle.model.specs.Bytes.{part}
 use Rattle.repair.proofs.copy_body.Statement.{statement}
@@ -6,27 +7,21 @@ use Rattle.repair.proofs.copy_body.Reads as reads
 use Rattle.repair.proofs.copy_body.Lts as lts
 use Rattle.codec.proofs.part.copy.Reads as copy-reads
 
--- src/lib.rt:150:22
 sub-copy : tie.Need-sub-copy
 sub-copy c = search needs
 
--- src/lib.rt:150:22
 part-copy-start : tie.Need-part-copy-start
 part-copy-start c = search needs
 
--- src/lib.rt:150:22
 part-copy-end : tie.Need-part-copy-end
 part-copy-end c = search needs
 
--- src/lib.rt:150:5
 copy-requires : tie.Need-copy-requires
 copy-requires c κs = search needs
 
--- src/lib.rt:146:1
 same-length : tie.Need-same-length
 same-length c = search needs
 
--- src/lib.rt:146:1
 returns : tie.Need-returns
 unfolding part
 returns c = c .before .before .copy .ensures

@@ -1,3 +1,4 @@
+-- `repair::look` meets its contract: one law of Links for each answer.
 use borrow.Author.Needs.{needs}
 use native.Mathlib.Omega.{arith}
 use borrow.Author.Tests.{not-true, not-false}
@@ -11,43 +12,35 @@ use Rattle.item.proofs.record.read.Reads as read-reads
 use Rattle.repair.proofs.readable.Reads as readable-reads
 use Rattle.volume.proofs.place.record.Reads as record-reads
 
--- src/lib.rt:91:9
 returns : tie.Need-returns
 returns c = step-none _ _ _ _ _ (c .if1 .taken)
 
--- src/lib.rt:94:9
 returns-2 : tie.Need-returns-2
 returns-2 c = step-own _ _ _ _ _ (c .before .if1 .left) (c .if2 .taken)
 
--- src/lib.rt:97:9
 returns-3 : tie.Need-returns-3
 returns-3 c = step-copy _ _ _ _ _ (c .before .before .if1 .left) (c .before .if2 .left) (c .if3 .taken)
 
--- src/lib.rt:99:9
 record-requires : tie.Need-record-requires
 record-requires c κs =
     let h = c .before .before .before .before .pre in
     let n = c .before .before .if1 .left in
     record-fits _ _ (h .0) (h .1) _ (positive _ n) (h .2)
 
--- src/lib.rt:100:9
 readable-requires : tie.Need-readable-requires
 readable-requires c κs =
     let h = c .before .before .before .before .before .pre in
     let n = c .before .before .before .if1 .left in
     rw (c .«record» .ensures) (omega (arith, record-length _ _ (h .0) (h .1) _ (positive _ n) (h .2)))
 
--- src/lib.rt:101:9
 returns-4 : tie.Need-returns-4
 returns-4 c =
     step-broken _ _ _ _ _ (c .before .before .before .before .before .if1 .left) (c .before .before .before .before .if2 .left)
     (c .before .before .before .if3 .left) _ (c .before .before .«record» .ensures) _ (c .before .readable .ensures) (not-true _ (c .if4 .taken))
 
--- src/lib.rt:103:9
 read-requires : tie.Need-read-requires
 read-requires c κs = search needs
 
--- src/lib.rt:86:1
 returns-5 : tie.Need-returns-5
 returns-5 c =
     step-read _ _ _ _ _ (c .before .before .before .before .before .before .before .if1 .left) (c .before .before .before .before .before .before .if2 .left)

@@ -1,3 +1,4 @@
+-- `repair::own_number` meets its contract, by the laws of Starts.
 use borrow.Author.Needs.{needs}
 use Rattle.repair.proofs.Starts.{page-fits, own-valid, own-none}
 use Rattle.repair.proofs.own_number.Statement.{statement}
@@ -8,23 +9,18 @@ use Rattle.item.proofs.image.lsn.Reads as lsn-reads
 use Rattle.item.proofs.image.valid.Reads as valid-reads
 use Rattle.volume.proofs.place.page.Reads as page-reads
 
--- src/lib.rt:56:9
 page-requires : tie.Need-page-requires
 page-requires c κs = page-fits _ _ _ _ (c .before .pre)
 
--- src/lib.rt:57:8
 valid-requires : tie.Need-valid-requires
 valid-requires c κs = search needs
 
--- src/lib.rt:57:35
 lsn-requires : tie.Need-lsn-requires
 lsn-requires c κs = search needs
 
--- src/lib.rt:52:1
 returns : tie.Need-returns
 returns c = own-valid _ _ (c .before .before .before .before .before .args .e) _ _ (c .before .before .before .page .ensures) _ (c .before .before .valid .ensures) _ (c .lsn .ensures) (c .before .if1 .taken)
 
--- src/lib.rt:52:1
 returns-2 : tie.Need-returns-2
 returns-2 c = own-none _ _ (c .before .before .before .before .args .e) _ _ (c .before .before .page .ensures) _ (c .before .valid .ensures) (c .if1 .left)
 

@@ -1,3 +1,4 @@
+-- `repair::readable` meets its contract: its tests are those of `chainRecord`, on the fields that were read.
 use borrow.Author.Needs.{needs}
 use Rattle.model.specs.Repair.{chainRecord}
 use Rattle.repair.proofs.readable.Statement.{statement}
@@ -8,23 +9,18 @@ use Rattle.codec.proofs.checksum.holds.Reads as holds-reads
 use Rattle.item.proofs.record.layout.Reads as layout-reads
 use Rattle.item.proofs.record.read.Reads as read-reads
 
--- src/lib.rt:79:9
 read-requires : tie.Need-read-requires
 read-requires c κs = search needs
 
--- src/lib.rt:80:17
 cast-owner : tie.Need-cast-owner
 cast-owner c = search needs
 
--- src/lib.rt:82:5
 holds-requires : tie.Need-holds-requires
 holds-requires c κs = search needs
 
--- src/lib.rt:82:66
 layout-requires : tie.Need-layout-requires
 layout-requires c κs = search needs
 
--- src/lib.rt:75:1
 returns : tie.Need-returns
 unfolding chainRecord
 returns c =

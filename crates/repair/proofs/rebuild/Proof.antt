@@ -1,3 +1,4 @@
+-- `repair::rebuild` meets its contract: the start's body, the replay on it, and the image around it.
 use borrow.Author.Needs.{needs}
 use mathlib.Core.Path.{_≡_, _∙_}
 use native.Mathlib.Omega.{arith}
@@ -12,44 +13,36 @@ use Rattle.item.proofs.image.build.Reads as build-reads
 use Rattle.repair.proofs.begin.Reads as begin-reads
 use Rattle.repair.proofs.replay.Reads as replay-reads
 
--- src/lib.rt:189:16
 sub-body : tie.Need-sub-body
 sub-body c = search needs
 
--- src/lib.rt:189:16
 part-body-start : tie.Need-part-body-start
 part-body-start c = search needs
 
--- src/lib.rt:189:16
 part-body-end : tie.Need-part-body-end
 part-body-end c = search needs
 
--- src/lib.rt:190:5
 begin-requires : tie.Need-begin-requires
 begin-requires c κs =
     let b = c .before .before .before .before in
     let h = b .pre in
     (h .0, (stop-is _ _ _ _ (h .1 .0), body-length (now (b .args .dst)) (h .1 .1)))
 
--- src/lib.rt:191:5
 replay-requires : tie.Need-replay-requires
 replay-requires c κs =
     let b = c .before .before .before .before .before .before .before in
     let h = b .pre in
     (h .0, (h .1 .0, c .before .before .begin .kept .1 .1 .1 .1 .1 .0 ∙ body-length (now (b .args .dst)) (h .1 .1)))
 
--- src/lib.rt:192:5
 build-requires : tie.Need-build-requires
 build-requires c κs =
     let b = c .before .before .before .before .before .before .before .before .before .before .before in
     let h = b .pre in
     (around-length (now (b .args .dst)) (c .before .before .before .replay .last .1 .1 .1 .1 .1 .0) (h .1 .1) (c .before .before .before .replay .kept .1 .1 .1 .1 .1 .0 ∙ c .before .before .before .before .before .before .begin .kept .1 .1 .1 .1 .1 .0 ∙ body-length (now (b .args .dst)) (h .1 .1)), omega (arith, h .0 .high, ready-sized _ _ _ _ (h .0) .pages))
 
--- src/lib.rt:183:1
 same-length : tie.Need-same-length
 same-length c = search needs
 
--- src/lib.rt:183:1
 returns : tie.Need-returns
 returns c =
     let b = c .before .before .before .before .before .before .before .before .before .before .before .before .before .before in

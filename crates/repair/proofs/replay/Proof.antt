@@ -1,3 +1,4 @@
+-- `repair::replay` meets its contract. The loop keeps `Replaying`: the records from place i on are replayed.
 use mathlib.Core.Path.{_≡_, sym, _∙_}
 use native.Mathlib.Omega.{arith}
 use borrow.Author.Needs.{needs}
@@ -17,58 +18,47 @@ Inv-loop v g page body₀ lsns i₀ body i = Replaying (λ n. item g v (recordAt
 abbrev μ-loop : tie.MeasureT-loop
 μ-loop v g page body₀ lsns i₀ body i = i
 
--- src/lib.rt:173:17
 cast-i : tie.Need-cast-i Inv-loop μ-loop
 cast-i c = search needs
 
--- src/lib.rt:174:5
 loop-holds : tie.Need-loop-holds Inv-loop μ-loop
 loop-holds c = let h = c .before .before .before .before .pre in replaying-start _ _ _ _ (count-held _ _ _ _ (h .1 .0)) (search needs) (h .1 .1)
 
--- src/lib.rt:175:9
 sub-i : tie.Need-sub-i Inv-loop μ-loop
 sub-i c = search needs
 
--- src/lib.rt:176:17
 mul-n : tie.Need-mul-n Inv-loop μ-loop
-mul-n c = omega (arith, in-array _ _ _ _ _ _ (c .loop-test .taken) (c .before .loop .inv))
+mul-n c = omega (arith, in-array _ _ _ _ _ (c .before .loop .i) (omega arith) (c .before .loop .inv))
 
--- src/lib.rt:176:17
 array-read-n : tie.Need-array-read-n Inv-loop μ-loop
-array-read-n c = in-array _ _ _ _ _ _ (c .loop-test .taken) (c .before .loop .inv)
+array-read-n c = in-array _ _ _ _ _ (c .before .loop .i) (omega arith) (c .before .loop .inv)
 
--- src/lib.rt:177:24
 record-requires : tie.Need-record-requires Inv-loop μ-loop
 record-requires c κs =
     let h = c .before .before .before .before .before .before .pre in
-    let k = replayed _ _ _ _ _ _ (c .loop-test .taken) (c .before .loop .inv) _ _ (front-linked _ _ _ _ (h .1 .0)) in
+    let k = replayed _ _ _ _ _ (c .before .loop .i) (omega arith) (c .before .loop .inv) _ _ (front-linked _ _ _ _ (h .1 .0)) in
     record-fits _ _ (h .0 .valid) (h .0 .geometry) _ (k .low) (omega (arith, k .high, h .0 .durable))
 
--- src/lib.rt:177:9
 replay-requires : tie.Need-replay-requires Inv-loop μ-loop
 replay-requires c κs =
     let h = c .before .before .before .before .before .before .before .before .pre in
     let l = c .before .before .before .loop in
-    let k = replayed _ _ _ _ _ _ (c .before .before .loop-test .taken) (l .inv) _ _ (front-linked _ _ _ _ (h .1 .0)) in
+    let k = replayed _ _ _ _ _ (l .i) (omega (arith, c .before .before .loop-test .taken)) (l .inv) _ _ (front-linked _ _ _ _ (h .1 .0)) in
     rw (c .before .«record» .ensures)
     (record-length _ _ (h .0 .valid) (h .0 .geometry) _ (k .low) (omega (arith, k .high, h .0 .durable)), k .layout, l .inv .size)
 
--- src/lib.rt:174:5
 loop-less : tie.Need-loop-less Inv-loop μ-loop
 loop-less c = let t = c .before .before .before .before .before .loop-test .taken in omega (arith, t)
 
--- src/lib.rt:174:5
 loop-again : tie.Need-loop-again Inv-loop μ-loop
 loop-again c =
     let b = c .before .before .before .before .before in
-    replaying-on _ _ _ _ _ _ (b .loop-test .taken) (b .before .loop .inv) _ _ (c .before .before .before .before .«record» .ensures)
+    replaying-on _ _ _ _ _ (b .before .loop .i) (omega (arith, b .loop-test .taken)) (b .before .loop .inv) _ _ (c .before .before .before .before .«record» .ensures)
     (c .before .before .replay .ensures) (c .before .before .replay .kept .1 .0)
 
--- src/lib.rt:167:1
 same-length : tie.Need-same-length Inv-loop μ-loop
 same-length c = let h = c .before .before .before .before .before .before .pre in c .before .loop .inv .size ∙ sym (h .1 .1)
 
--- src/lib.rt:167:1
 returns : tie.Need-returns Inv-loop μ-loop
 returns c =
     let h = c .before .before .before .before .before .before .pre in

@@ -1,3 +1,4 @@
+-- `repair::walk` meets its contract. The loop keeps `Down`: the numbers passed and the walk of the rest are the whole walk.
 use Prim.Native.Nat.{_<_}
 use mathlib.Core.Path.{_≡_, refl, sym, ap, _∙_}
 use native.Mathlib.Omega.{arith}
@@ -35,57 +36,44 @@ on c = sym (c .before .before .before .look .ensures) ∙ c .before .prev .given
 room : (c : tie.After-known-told2 Inv-loop μ-loop) → c .before .before .before .before .loop .count < 1024
 room c = down-room _ _ _ _ _ _ _ _ (c .before .before .before .before .loop .inv) _ _ (on c)
 
--- src/lib.rt:115:9
 own-number-requires : tie.Need-own-number-requires Inv-loop μ-loop
 own-number-requires c κs = c .before .pre
 
--- src/lib.rt:116:9
 backup-number-requires : tie.Need-backup-number-requires Inv-loop μ-loop
 backup-number-requires c κs = c .before .before .pre
 
--- src/lib.rt:120:9
 loop-holds : tie.Need-loop-holds Inv-loop μ-loop
 loop-holds c = let h = c .before .before .before .pre in down-start _ _ _ _ _ _ (omega (arith, h .durable, ready-sized _ _ _ _ h .records)) refl
 
--- src/lib.rt:121:15
 look-requires : tie.Need-look-requires Inv-loop μ-loop
 look-requires c κs =
     let h = c .before .before .before .before .pre in
     (h .valid, h .geometry, omega (arith, h .durable, c .loop .inv .room))
 
--- src/lib.rt:122:24
 enum-known-s : tie.Need-enum-known-s Inv-loop μ-loop
 enum-known-s c = search needs
 
--- src/lib.rt:123:26
 enum-known-prev : tie.Need-enum-known-prev Inv-loop μ-loop
 enum-known-prev c = search needs
 
--- src/lib.rt:124:25
 cast-i : tie.Need-cast-i Inv-loop μ-loop
 cast-i c = search needs
 
--- src/lib.rt:125:17
 mul-lsns : tie.Need-mul-lsns Inv-loop μ-loop
 mul-lsns c = omega (arith, room c)
 
--- src/lib.rt:125:17
 array-write-lsns : tie.Need-array-write-lsns Inv-loop μ-loop
 array-write-lsns c = room c
 
--- src/lib.rt:126:17
 add-count : tie.Need-add-count Inv-loop μ-loop
 add-count c = omega (arith, room c)
 
--- src/lib.rt:120:9
 loop-less : tie.Need-loop-less Inv-loop μ-loop
 loop-less c = step-falls _ _ _ _ _ _ _ (on (c .before))
 
--- src/lib.rt:120:9
 loop-again : tie.Need-loop-again Inv-loop μ-loop
 loop-again c = down-on _ _ _ _ _ _ _ _ (c .before .before .before .before .before .loop .inv) _ _ (on (c .before)) (c .if1 .left)
 
--- src/lib.rt:111:1
 returns : tie.Need-returns Inv-loop μ-loop
 unfolding chainOf walkOf
 returns c =
@@ -93,7 +81,6 @@ returns c =
     rw (← b .backup-number .ensures, ← b .before .own-number .ensures)
     (down-halt _ _ _ _ _ _ _ _ (c .before .before .before .before .loop .inv) _ (sym (c .before .before .before .look .ensures) ∙ c .before .s .given .1))
 
--- src/lib.rt:111:1
 returns-2 : tie.Need-returns-2 Inv-loop μ-loop
 unfolding chainOf walkOf
 returns-2 c =
