@@ -2,16 +2,15 @@
 -- are in the laws' WellFormed.
 use Prim.Native.Nat.{ℕ, zero, suc, _+_, _-_, _≤_, _<_}
 use mathlib.Core.Path.{_≡_, refl, ap, sym, _∙_}
-use mathlib.Core.Logic.{_⊎_, inl, inr, ⊎-elim}
 use mathlib.Core.List.{List, [], _∷_}
-use mathlib.Core.Bool.{Bool, true, false, _&&_, _||_, not}
+use mathlib.Core.Bool.{Bool, true, false, _||_, not}
 use lib.Dec.{eqb, leb, ltb}
-use lib.ListN.{length, getD}
+use lib.ListN.{getD}
 use native.Mathlib.Omega.{arith}
-use borrow.Author.Tests.{leb-true, ltb-true, ltb-false, eqb-true, eqb-false, le-leb, lt-ltb, le-ltb, eq-eqb, ne-eqb, not-false}
-use Rattle.laws.proofs.Tests.{all-at, all-holds, every-at, every-all, or-cases, or-left, or-right, not-true, byCases, when-true, when-false, within-bounds, true-not-false}
+use borrow.Author.Tests.{leb-true, ltb-false, eqb-true, eqb-false, le-leb, lt-ltb, le-ltb, eq-eqb, ne-eqb, not-false}
+use Rattle.laws.proofs.Tests.{all-at, all-holds, every-at, every-all, not-true, when-true, when-false, within-bounds, true-not-false}
 use Rattle.laws.proofs.WellFormed.{Formed}
-use Rattle.model.specs.Tests.{all, every, within}
+use Rattle.model.specs.Tests.{every, within}
 use Rattle.model.specs.Item.{noteLayout, isWritten}
 use Rattle.model.specs.Index.{emptyEntry, entryRow, entryOf}
 use Rattle.model.specs.State.{frameRow, lastNumber, held, blank, pendingNoteFits, firstHolder, frameFits, entryFits, entryZero, pageFits, wellFormed}

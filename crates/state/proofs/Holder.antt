@@ -1,19 +1,19 @@
 -- The frame that holds a page: its bound, that no frame holds a page that is not held, and that in a well-formed state one frame does.
 use Prim.Native.Nat.{ℕ, zero, suc, _+_, _-_, _≤_, _<_}
-use mathlib.Core.Path.{_≡_, refl, ap, sym, _∙_}
+use mathlib.Core.Path.{_≡_, sym, _∙_}
 use mathlib.Core.List.{List, [], _∷_}
-use mathlib.Core.Bool.{Bool, true, false}
+use mathlib.Core.Bool.{false}
 use lib.Dec.{eqb, ltb}
 use lib.ListN.{length, getD}
 use native.Mathlib.Omega.{arith}
-use borrow.Author.Tests.{ltb-true, ltb-false, eqb-true, eqb-false, eq-eqb}
-use Rattle.laws.proofs.Tests.{byCases, when-true, when-false, true-not-false}
-use Rattle.laws.proofs.WellFormed.{Formed, Holds, holder-finds, holder-low, holder-high, holder-page}
-use Rattle.model.specs.State.{emptyFrame, frameRow, frameOf, holderFrom, holder, held}
+use borrow.Author.Tests.{ltb-true, ltb-false, eq-eqb}
+use Rattle.laws.proofs.Tests.{byCases}
+use Rattle.laws.proofs.WellFormed.{Formed, holder-finds}
+use Rattle.model.specs.State.{emptyFrame, frameRow, holderFrom, holder, held}
 use Rattle.model.specs.declared.geometry.Geometry.{Geometry}
 use Rattle.model.specs.declared.state.Frame.{Frame}
 use Rattle.model.specs.declared.state.State.{State}
-use Rattle.state.proofs.Facts.{FormedFrame, formed-frame}
+use Rattle.state.proofs.Facts.{formed-frame}
 
 pub holder-most : (s : State) (p : ℕ) → length (s .frames) ≡ 16 → holder s p ≤ 16
 holder-most s p rows =

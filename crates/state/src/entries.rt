@@ -1,6 +1,6 @@
 // The page recovery index of a state.
 ghost use mathlib.Core.Path.{_≡_};
-ghost use Prim.Native.Nat.{_-_, _≤_, _<_};
+ghost use Prim.Native.Nat.{_-_, _<_};
 ghost use Rattle.model.specs.Index.{entryOf};
 ghost use Rattle.model.specs.State.{blank};
 use model::state::State;

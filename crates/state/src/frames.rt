@@ -1,6 +1,6 @@
 // The frame table of a state.
 ghost use mathlib.Core.Path.{_≡_};
-ghost use Prim.Native.Nat.{_-_, _≤_, _<_};
+ghost use Prim.Native.Nat.{_-_, _<_};
 ghost use Rattle.model.specs.State.{frameOf, holder, held};
 use model::state::State;
 

@@ -1,6 +1,5 @@
 -- `state::wellformed::pendingfits` meets its contract.
 use Rattle.model.specs.State.{pendingNoteFits}
-use mathlib.Core.Path.{_≡_, refl, sym, _∙_}
 use borrow.Author.Needs.{needs}
 use Rattle.state.proofs.wellformed.pendingfits.Statement.{statement}
 use Rattle.state.proofs.wellformed.pendingfits.Tie as tie
