@@ -5,9 +5,8 @@ use mathlib.Core.Bool.{Bool, true, false, cond, _&&_}
 use mathlib.Core.List.{List, [], _∷_}
 use Prim.Native.Nat.{ℕ, zero, suc, _+_, _-_, _*_, _≤_, _<_}
 use native.Mathlib.Nat.{add-zero, zero-add, mul-zero, mul-add, mul-one, mul-sub, mul-le-mul-left, sub-zero}
-use native.Mathlib.Numerals.{add-one}
 use native.Mathlib.Omega.{arith}
-use lib.ListN.{length, take, drop}
+use lib.ListN.{length, take, drop, set}
 use Rattle.laws.proofs.Tests.{every-none, every-more, every-fails, when-true, when-false}
 use Rattle.laws.proofs.Parts.{part-lent}
 use Rattle.laws.proofs.Checksums.{run-none, run-stops}
@@ -25,65 +24,110 @@ pub guarded : (a b c t u : Bool) → (c ≡ true → t ≡ u) → (a && (b && (c
 guarded a b true t u h = rw (h refl)
 guarded a b false t u h = refl
 
--- `most` items of `size` bytes and a checksum from place base on: the test of item i + 1, the index after i items
-module _ (size most : ℕ) (v : List ℕ) (base : ℕ) (fit : ℕ → Bool) (rows : ℕ → List Entry) where
-  -- i items are passed
-  pub record Passed (i : ℕ) (index : List Entry) : Type 0 where
-    pub below : i ≤ most
-    pub held : every i fit ≡ true
-    pub left : i + sealedRun size (most - i) v (base + (size + 4) * i) ≡ sealedRun size most v base
-    pub same : index ≡ rows i
+-- A section of the volume v: `most` items of `size` bytes and a checksum from place base on, with the bytes and the test of
+-- item i + 1 and the index after i items.
+pub record Items (v : List ℕ) : Type 0 where
+  pub size : ℕ
+  pub most : ℕ
+  pub base : ℕ
+  pub bytes : ℕ → List ℕ
+  pub fit : ℕ → Bool
+  pub rows : ℕ → List Entry
 
-  pub passed-none : (index : List Entry) → index ≡ rows 0 → Passed 0 index
+-- the items are parts at equal distances
+abbrev pub Spaced : (v : List ℕ) → Items v → Type 0
+Spaced v s = (i : ℕ) → part v (s .base + (s .size + 4) * i) (s .size + 4) ≡ s .bytes i
+
+module _ (v : List ℕ) (s : Items v) where
+  -- how many items have right checksums
+  abbrev pub run : ℕ
+  run = sealedRun (s .size) (s .most) v (s .base)
+
+  -- the section as a scan finds it
+  abbrev pub whole : Section
+  whole = sectionOf (every run (s .fit) && restZero (s .size + 4) (s .most) v (s .base) run) run (s .rows run)
+
+  -- i items are passed and gave the index
+  pub record Passed (i : ℕ) (index : List Entry) : Type 0 where
+    pub below : i ≤ s .most
+    pub held : every i (s .fit) ≡ true
+    pub left : i + sealedRun (s .size) (s .most - i) v (s .base + (s .size + 4) * i) ≡ run
+    pub same : index ≡ s .rows i
+
+  -- item i + 1, judged after items that gave the index: its test, and the entry that it leaves in a row
+  pub record Judged (i : ℕ) (index : List Entry) (row : ℕ) (ok : Bool) (after : Entry) : Type 0 where
+    pub test : ok ≡ s .fit i
+    pub entered : ok ≡ true → set index row after ≡ s .rows (i + 1)
+
+  pub passed-none : (index : List Entry) → index ≡ s .rows 0 → Passed 0 index
   passed-none index e =
-      record { below = omega arith; held = every-none fit; left = rw (sub-zero, mul-zero, add-zero base, zero-add); same = e }
+      record {
+        below = omega arith;
+        held = every-none (s .fit);
+        left = rw (sub-zero, mul-zero, add-zero (s .base), zero-add);
+        same = e;
+      }
 
   module _ (i : ℕ) (index : List Entry) (p : Passed i index) where
-    -- the next item has its checksum
-    module _ (h : i < most) (s : sealed size (part v (base + (size + 4) * i) (size + 4)) ≡ true) where
-      next : sealedRun size (most - i) v (base + (size + 4) * i) ≡ suc (sealedRun size (most - (i + 1)) v (base + (size + 4) * (i + 1)))
-      next =
-          let q : (size + 4) * (i + 1) ≡ (size + 4) * i + (size + 4) = rw (mul-add, mul-one) in
-          let e : base + (size + 4) * i + (size + 4) ≡ base + (size + 4) * (i + 1) = omega arith in
-          run-on size most i v (base + (size + 4) * i) h s ∙ ap (λ (k : ℕ). suc (sealedRun size (most - (i + 1)) v k)) e
-
-      pub passed-more : fit i ≡ true → (after : List Entry) → after ≡ rows (i + 1) → Passed (i + 1) after
-      passed-more f after e =
-          record { below = omega arith; held = every-more fit i (p .held) f; left = omega (arith, next, p .left); same = e }
-
-      pub run-longer : i < sealedRun size most v base
-      run-longer = omega (arith, next, p .left)
-
-    -- it has not
-    pub run-here : i < most → sealed size (part v (base + (size + 4) * i) (size + 4)) ≡ false → sealedRun size most v base ≡ i
-    run-here h s = omega (arith, run-stops size v (most - i) (base + (size + 4) * i) s, p .left)
-
-    -- there is none
-    pub run-full : most ≤ i → sealedRun size most v base ≡ i
+    -- there is no next item
+    pub run-full : s .most ≤ i → run ≡ i
     run-full h =
-        let z : most - i ≡ 0 = omega arith in
-        let r : sealedRun size (most - i) v (base + (size + 4) * i) ≡ 0 = rw z (run-none size v (base + (size + 4) * i)) in
+        let z : s .most - i ≡ 0 = omega arith in
+        let at : ℕ = s .base + (s .size + 4) * i in
+        let r : sealedRun (s .size) (s .most - i) v at ≡ 0 = rw z (run-none (s .size) v at) in
         omega (arith, p .left)
 
--- ---- the whole section, whose run of n items is known
+    module _ (spaced : Spaced v s) (h : i < s .most) where
+      at : ℕ
+      at = s .base + (s .size + 4) * i
 
-module _ (fit rest : ℕ → Bool) (rows : ℕ → List Entry) (n : ℕ) where
-  abbrev pub whole : Section
-  whole = sectionOf (every n fit && rest n) n (rows n)
+      -- the next item's checksum is wrong
+      pub run-here : sealed (s .size) (s .bytes i) ≡ false → run ≡ i
+      unfolding at
+      run-here e = omega (arith, run-stops (s .size) v (s .most - i) at (ap (sealed (s .size)) (spaced i) ∙ e), p .left)
 
-  -- an item of the run does not fit
-  pub whole-unfit : (i : ℕ) → i < n → fit i ≡ false → brokenSection ≡ whole
-  whole-unfit i h f = sym (when-false _ _ (ap (λ (t : Bool). t && rest n) (every-fails fit n i h f)))
+      -- it is right
+      module _ (e : sealed (s .size) (s .bytes i) ≡ true) where
+        next : sealedRun (s .size) (s .most - i) v (s .base + (s .size + 4) * i)
+            ≡ suc (sealedRun (s .size) (s .most - (i + 1)) v (s .base + (s .size + 4) * (i + 1)))
+        unfolding at
+        next =
+            let q : (s .size + 4) * (i + 1) ≡ (s .size + 4) * i + (s .size + 4) = rw (mul-add, mul-one) in
+            let d : at + (s .size + 4) ≡ s .base + (s .size + 4) * (i + 1) = omega arith in
+            run-on (s .size) (s .most) i v at h (ap (sealed (s .size)) (spaced i) ∙ e)
+            ∙ ap (λ (k : ℕ). suc (sealedRun (s .size) (s .most - (i + 1)) v k)) d
 
-  module _ (i : ℕ) (index : List Entry) (held : every i fit ≡ true) (same : index ≡ rows i) (e : n ≡ i) where
-    both : (every n fit && rest n) ≡ rest i
-    both = rw (e, held)
+        module _ (row : ℕ) (ok : Bool) (after : Entry) (j : Judged i index row ok after) where
+          pub passed-more : ok ≡ true → (x : Entry) → x ≡ after → Passed (i + 1) (set index row x)
+          passed-more t x ex =
+              record {
+                below = omega arith;
+                held = every-more (s .fit) i (p .held) (sym (j .test) ∙ t);
+                left = omega (arith, next, p .left);
+                same = ap (set index row) ex ∙ j .entered t;
+              }
 
-    pub whole-rest : rest i ≡ false → brokenSection ≡ whole
-    whole-rest r = sym (when-false _ _ (both ∙ r))
+          pub whole-unfit : ok ≡ false → brokenSection ≡ whole
+          whole-unfit f =
+              let l : i < run = omega (arith, next, p .left) in
+              sym
+              (when-false _ _
+              (ap (λ (t : Bool). t && restZero (s .size + 4) (s .most) v (s .base) run) (every-fails (s .fit) run i l (sym (j .test) ∙ f))))
 
-    pub whole-kept : rest i ≡ true → _≡_ {A = Section} (record { valid = true; count = i; index = index }) whole
-    whole-kept r = rw (same, ← e) (sym (when-true _ _ (both ∙ r)))
+    -- the run ends here
+    module _ (e : run ≡ i) where
+      keeps : (every run (s .fit) && restZero (s .size + 4) (s .most) v (s .base) run) ≡ restZero (s .size + 4) (s .most) v (s .base) i
+      keeps = rw (e, p .held)
+
+      pub whole-rest : restZero (s .size + 4) (s .most) v (s .base) i ≡ false → brokenSection ≡ whole
+      whole-rest r = sym (when-false _ _ (keeps ∙ r))
+
+      pub whole-kept : restZero (s .size + 4) (s .most) v (s .base) i ≡ true
+          → _≡_ {A = Section} (record { valid = true; count = i; index = index }) whole
+      whole-kept r =
+          ap (λ (l : List Entry). record { valid = true; count = i; index = l }) (p .same)
+          ∙ ap (λ (k : ℕ). record { valid = true; count = k; index = s .rows k }) (sym e)
+          ∙ sym (when-true _ _ (keeps ∙ r))
 
 -- ---- the slots past the run
 
@@ -91,7 +135,8 @@ module _ (size count n : ℕ) (h : n < count) where
   pub rest-fits : size * (n + 1) ≤ size * count
   rest-fits = mul-le-mul-left size (omega arith)
 
-  pub rest-part : (v : List ℕ) (at : ℕ) → allZero (take (at + size * count - (at + size * (n + 1))) (drop (at + size * (n + 1)) v)) ≡ restZero size count v at n
+  pub rest-part : (v : List ℕ) (at : ℕ)
+      → allZero (take (at + size * count - (at + size * (n + 1))) (drop (at + size * (n + 1)) v)) ≡ restZero size count v at n
   unfolding restZero
   rest-part v at =
       let e : size * (count - (n + 1)) ≡ size * count - size * (n + 1) = mul-sub size count (n + 1) in

@@ -24,12 +24,16 @@ pub record Sized (g : Geometry) (v : List ℕ) : Type 0 where
   pub notes : g .notes ≤ 1024
   pub size : length v ≡ lengthFor (g .pages) (g .slots) (g .records) (g .notes)
 
--- ---- the tests of an item, of what was read for them
+-- ---- an item's test and its entry, of what was read for them
 
 -- recordFits, of a record's fields and its page's last earlier record
 abbrev pub recordFollows : Bool → LogRecord → ℕ → ℕ → ℕ → Bool
 recordFollows layout e pages last n =
     all (layout ∷ eqb (e .lsn) n ∷ within pages (e .page) ∷ eqb (e .prev) last ∷ firstIsFormat e ∷ [])
+
+-- a page's entry with its record n, as enterRecord leaves it
+abbrev pub loggedEntry : Entry → ℕ → Entry
+loggedEntry e n = record { last = n; durable = n; written = e .written; slot = e .slot; backup = e .backup }
 
 -- noteFollows, of its page's entry and whether its slot is in the index
 abbrev pub noteAfter : Entry → Note → ℕ → Bool → Bool

@@ -1,6 +1,6 @@
 // The log: its records judged one by one and entered in the index.
 ghost use mathlib.Core.Path.{_≡_};
-ghost use Rattle.index.specs.Section.{Sized, recordFollows, logSection};
+ghost use Rattle.index.specs.Section.{Sized, loggedEntry, recordFollows, logSection};
 use crate::rows;
 use crate::section;
 use crate::section::Section;
@@ -22,7 +22,7 @@ fn fits(layout: bool, e: LogRecord, pages: u32, last: u32, n: u32) -> bool
 
 // A page's entry with its record n.
 fn logged(e: Entry, n: u32) -> Entry
-    ensures { λ r. ⌜ r ≡ record { last = n; durable = n; written = e .written; slot = e .slot; backup = e .backup } ⌝ }
+    ensures { λ r. ⌜ r ≡ loggedEntry e n ⌝ }
 {
     Entry {
         last: n,

@@ -1,16 +1,22 @@
 use mathlib.Core.Path.{_≡_, refl, sym, ap, _∙_}
+use mathlib.Core.Bool.{true}
+use mathlib.Core.List.{List}
 use mathlib.Core.Logic.{⊎-elim}
 use Prim.Native.Nat.{ℕ, suc, _+_, _-_, _≤_, _<_}
 use native.Mathlib.Omega.{arith}
 use borrow.Author.Needs.{needs}
 use borrow.Author.Tests.{not-true, not-false}
 use denote.Ref.{now}
-use lib.ListN.{length}
-use Rattle.model.specs.Geometry.{recordAt, start}
-use Rattle.model.specs.Index.{emptyIndex}
-use Rattle.model.specs.Scan.{restZero, durableCount}
+use lib.ListN.{length, getD}
+use Rattle.model.specs.Checksum.{sealed}
+use Rattle.model.specs.Geometry.{recordAt, start, item}
+use Rattle.model.specs.Index.{emptyEntry, emptyIndex}
+use Rattle.model.specs.Scan.{restZero}
+use Rattle.model.specs.declared.geometry.Geometry.{Geometry}
+use Rattle.index.specs.Section.{loggedEntry}
 use Rattle.index.proofs.Entries.{row-below}
-use Rattle.index.proofs.LogPass.{LogPassed, record-length, log-none, log-here, log-full, log-unfit, log-more, log-rest, log-kept}
+use Rattle.index.proofs.Pass.{Passed, Judged, run, run-full, run-here, passed-more, whole-unfit, whole-rest, whole-kept}
+use Rattle.index.proofs.LogPass.{logItems, log-spaced, log-whole, log-none, log-judged, record-length}
 use Rattle.index.proofs.log.scan.Statement.{statement}
 use Rattle.index.proofs.log.scan.Tie as tie
 use Rattle.index.proofs.log.scan.Reads as reads
@@ -27,7 +33,7 @@ use Rattle.volume.proofs.place.record.Reads as record-reads
 use Rattle.volume.proofs.place.recordat.Reads as recordat-reads
 
 abbrev Inv-loop : tie.InvT-loop
-Inv-loop v g records pages index₀ n₀ index n = LogPassed g v n index
+Inv-loop v g records pages index₀ n₀ index n = Passed v (logItems g v) n index
 
 abbrev μ-loop : tie.MeasureT-loop
 μ-loop v g records pages index₀ n₀ index n = g .records - n
@@ -36,17 +42,44 @@ abbrev μ-loop : tie.MeasureT-loop
 row-at : (c : tie.After-row Inv-loop μ-loop) → c .row .result < 64
 row-at c = omega (arith, c .row .ensures, row-below (c .before .before .read .result .page))
 
--- after the loop, its count is that of the durable records
-ended : (c : tie.Left-loop Inv-loop μ-loop) → durableCount (c .before .before .before .args .g) (now (c .before .before .before .args .v)) ≡ c .before .loop .n
+-- the loop's head, with the volume and its geometry
+abbrev head : tie.After-fits2 Inv-loop μ-loop → tie.At-loop Inv-loop μ-loop
+head c = c .before .before .before .before .before .before .before .before .before .before
+
+abbrev vol : tie.At-loop Inv-loop μ-loop → List ℕ
+vol a = now (a .before .before .args .v)
+
+abbrev geo : tie.At-loop Inv-loop μ-loop → Geometry
+geo a = a .before .before .args .g
+
+-- the record has its checksum
+right : (c : tie.After-fits2 Inv-loop μ-loop) → sealed 60 (item (geo (head c)) (vol (head c)) (recordAt (head c .loop .n + 1))) ≡ true
+right c =
+    ap (sealed 60) (sym (c .before .before .before .before .before .before .before .before .«record» .ensures)) ∙ sym (c .before .before .before .before .before .before .before .holds .ensures)
+    ∙ not-false _ (c .before .before .before .before .before .before .if1 .left)
+
+-- and is judged
+judged : (c : tie.After-fits2 Inv-loop μ-loop)
+    → Judged (vol (head c)) (logItems (geo (head c)) (vol (head c))) (head c .loop .n) (head c .loop .index) (c .before .before .before .row .result) (c .fits2 .result)
+    (loggedEntry (getD (head c .loop .index) (c .before .before .before .row .result) emptyEntry) (head c .loop .n + 1))
+judged c =
+    log-judged _ _ (head c .before .before .pre .pages) _ _ (head c .loop .inv .same) _ (c .before .before .before .before .before .before .before .before .«record» .ensures) _ (c .before .before .before .before .before .read .ensures) _
+    (c .before .before .before .row .ensures) _ _ (c .before .layout .ensures) (c .fits2 .ensures)
+
+-- after the loop, its count is the run's
+ended : (c : tie.Left-loop Inv-loop μ-loop) → run (vol (c .before)) (logItems (geo (c .before)) (vol (c .before))) ≡ c .before .loop .n
 ended c =
-    ⊎-elim (λ w. log-full _ _ _ _ (c .before .loop .inv) (w .left))
-    (λ w. log-here _ _ _ _ (c .before .loop .inv) _ (w .1 .ensures) (w .0 .taken) (sym (w .2 .ensures) ∙ not-true _ (w .3 .taken)))
+    ⊎-elim (λ w. run-full _ _ _ _ (c .before .loop .inv) (w .left))
+    (λ w.
+    run-here _ _ _ _ (c .before .loop .inv) (log-spaced _ _) (w .0 .taken)
+    (ap (sealed 60) (sym (w .1 .ensures)) ∙ sym (w .2 .ensures) ∙ not-true _ (w .3 .taken)))
     (c .loop-test .came)
 
-rest-is : (c : tie.After-rest Inv-loop μ-loop) → restZero 64 (c .before .before .before .before .before .args .g .records) (now (c .before .before .before .before .before .args .v)) (start (c .before .before .before .before .before .args .g) (recordAt 1)) (c .before .before .before .loop .n) ≡ c .rest .result
+rest-is : (c : tie.After-rest Inv-loop μ-loop)
+    → let a = c .before .before .before in restZero 64 (geo a .records) (vol a) (start (geo a) (recordAt 1)) (a .loop .n) ≡ c .rest .result
 rest-is c =
-    let a = c .before .before .before .before .before .args in
-    ap (λ (k : ℕ). restZero 64 (a .g .records) (now (a .v)) k (c .before .before .before .loop .n)) (sym (c .before .recordat .ensures)) ∙ sym (c .rest .ensures)
+    let a = c .before .before .before in
+    ap (λ (x : ℕ). restZero 64 (geo a .records) (vol a) x (a .loop .n)) (sym (c .before .recordat .ensures)) ∙ sym (c .rest .ensures)
 
 loop-holds : tie.Need-loop-holds Inv-loop μ-loop
 unfolding emptyIndex
@@ -93,9 +126,8 @@ broken-requires c κs = search needs
 returns : tie.Need-returns Inv-loop μ-loop
 returns c =
     c .broken .ensures
-    ∙ log-unfit _ _ _ _ (c .before .before .before .before .before .before .before .before .before .before .before .before .loop .inv) _ (c .before .before .before .before .before .before .before .before .before .before .«record» .ensures) (c .before .before .before .before .before .before .before .before .before .before .before .before .before .before .pre .pages) _ (c .before .before .before .before .before .before .before .read .ensures) _ (c .before .before .before .before .before .row .ensures) _ _
-    (c .before .before .before .layout .ensures) (c .before .before .fits2 .ensures) (c .before .before .before .before .before .before .before .before .before .before .before .loop-test .taken) (sym (c .before .before .before .before .before .before .before .before .before .holds .ensures) ∙ not-false _ (c .before .before .before .before .before .before .before .before .if1 .left))
-    (not-true _ (c .before .if2 .taken))
+    ∙ whole-unfit _ _ _ _ (head (c .before .before) .loop .inv) (log-spaced _ _) (c .before .before .before .before .before .before .before .before .before .before .before .loop-test .taken) (right (c .before .before)) _ _ _ (judged (c .before .before))
+    (not-true _ (c .before .if2 .taken)) ∙ log-whole _ _
 
 add-logged : tie.Need-add-logged Inv-loop μ-loop
 add-logged c = search needs
@@ -117,9 +149,8 @@ loop-less c = search needs
 
 loop-again : tie.Need-loop-again Inv-loop μ-loop
 loop-again c =
-    log-more _ _ _ _ (c .before .before .before .before .before .before .before .before .before .before .before .before .loop .inv) _ (c .before .before .before .before .before .before .before .before .before .before .«record» .ensures) (c .before .before .before .before .before .before .before .before .before .before .before .before .before .before .pre .pages) _ (c .before .before .before .before .before .before .before .read .ensures) _ (c .before .before .before .before .before .row .ensures) _ _
-    (c .before .before .before .layout .ensures) (c .before .before .fits2 .ensures) _ (c .logged .ensures) (c .before .before .before .before .before .before .before .before .before .before .before .loop-test .taken)
-    (sym (c .before .before .before .before .before .before .before .before .before .holds .ensures) ∙ not-false _ (c .before .before .before .before .before .before .before .before .if1 .left)) (not-false _ (c .before .if2 .left))
+    passed-more _ _ _ _ (head (c .before .before) .loop .inv) (log-spaced _ _) (c .before .before .before .before .before .before .before .before .before .before .before .loop-test .taken) (right (c .before .before)) _ _ _ (judged (c .before .before))
+    (not-false _ (c .before .if2 .left)) _ (c .logged .ensures)
 
 recordat-requires : tie.Need-recordat-requires Inv-loop μ-loop
 recordat-requires c κs = search needs
@@ -138,12 +169,12 @@ broken-requires-2 c κs = search needs
 
 returns-2 : tie.Need-returns-2 Inv-loop μ-loop
 returns-2 c =
-    c .broken2 .ensures ∙ log-rest _ _ _ _ (c .before .before .before .before .before .loop .inv) (ended (c .before .before .before .before))
-    (rest-is (c .before .before) ∙ not-true _ (c .before .if3 .taken))
+    c .broken2 .ensures ∙ whole-rest _ _ _ _ (c .before .before .before .before .before .loop .inv) (ended (c .before .before .before .before)) (rest-is (c .before .before) ∙ not-true _ (c .before .if3 .taken))
+    ∙ log-whole _ _
 
 returns-3 : tie.Need-returns-3 Inv-loop μ-loop
 returns-3 c =
-    log-kept _ _ _ _ (c .before .before .before .before .loop .inv) (ended (c .before .before .before)) (rest-is (c .before) ∙ not-false _ (c .if3 .left))
+    whole-kept _ _ _ _ (c .before .before .before .before .loop .inv) (ended (c .before .before .before)) (rest-is (c .before) ∙ not-false _ (c .if3 .left)) ∙ log-whole _ _
 
 pub scan-spec : {M : Type 1} → statement M
 scan-spec =

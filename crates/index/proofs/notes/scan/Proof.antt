@@ -1,14 +1,21 @@
 use mathlib.Core.Path.{_≡_, refl, sym, ap, _∙_}
+use mathlib.Core.Bool.{true}
+use mathlib.Core.List.{List}
 use mathlib.Core.Logic.{⊎-elim}
 use Prim.Native.Nat.{ℕ, suc, _+_, _-_, _≤_, _<_}
 use native.Mathlib.Omega.{arith}
 use borrow.Author.Needs.{needs}
 use borrow.Author.Tests.{not-true, not-false}
 use denote.Ref.{now}
-use Rattle.model.specs.Geometry.{noteAt, start}
-use Rattle.model.specs.Scan.{restZero, noteCount}
+use lib.ListN.{getD}
+use Rattle.model.specs.Checksum.{sealed}
+use Rattle.model.specs.Geometry.{noteAt, start, item}
+use Rattle.model.specs.Index.{emptyEntry, withNote}
+use Rattle.model.specs.Scan.{restZero}
+use Rattle.model.specs.declared.geometry.Geometry.{Geometry}
 use Rattle.index.proofs.Entries.{row-below}
-use Rattle.index.proofs.NotePass.{NotePassed, note-none, note-here, note-full, note-unfit, note-more, note-rest, note-kept}
+use Rattle.index.proofs.Pass.{Passed, Judged, run, run-full, run-here, passed-more, whole-unfit, whole-rest, whole-kept}
+use Rattle.index.proofs.NotePass.{noteItems, note-spaced, note-whole, note-none, note-judged}
 use Rattle.index.proofs.notes.scan.Statement.{statement}
 use Rattle.index.proofs.notes.scan.Tie as tie
 use Rattle.index.proofs.notes.scan.Reads as reads
@@ -27,7 +34,7 @@ use Rattle.volume.proofs.place.note.Reads as note-reads
 use Rattle.volume.proofs.place.noteat.Reads as noteat-reads
 
 abbrev Inv-loop : tie.InvT-loop
-Inv-loop v g durable index₀ notes pages slots k₀ index k = NotePassed g v k index
+Inv-loop v g durable index₀ notes pages slots k₀ index k = Passed v (noteItems g v) k index
 
 abbrev μ-loop : tie.MeasureT-loop
 μ-loop v g durable index₀ notes pages slots k₀ index k = g .notes - k
@@ -36,17 +43,45 @@ abbrev μ-loop : tie.MeasureT-loop
 row-at : (c : tie.After-row Inv-loop μ-loop) → c .row .result < 64
 row-at c = omega (arith, c .row .ensures, row-below (c .before .before .read .result .page))
 
--- after the loop, its count is that of the notes
-ended : (c : tie.Left-loop Inv-loop μ-loop) → noteCount (c .before .before .before .args .g) (now (c .before .before .before .args .v)) ≡ c .before .loop .k
+-- the loop's head, with the volume and its geometry
+abbrev head : tie.After-fits2 Inv-loop μ-loop → tie.At-loop Inv-loop μ-loop
+head c = c .before .before .before .before .before .before .before .before .before .before .before .before .before
+
+abbrev vol : tie.At-loop Inv-loop μ-loop → List ℕ
+vol a = now (a .before .before .args .v)
+
+abbrev geo : tie.At-loop Inv-loop μ-loop → Geometry
+geo a = a .before .before .args .g
+
+-- the note has its checksum
+right : (c : tie.After-fits2 Inv-loop μ-loop) → sealed 12 (item (geo (head c)) (vol (head c)) (noteAt (head c .loop .k + 1))) ≡ true
+right c =
+    ap (sealed 12) (sym (c .before .before .before .before .before .before .before .before .before .before .before .note .ensures)) ∙ sym (c .before .before .before .before .before .before .before .before .before .before .holds .ensures)
+    ∙ not-false _ (c .before .before .before .before .before .before .before .before .before .if1 .left)
+
+-- and is judged
+judged : (c : tie.After-fits2 Inv-loop μ-loop)
+    → Judged (vol (head c)) (noteItems (geo (head c)) (vol (head c))) (head c .loop .k) (head c .loop .index) (c .before .before .before .before .before .before .row .result) (c .fits2 .result)
+    (withNote (getD (head c .loop .index) (c .before .before .before .before .before .before .row .result) emptyEntry) (c .before .before .before .before .before .before .before .before .read .result))
+judged c =
+    note-judged _ _ (head c .before .before .pre .0 .pages) _ (head c .before .before .pre .1 .0) _ _ (head c .loop .inv .same) _ (c .before .before .before .before .before .before .before .before .before .before .before .note .ensures) _
+    (c .before .before .before .before .before .before .before .before .read .ensures) _ (c .before .before .before .before .before .before .row .ensures) _ _ _ _ (c .before .before .before .used .ensures) (c .before .before .follows .ensures)
+    (c .before .page .ensures) (c .fits2 .ensures)
+
+-- after the loop, its count is the run's
+ended : (c : tie.Left-loop Inv-loop μ-loop) → run (vol (c .before)) (noteItems (geo (c .before)) (vol (c .before))) ≡ c .before .loop .k
 ended c =
-    ⊎-elim (λ w. note-full _ _ _ _ (c .before .loop .inv) (w .left))
-    (λ w. note-here _ _ _ _ (c .before .loop .inv) _ (w .1 .ensures) (w .0 .taken) (sym (w .2 .ensures) ∙ not-true _ (w .3 .taken)))
+    ⊎-elim (λ w. run-full _ _ _ _ (c .before .loop .inv) (w .left))
+    (λ w.
+    run-here _ _ _ _ (c .before .loop .inv) (note-spaced _ _) (w .0 .taken)
+    (ap (sealed 12) (sym (w .1 .ensures)) ∙ sym (w .2 .ensures) ∙ not-true _ (w .3 .taken)))
     (c .loop-test .came)
 
-rest-is : (c : tie.After-rest Inv-loop μ-loop) → restZero 16 (c .before .before .before .before .before .args .g .notes) (now (c .before .before .before .before .before .args .v)) (start (c .before .before .before .before .before .args .g) (noteAt 1)) (c .before .before .before .loop .k) ≡ c .rest .result
+rest-is : (c : tie.After-rest Inv-loop μ-loop)
+    → let a = c .before .before .before in restZero 16 (geo a .notes) (vol a) (start (geo a) (noteAt 1)) (a .loop .k) ≡ c .rest .result
 rest-is c =
-    let a = c .before .before .before .before .before .args in
-    ap (λ (n : ℕ). restZero 16 (a .g .notes) (now (a .v)) n (c .before .before .before .loop .k)) (sym (c .before .noteat .ensures)) ∙ sym (c .rest .ensures)
+    let a = c .before .before .before in
+    ap (λ (x : ℕ). restZero 16 (geo a .notes) (vol a) x (a .loop .k)) (sym (c .before .noteat .ensures)) ∙ sym (c .rest .ensures)
 
 loop-holds : tie.Need-loop-holds Inv-loop μ-loop
 loop-holds c = note-none _ _ _ (c .before .pre .1 .1)
@@ -99,9 +134,8 @@ broken-requires c κs = search needs
 returns : tie.Need-returns Inv-loop μ-loop
 returns c =
     c .broken .ensures
-    ∙ note-unfit _ _ _ _ (c .before .before .before .before .before .before .before .before .before .before .before .before .before .before .before .loop .inv) _ (c .before .before .before .before .before .before .before .before .before .before .before .before .before .note .ensures) (c .before .before .before .before .before .before .before .before .before .before .before .before .before .before .before .before .before .pre .0 .pages) _ (c .before .before .before .before .before .before .before .before .before .before .before .before .before .before .before .before .before .pre .1 .0) _ (c .before .before .before .before .before .before .before .before .before .before .read .ensures) _ (c .before .before .before .before .before .before .before .before .row .ensures)
-    _ _ _ _ (c .before .before .before .before .before .used .ensures) (c .before .before .before .before .follows .ensures) (c .before .before .before .page .ensures) (c .before .before .fits2 .ensures)
-    (c .before .before .before .before .before .before .before .before .before .before .before .before .before .before .loop-test .taken) (sym (c .before .before .before .before .before .before .before .before .before .before .before .before .holds .ensures) ∙ not-false _ (c .before .before .before .before .before .before .before .before .before .before .before .if1 .left)) (not-true _ (c .before .if2 .taken))
+    ∙ whole-unfit _ _ _ _ (head (c .before .before) .loop .inv) (note-spaced _ _) (c .before .before .before .before .before .before .before .before .before .before .before .before .before .before .loop-test .taken) (right (c .before .before)) _ _ _ (judged (c .before .before))
+    (not-true _ (c .before .if2 .taken)) ∙ note-whole _ _
 
 noted-requires : tie.Need-noted-requires Inv-loop μ-loop
 noted-requires c κs = search needs
@@ -120,9 +154,8 @@ loop-less c = search needs
 
 loop-again : tie.Need-loop-again Inv-loop μ-loop
 loop-again c =
-    note-more _ _ _ _ (c .before .before .before .before .before .before .before .before .before .before .before .before .before .before .before .loop .inv) _ (c .before .before .before .before .before .before .before .before .before .before .before .before .before .note .ensures) (c .before .before .before .before .before .before .before .before .before .before .before .before .before .before .before .before .before .pre .0 .pages) _ (c .before .before .before .before .before .before .before .before .before .before .before .before .before .before .before .before .before .pre .1 .0) _ (c .before .before .before .before .before .before .before .before .before .before .read .ensures) _ (c .before .before .before .before .before .before .before .before .row .ensures)
-    _ _ _ _ (c .before .before .before .before .before .used .ensures) (c .before .before .before .before .follows .ensures) (c .before .before .before .page .ensures) (c .before .before .fits2 .ensures)
-    _ (c .noted .ensures) (c .before .before .before .before .before .before .before .before .before .before .before .before .before .before .loop-test .taken) (sym (c .before .before .before .before .before .before .before .before .before .before .before .before .holds .ensures) ∙ not-false _ (c .before .before .before .before .before .before .before .before .before .before .before .if1 .left)) (not-false _ (c .before .if2 .left))
+    passed-more _ _ _ _ (head (c .before .before) .loop .inv) (note-spaced _ _) (c .before .before .before .before .before .before .before .before .before .before .before .before .before .before .loop-test .taken) (right (c .before .before)) _ _ _ (judged (c .before .before))
+    (not-false _ (c .before .if2 .left)) _ (c .noted .ensures)
 
 noteat-requires : tie.Need-noteat-requires Inv-loop μ-loop
 noteat-requires c κs = search needs
@@ -141,12 +174,12 @@ broken-requires-2 c κs = search needs
 
 returns-2 : tie.Need-returns-2 Inv-loop μ-loop
 returns-2 c =
-    c .broken2 .ensures ∙ note-rest _ _ _ _ (c .before .before .before .before .before .loop .inv) (ended (c .before .before .before .before))
-    (rest-is (c .before .before) ∙ not-true _ (c .before .if3 .taken))
+    c .broken2 .ensures ∙ whole-rest _ _ _ _ (c .before .before .before .before .before .loop .inv) (ended (c .before .before .before .before)) (rest-is (c .before .before) ∙ not-true _ (c .before .if3 .taken))
+    ∙ note-whole _ _
 
 returns-3 : tie.Need-returns-3 Inv-loop μ-loop
 returns-3 c =
-    note-kept _ _ _ _ (c .before .before .before .before .loop .inv) (ended (c .before .before .before)) (rest-is (c .before) ∙ not-false _ (c .if3 .left))
+    whole-kept _ _ _ _ (c .before .before .before .before .loop .inv) (ended (c .before .before .before)) (rest-is (c .before) ∙ not-false _ (c .if3 .left)) ∙ note-whole _ _
 
 pub scan-spec : {M : Type 1} → statement M
 scan-spec =
