@@ -3,4 +3,5 @@ pub mod Links
 pub mod Walks
 pub mod Starts
 pub mod Replays
+pub mod Scanned
 pub mod Unbroken

@@ -1,135 +1,24 @@
 -- Refusal 19 never comes after a clean scan: where the log keeps the restart rule, the walk for a page from the index meets only records that it
 -- may read. It holds for any bytes, whatever the images and the notes are.
-use Prim.Native.Nat.{ℕ, zero, suc, _+_, _-_, _*_, _≤_, _<_}
-use mathlib.Core.Path.{_≡_, refl, sym, ap, _∙_, subst}
-use mathlib.Core.Logic.{_≢_}
-use mathlib.Core.Bool.{Bool, true, false, cond, _&&_, _||_}
+use Prim.Native.Nat.{ℕ, zero, suc, _+_, _*_, _≤_, _<_}
+use mathlib.Core.Path.{_≡_, refl, sym, ap, _∙_}
+use mathlib.Core.Bool.{Bool, true, false}
 use mathlib.Core.List.{List, [], _∷_}
 use native.Mathlib.Omega.{arith}
-use native.Mathlib.Decide.{ℕ-discrete}
-use lib.Dec.{eqb, ltb, leb}
-use lib.ListN.{length, getD, set, replicate, length-set, length-replicate}
-use lib.Seq.{getD-set-same, getD-set-other}
-use borrow.Author.Tests.{eqb-true, eq-eqb, lt-ltb}
-use Rattle.laws.proofs.Tests.{byCases, all-at, all-holds, and-left, every-at, within-bounds}
-use Rattle.laws.proofs.Checksums.{run-none, run-stops, run-goes}
-use Rattle.laws.proofs.Places.{valid-facts}
-use Rattle.model.specs.Tests.{all, every, within}
+use lib.Dec.{eqb, ltb}
+use borrow.Author.Tests.{eq-eqb, lt-ltb}
+use Rattle.laws.proofs.Tests.{byCases, all-holds}
 use Rattle.model.specs.Bytes.{part}
-use Rattle.model.specs.Checksum.{sealed, sealedRun}
-use Rattle.model.specs.Geometry.{geometryOf, validVolume, Place, recordAt, start, item}
-use Rattle.model.specs.Item.{recordOf, recordLayout, isFormat, firstIsFormat, isWritten}
-use Rattle.model.specs.Index.{emptyEntry, emptyIndex, entryRow, entryOf, setEntry, withNote, enterNote}
-use Rattle.model.specs.Scan.{restZero, logRecord, durableCount, enterRecord, logIndex, recordFits, validLog, noteCount, noteRecord, noteIndex, indexOf}
-use Rattle.model.specs.Repair.{View, viewOf, ownStart, backupStart, chainRecord, walkFrom, walkOf, isBroken}
+use Rattle.model.specs.Checksum.{sealed}
+use Rattle.model.specs.Geometry.{geometryOf, validVolume, recordAt, start, item}
+use Rattle.model.specs.Item.{recordLayout, isFormat, firstIsFormat}
+use Rattle.model.specs.Index.{entryOf}
+use Rattle.model.specs.Scan.{logRecord, durableCount, logIndex, validLog, indexOf}
+use Rattle.model.specs.Repair.{viewOf, ownStart, backupStart, chainRecord, walkFrom, walkOf, isBroken}
 use Rattle.model.specs.declared.geometry.Geometry.{Geometry}
-use Rattle.model.specs.declared.item.LogRecord.{LogRecord}
-use Rattle.model.specs.declared.item.Note.{Note}
-use Rattle.model.specs.declared.state.Entry.{Entry}
 use Rattle.repair.proofs.Links.{link, link-back}
-
--- ---- the log's records
-
--- each item of a run has a right checksum
-pub run-at : (n : ℕ) (v : List ℕ) (most at i : ℕ) → i < sealedRun n most v at → sealed n (part v (at + (n + 4) * i) (n + 4)) ≡ true
-run-at n v zero at i h = let z : sealedRun n 0 v at ≡ 0 = run-none n v at in absurd (omega arith)
-run-at n v (suc most) at i h =
-    byCases (sealed n (part v at (n + 4)))
-    (λ t. go t (λ k. run-at n v most (at + (n + 4)) k) i h)
-    (λ t. let z : sealedRun n (suc most) v at ≡ 0 = run-stops n v (suc most) at t in absurd (omega arith))
-  where
-    go : sealed n (part v at (n + 4)) ≡ true
-        → ((k : ℕ) → k < sealedRun n most v (at + (n + 4)) → sealed n (part v ((at + (n + 4)) + (n + 4) * k) (n + 4)) ≡ true)
-        → (k : ℕ) → k < sealedRun n (suc most) v at → sealed n (part v (at + (n + 4) * k) (n + 4)) ≡ true
-    go t ih zero b = let z : at + (n + 4) * 0 ≡ at = omega arith in rw z t
-    go t ih (suc k) b =
-        let s : at + (n + 4) * suc k ≡ (at + (n + 4)) + (n + 4) * k = omega arith in
-        let g : sealedRun n (suc most) v at ≡ suc (sealedRun n most v (at + (n + 4))) = run-goes n v most at t in
-        rw s (ih k (omega arith))
-
--- record i + 1, as the restart rule has it
-record Fit (g : Geometry) (v : List ℕ) (i : ℕ) : Type 0 where
-  layout : recordLayout (item g v (recordAt (suc i))) ≡ true
-  lsn-is : logRecord g v (suc i) .lsn ≡ suc i
-  low : 1 ≤ logRecord g v (suc i) .page
-  high : logRecord g v (suc i) .page ≤ g .pages
-  prev-is : logRecord g v (suc i) .prev ≡ entryOf (logIndex g v i) (logRecord g v (suc i) .page) .last
-  first : firstIsFormat (logRecord g v (suc i)) ≡ true
-
-fit : (g : Geometry) (v : List ℕ) (i : ℕ) → recordFits g v (logIndex g v i) (suc i) ≡ true → Fit g v i
-unfolding recordFits
-fit g v i h =
-    let e = logRecord g v (suc i) in
-    let tests = recordLayout (item g v (recordAt (suc i))) ∷ eqb (e .lsn) (suc i) ∷ within (g .pages) (e .page)
-    ∷ eqb (e .prev) (entryOf (logIndex g v i) (e .page) .last) ∷ firstIsFormat e ∷ [] in
-    let w = within-bounds (g .pages) (e .page) (all-at tests 2 h) in
-    record {
-      layout = all-at tests 0 h;
-      lsn-is = eqb-true _ _ (all-at tests 1 h);
-      low = w .0;
-      high = w .1;
-      prev-is = eqb-true _ _ (all-at tests 3 h);
-      first = all-at tests 4 h;
-    }
-
--- ---- the index
-
--- an entry's durable number, and that of its last record, is 0 or that of one of the page's first n
-record Newest (g : Geometry) (v : List ℕ) (n p : ℕ) (e : Entry) : Type 0 where
-  same : e .durable ≡ e .last
-  high : e .last ≤ n
-  page : (e .last ≡ 0 → ⊥) → logRecord g v (e .last) .page ≡ p
-
-index-length : (g : Geometry) (v : List ℕ) (n : ℕ) → length (logIndex g v n) ≡ 64
-unfolding logIndex emptyIndex
-index-length g v zero = length-replicate {A = Entry} 64 emptyEntry
-index-length g v (suc n) = length-set (logIndex g v n) (logRecord g v (suc n) .page - 1) _ ∙ index-length g v n
-
-empty-row : (n i : ℕ) → getD (replicate n emptyEntry) i emptyEntry ≡ emptyEntry
-empty-row zero i = refl
-empty-row (suc n) zero = refl
-empty-row (suc n) (suc i) = empty-row n i
-
-module _ (g : Geometry) (v : List ℕ) (few : g .pages ≤ 64) (ok : (i : ℕ) → i < durableCount g v → Fit g v i) where
-  newest : (n p : ℕ) → n ≤ durableCount g v → 1 ≤ p → Newest g v n p (entryOf (logIndex g v n) p)
-  unfolding logIndex emptyIndex
-  newest zero p h l = rw (empty-row 64 (p - 1)) (record { same = refl; high = omega arith; page = λ z. absurd (z refl) })
-  newest (suc n) p h l =
-      let f = ok n h in
-      let q = logRecord g v (suc n) .page in
-      let i = index-length g v n in
-      elim (ℕ-discrete p q) [
-        | yes y ↦
-            let r : p - 1 < length (logIndex g v n) = omega (arith, f .high, i) in
-            rw (← y, getD-set-same (logIndex g v n) (p - 1) _ emptyEntry r)
-            (record { same = refl; high = omega arith; page = λ z. sym y })
-        | no z ↦
-            let ne : p - 1 ≢ q - 1 = λ e. z (omega (arith, f .low)) in
-            let k = newest n p (omega arith) l in
-            rw (getD-set-other (logIndex g v n) (q - 1) (p - 1) _ emptyEntry ne)
-            (record { same = k .same; high = omega (arith, k .high); page = k .page })
-      ]
-
--- a note leaves the durable numbers
-row-kept : (l : List Entry) (i j : ℕ) (x : Entry) → x .durable ≡ entryRow l i .durable → entryRow (set l i x) j .durable ≡ entryRow l j .durable
-row-kept [] i j x h = refl
-row-kept (y ∷ l) zero zero x h = h
-row-kept (y ∷ l) zero (suc j) x h = refl
-row-kept (y ∷ l) (suc i) zero x h = refl
-row-kept (y ∷ l) (suc i) (suc j) x h = row-kept l i j x h
-
-note-durable : (e : Entry) (n : Note) → withNote e n .durable ≡ e .durable
-note-durable e n = byCases (isWritten n) (λ t. rw t) (λ t. rw t)
-
-note-kept : (g : Geometry) (v : List ℕ) (p k : ℕ) → entryOf (noteIndex g v k) p .durable ≡ entryOf (logIndex g v (durableCount g v)) p .durable
-unfolding noteIndex enterNote
-note-kept g v p zero = refl
-note-kept g v p (suc k) =
-    let x = noteRecord g v (suc k) in
-    row-kept (noteIndex g v k) (x .page - 1) (p - 1) (withNote (entryOf (noteIndex g v k) (x .page)) x) (note-durable (entryOf (noteIndex g v k) (x .page)) x)
-    ∙ note-kept g v p k
-
--- ---- the walk
+use Rattle.repair.proofs.Scanned.{run-at, Fit, Newest, newest, log-fits, scanned-newest, scanned-durable}
+use Rattle.repair.proofs.Starts.{sized}
 
 module _ (g : Geometry) (v : List ℕ) (few : g .pages ≤ 64) (ok : (i : ℕ) → i < durableCount g v → Fit g v i) (p : ℕ) (low : 1 ≤ p) where
   -- the record of page p at place i
@@ -190,26 +79,18 @@ module _ (g : Geometry) (v : List ℕ) (few : g .pages ≤ 64) (ok : (i : ℕ) �
           ih k (omega (arith, w .high)) (omega (arith, w .high))
           (ap (λ (n : ℕ). logRecord g v n .page) (sym s) ∙ w .page (λ z. omega arith))
 
--- ---- the law
-
 pub unbroken : (v : List ℕ) (g : Geometry) (p : ℕ) → validVolume v ≡ true → g ≡ geometryOf v → validLog g v ≡ true → 1 ≤ p
     → (entryOf (indexOf g v) p .durable ≡ 0 → ⊥)
     → isBroken (walkOf g p (viewOf g v (entryOf (indexOf g v) p) p) .stop) ≡ false
-unfolding walkOf validLog
-unbroken v g p valid g-is log low some =
-    let e = entryOf (indexOf g v) p in
-    let few : g .pages ≤ 64 = rw g-is (valid-facts v valid .p-high) in
-    let t : every (durableCount g v) (λ i. recordFits g v (logIndex g v i) (suc i)) ≡ true = and-left _ _ log in
-    let ok : (i : ℕ) → i < durableCount g v → Fit g v i =
-    λ i b. fit g v i (every-at (λ i. recordFits g v (logIndex g v i) (suc i)) (durableCount g v) t i b) in
-    go few ok (e .durable) refl
+unfolding walkOf
+unbroken v g p valid g-is log low some = go (entryOf (indexOf g v) p .durable) refl
   where
-    go : g .pages ≤ 64 → ((i : ℕ) → i < durableCount g v → Fit g v i) → (d : ℕ) → entryOf (indexOf g v) p .durable ≡ d
+    go : (d : ℕ) → entryOf (indexOf g v) p .durable ≡ d
         → isBroken (walkFrom d (λ n. item g v (recordAt n)) p (ownStart g p (viewOf g v (entryOf (indexOf g v) p) p))
         (backupStart g p (viewOf g v (entryOf (indexOf g v) p) p)) d .stop) ≡ false
-    go few ok zero e = absurd (some e)
-    go few ok (suc i) e =
-        let w = newest g v few ok (durableCount g v) p (omega arith) low in
-        let s : entryOf (logIndex g v (durableCount g v)) p .last ≡ suc i = sym (w .same) ∙ sym (note-kept g v p (noteCount g v)) ∙ e in
-        unbroken-from g v few ok p low _ _ (suc i) i (omega arith) (omega (arith, w .high))
+    go zero e = absurd (some e)
+    go (suc i) e =
+        let w = scanned-newest v g valid g-is log p low in
+        let s : entryOf (logIndex g v (durableCount g v)) p .last ≡ suc i = sym (w .same) ∙ sym (scanned-durable v g valid g-is log p) ∙ e in
+        unbroken-from g v (sized v g valid g-is .pages) (log-fits v g valid g-is log) p low _ _ (suc i) i (omega arith) (omega (arith, w .high))
         (ap (λ (n : ℕ). logRecord g v n .page) (sym s) ∙ w .page (λ z. omega arith))

@@ -5,7 +5,7 @@ ghost use Prim.Native.Nat.{_+_, _≤_};
 ghost use lib.ListN.{length};
 ghost use Rattle.model.specs.Geometry.{geometryOf, validVolume, recordAt, item};
 ghost use Rattle.model.specs.Item.{imageBody};
-ghost use Rattle.model.specs.Repair.{classOf, viewOf, ownStart, backupStart, chainRecord, walkOf, startBody, replayChain, rebuilt, startOf, repairOf};
+ghost use Rattle.model.specs.Repair.{classOf, viewOf, ownStart, backupStart, chainRecord, walkOf, startBody, replayChain, rebuilt, startOf, isBroken, repairOf};
 ghost use Rattle.repair.specs.Chain.{Ready, chainOf, stepOf};
 use codec::checksum;
 use codec::part;
@@ -142,6 +142,19 @@ pub fn walk(v: &[u8], g: Geometry, e: Entry, page: u32) -> Chain
         }
     };
     Chain { stop, count, lsns }
+}
+
+// The walk met a record that it may not read.
+// Ruled out: no walk broken; a walk to a format taken as broken.
+pub fn broken(stop: Stop) -> bool
+    ensures { λ r. ⌜ r ≡ isBroken stop ⌝ }
+{
+    match stop {
+        Stop::Own => false,
+        Stop::Backup => false,
+        Stop::Format => false,
+        Stop::Broken => true,
+    }
 }
 
 // Copies an image's body.

@@ -25,6 +25,14 @@ Inv-loop v g page own backup n₀ count₀ lsns₀ n count lsns = Down (λ k. it
 abbrev μ-loop : tie.MeasureT-loop
 μ-loop v g page own backup n₀ count₀ lsns₀ n count lsns = n
 
+-- where the walk halts: the step
+halted : (c : tie.After-known-told Inv-loop μ-loop)
+    → stepOf (λ k. item (c .before .before .before .before .before .before .before .before .args .g) (now (c .before .before .before .before .before .before .before .before .args .v)) (recordAt k))
+    (c .before .before .before .before .before .before .before .before .args .page) (c .before .before .before .before .before .before .own-number .result)
+    (c .before .before .before .before .before .backup-number .result) (c .before .before .before .before .loop .n)
+    ≡ Halt (c .before .s .given .0 .0)
+halted c = sym (c .before .before .before .look .ensures) ∙ c .before .s .given .1
+
 -- at a record that is read: the step, and room for its number
 on : (c : tie.After-known-told2 Inv-loop μ-loop)
     → stepOf (λ k. item (c .before .before .before .before .before .before .before .before .args .g) (now (c .before .before .before .before .before .before .before .before .args .v)) (recordAt k))
@@ -79,7 +87,7 @@ unfolding chainOf walkOf
 returns c =
     let b = c .before .before .before .before .before in
     rw (← b .backup-number .ensures, ← b .before .own-number .ensures)
-    (down-halt _ _ _ _ _ _ _ _ (c .before .before .before .before .loop .inv) _ (sym (c .before .before .before .look .ensures) ∙ c .before .s .given .1))
+    (down-halt _ _ _ _ _ _ _ _ (c .before .before .before .before .loop .inv) _ (halted c))
 
 returns-2 : tie.Need-returns-2 Inv-loop μ-loop
 unfolding chainOf walkOf
