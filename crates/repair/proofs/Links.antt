@@ -1,19 +1,16 @@
 -- The records of a walk's chain: what a record that the walk read is known to be, and the walk by its step at each number.
-use Prim.Native.Nat.{ℕ, zero, suc, _+_, _-_, _≤_, _<_}
+use Prim.Native.Nat.{ℕ, zero, suc, _≤_, _<_}
 use mathlib.Core.Path.{_≡_, refl, sym, ap, _∙_}
-use mathlib.Core.Logic.{⊎-elim}
 use mathlib.Core.Bool.{Bool, true, false, cond, _||_}
-use mathlib.Core.List.{List, [], _∷_, _++_}
+use mathlib.Core.List.{List, [], _∷_}
 use native.Mathlib.Omega.{arith}
 use lib.Dec.{eqb, ltb, leb}
 use lib.ListN.{length, getD}
 use borrow.Author.Tests.{eqb-true, eq-eqb, ne-eqb, ltb-true, leb-true}
-use Rattle.laws.proofs.Tests.{all-at, byCases, true-not-false}
-use Rattle.model.specs.Tests.{all}
+use Rattle.laws.proofs.Tests.{all-at, byCases}
 use Rattle.model.specs.Checksum.{sealed}
 use Rattle.model.specs.Item.{recordOf, recordLayout, isFormat, firstIsFormat}
 use Rattle.model.specs.Repair.{Walk, stopAt, behind, chainRecord, walkFrom}
-use Rattle.model.specs.declared.answer.Stop.{Stop}
 use Rattle.model.specs.declared.answer.Stop.the-variants.{Own, Backup, Format, Broken}
 use Rattle.model.specs.declared.item.LogRecord.{LogRecord}
 use Rattle.repair.specs.Chain.{stepOf}

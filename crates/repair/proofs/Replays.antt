@@ -1,8 +1,8 @@
 -- The replay as a loop makes it, from the end of the chain to its front, and the image that is built around it.
 use Prim.Native.Nat.{ℕ, zero, suc, _+_, _-_, _≤_, _<_}
-use mathlib.Core.Path.{_≡_, refl, sym, ap, _∙_, subst}
-use mathlib.Core.Bool.{Bool, true, false}
-use mathlib.Core.List.{List, [], _∷_, _++_}
+use mathlib.Core.Path.{_≡_, sym, ap, _∙_, subst}
+use mathlib.Core.Bool.{Bool, true}
+use mathlib.Core.List.{List, _++_}
 use native.Mathlib.Omega.{arith}
 use native.Mathlib.Numerals.{add-one}
 use lib.ListN.{length, getD, take, drop, length-append, length-take, length-drop}
@@ -23,7 +23,7 @@ use Rattle.model.specs.declared.state.Entry.{Entry}
 use Rattle.model.specs.declared.geometry.Geometry.{Geometry}
 use Rattle.repair.specs.Chain.{chainOf}
 use Rattle.repair.specs.declared.Chain.{Chain}
-use Rattle.repair.proofs.Links.{Link, link, Linked, linked-at, walk-none, walk-linked, walk-backup}
+use Rattle.repair.proofs.Links.{link, Linked, linked-at, walk-none, walk-linked, walk-backup}
 
 -- ---- a whole walk
 

@@ -1,9 +1,9 @@
 -- What a scan that refuses nothing tells, for any bytes: each record of the log as the restart rule has it, and the index's entries, which a
 -- page's repair may be handed.
 use Prim.Native.Nat.{ℕ, zero, suc, _+_, _-_, _*_, _≤_, _<_}
-use mathlib.Core.Path.{_≡_, refl, sym, ap, _∙_}
+use mathlib.Core.Path.{_≡_, refl, sym, _∙_}
 use mathlib.Core.Logic.{_≢_}
-use mathlib.Core.Bool.{Bool, true, false, not}
+use mathlib.Core.Bool.{true, false, not}
 use mathlib.Core.List.{List, [], _∷_}
 use native.Mathlib.Omega.{arith}
 use native.Mathlib.Decide.{ℕ-discrete}
@@ -13,7 +13,6 @@ use lib.Seq.{getD-set-same, getD-set-other}
 use borrow.Author.Tests.{eqb-true}
 use Rattle.laws.proofs.Tests.{byCases, all-at, and-left, every-at, within-bounds}
 use Rattle.laws.proofs.Checksums.{run-none, run-stops, run-goes}
-use Rattle.laws.proofs.Places.{valid-facts}
 use Rattle.model.specs.Tests.{every, within}
 use Rattle.model.specs.Bytes.{part}
 use Rattle.model.specs.Checksum.{sealed, sealedRun}

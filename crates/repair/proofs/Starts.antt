@@ -1,17 +1,16 @@
 -- What a page's repair may read of its volume, and the numbers at which a walk may stop at the own image and at the backup.
-use Prim.Native.Nat.{ℕ, zero, suc, _+_, _-_, _≤_, _<_}
-use mathlib.Core.Path.{_≡_, refl, sym, ap, _∙_, subst}
+use Prim.Native.Nat.{ℕ, zero, suc, _+_, _≤_}
+use mathlib.Core.Path.{_≡_, refl, sym, _∙_, subst}
 use mathlib.Core.Bool.{Bool, true, false, cond, _&&_}
-use mathlib.Core.List.{List, [], _∷_, _++_}
+use mathlib.Core.List.{List}
 use native.Mathlib.Omega.{arith}
 use lib.Dec.{eqb}
 use lib.ListN.{length}
 use borrow.Author.Tests.{eq-eqb, ne-eqb}
-use Rattle.laws.proofs.Tests.{byCases}
 use Rattle.laws.proofs.Places.{total, valid-facts, place-fits, item-length}
-use Rattle.model.specs.Geometry.{geometryOf, validVolume, Place, pageAt, slotAt, recordAt, width, start, item}
+use Rattle.model.specs.Geometry.{geometryOf, validVolume, pageAt, slotAt, recordAt, start, item}
 use Rattle.model.specs.Item.{imageLsn, validImage}
-use Rattle.model.specs.Repair.{View, viewOf, ownStart, backupStart}
+use Rattle.model.specs.Repair.{viewOf, ownStart, backupStart}
 use Rattle.model.specs.declared.geometry.Geometry.{Geometry}
 use Rattle.model.specs.declared.state.Entry.{Entry}
 use Rattle.repair.specs.Chain.{Ready}

@@ -1,18 +1,16 @@
 -- The walk as a loop makes it: the numbers passed stand in the front of an array of zeros, and what is left is a walk from the next number.
 use Prim.Native.Nat.{ℕ, zero, suc, _+_, _-_, _≤_, _<_}
 use mathlib.Core.Path.{_≡_, refl, sym, ap, _∙_}
-use mathlib.Core.Bool.{Bool, true, false, cond}
+use mathlib.Core.Bool.{Bool, true, false}
 use mathlib.Core.List.{List, [], _∷_, _++_, append-nil}
 use native.Mathlib.Omega.{arith}
 use native.Mathlib.Numerals.{add-one}
-use lib.Dec.{eqb}
-use lib.ListN.{length, take, drop, set, replicate, length-set, length-replicate, take-append-drop}
+use lib.ListN.{length, take, drop, set, length-set, length-replicate, take-append-drop}
 use lib.Seq.{take-suc-set, drop-set-lt, drop-drop, length-take-le}
-use borrow.Author.Tests.{eq-eqb}
 use Rattle.laws.proofs.Zeros.{zeros, drop-zeros}
 use Rattle.model.specs.Repair.{Walk, stopAt, behind, walkFrom}
 use Rattle.model.specs.declared.answer.Stop.{Stop}
-use Rattle.model.specs.declared.answer.Stop.the-variants.{Own, Backup, Format, Broken}
+use Rattle.model.specs.declared.answer.Stop.the-variants.{Format, Broken}
 use Rattle.repair.specs.Chain.{stepOf, held}
 use Rattle.repair.specs.declared.Chain.{Chain}
 use Rattle.repair.specs.declared.Step.{Step}

@@ -1,8 +1,8 @@
 -- The walk as the code holds it: what it asks of its arguments, its step at one number, and its result with the chain in an array.
 use Prim.Native.Nat.{ℕ, _-_, _≤_}
 use mathlib.Core.Path.{_≡_}
-use mathlib.Core.Bool.{Bool, true, false, cond}
-use mathlib.Core.List.{List, [], _∷_, _++_}
+use mathlib.Core.Bool.{true, cond}
+use mathlib.Core.List.{List, _++_}
 use lib.Dec.{eqb}
 use lib.ListN.{length, replicate}
 use Rattle.model.specs.Geometry.{geometryOf, validVolume}
@@ -10,7 +10,7 @@ use Rattle.model.specs.Item.{recordOf, isFormat}
 use Rattle.model.specs.Repair.{View, Walk, chainRecord, walkOf}
 use Rattle.model.specs.declared.geometry.Geometry.{Geometry}
 use Rattle.model.specs.declared.state.Entry.{Entry}
-use Rattle.model.specs.declared.answer.Stop.the-variants.{Own, Backup, Format, Broken}
+use Rattle.model.specs.declared.answer.Stop.the-variants.{Own, Backup, Broken}
 use Rattle.repair.specs.declared.Chain.{Chain}
 use Rattle.repair.specs.declared.Step.{Step}
 use Rattle.repair.specs.declared.Step.the-variants.{Halt, Read}

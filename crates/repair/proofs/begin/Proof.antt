@@ -1,6 +1,6 @@
 -- `repair::begin` meets its contract: one law of Replays for each start. A walk stops at the backup only where a slot is noted.
 use borrow.Author.Needs.{needs}
-use mathlib.Core.Path.{_≡_, sym, ap, _∙_}
+use mathlib.Core.Path.{sym, ap, _∙_}
 use lib.ListN.{length}
 use Rattle.repair.proofs.Starts.{page-fits, page-length, slot-fits, slot-length, backup-some}
 use Rattle.repair.proofs.Replays.{stop-backup, begun-own, begun-backup, begun-format, begun-broken}

@@ -1,6 +1,6 @@
 -- `repair::rebuild` meets its contract: the start's body, the replay on it, and the image around it.
 use borrow.Author.Needs.{needs}
-use mathlib.Core.Path.{_≡_, _∙_}
+use mathlib.Core.Path.{_∙_}
 use native.Mathlib.Omega.{arith}
 use denote.Ref.{now}
 use Rattle.repair.proofs.Replays.{stop-is, body-length, around-length, built}

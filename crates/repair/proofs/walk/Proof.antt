@@ -1,6 +1,6 @@
 -- `repair::walk` meets its contract. The loop keeps `Down`: the numbers passed and the walk of the rest are the whole walk.
 use Prim.Native.Nat.{_<_}
-use mathlib.Core.Path.{_≡_, refl, sym, ap, _∙_}
+use mathlib.Core.Path.{_≡_, refl, sym, _∙_}
 use native.Mathlib.Omega.{arith}
 use borrow.Author.Needs.{needs}
 use denote.Ref.{now}
