@@ -4,12 +4,13 @@ use mathlib.Core.Bool.{Bool, true, false, cond, _&&_}
 use mathlib.Core.List.{List, [], _∷_}
 use lib.Dec.{T, eqb, eqb→eq}
 use Rattle.model.specs.AbstractLog.{AbstractLog, emptyLog}
-use Rattle.model.specs.History.{Machine, Event, step, stepLog, allowed, allAllowed, run, logAfter}
+use Rattle.model.specs.History.{Machine, Event, allowed, allAllowed, run, logAfter}
 use Rattle.model.specs.Claim.{fresh, reached, logOf}
 use Rattle.cases.specs.Opened.{opened}
 use Rattle.cases.specs.Rows.{same}
-use Rattle.cases.specs.Worked.{Worked, historyOf, joined, makes, answerTo, answersOf, taleFrom, taleOf, saysAnswers, changes, pagesOf, allReplay, agrees, computes, allCompute, Computed, AllComputed}
+use Rattle.cases.specs.Worked.{Worked, historyOf, joined, makes, answersOf, eventStep, taleFrom, taleOf, saysAnswers, changes, pagesOf, allReplay, agrees, computes, allCompute, Computed, AllComputed}
 use Rattle.cases.specs.Histories.{histories}
+use Rattle.cases.proofs.Steps.{machine-step, log-step, answer-step}
 use Rattle.cases.proofs.Cases.{left, right, equal}
 
 holds : (b : Bool) → T b → b ≡ true
@@ -21,21 +22,25 @@ holds false t = absurd t
 ok : (w : Machine) (b : AbstractLog) (es : List Event) → taleFrom w b es .ok ≡ allAllowed w es
 unfolding allAllowed
 ok w b [] = refl
-ok w b (e ∷ es) = ap (λ r. cond (allowed w e) r false) (ok (step w e) (stepLog w b e) es)
+ok w b (e ∷ es) =
+    ap (λ r. cond (allowed w e) r false)
+    (ok (eventStep w b e .machine) (eventStep w b e .log) es ∙ ap (λ x. allAllowed x es) (machine-step w b e))
 
 answered : (w : Machine) (b : AbstractLog) (es : List Event) → taleFrom w b es .answers ≡ answersOf w es
 answered w b [] = refl
-answered w b (e ∷ es) = ap (λ r. answerTo w e ∷ r) (answered (step w e) (stepLog w b e) es)
+answered w b (e ∷ es) =
+    ap₂ _∷_ (answer-step w b e) (answered (eventStep w b e .machine) (eventStep w b e .log) es ∙ ap (λ x. answersOf x es) (machine-step w b e))
 
 machine : (w : Machine) (b : AbstractLog) (es : List Event) → taleFrom w b es .machine ≡ run w es
 unfolding run
 machine w b [] = refl
-machine w b (e ∷ es) = machine (step w e) (stepLog w b e) es
+machine w b (e ∷ es) = machine (eventStep w b e .machine) (eventStep w b e .log) es ∙ ap (λ x. run x es) (machine-step w b e)
 
 log : (w : Machine) (b : AbstractLog) (es : List Event) → taleFrom w b es .log ≡ logAfter w b es
 unfolding logAfter
 log w b [] = refl
-log w b (e ∷ es) = log (step w e) (stepLog w b e) es
+log w b (e ∷ es) =
+    log (eventStep w b e .machine) (eventStep w b e .log) es ∙ ap₂ (λ x c. logAfter x c es) (machine-step w b e) (log-step w b e)
 
 -- ---- the law
 

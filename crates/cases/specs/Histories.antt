@@ -8,7 +8,7 @@ use Rattle.model.specs.Calls.{Call, begin, load, change, force, write, backup, 
 use Rattle.model.specs.AbstractLog.{Logged, old, new, torn}
 use Rattle.model.specs.History.{restart, perform, crash, crashIn, damage}
 use Rattle.model.specs.declared.change.Change.{Change}
-use Rattle.model.specs.declared.change.Change.the-variants.{Format, Slide}
+use Rattle.model.specs.declared.change.Change.the-variants.{Format, Put, Slide}
 use Rattle.model.specs.declared.answer.Class.the-variants.{Good, Behind, Stale, Failed}
 use Rattle.cases.specs.Build.{fromOwn, fromBackup, fromFormat, refused, done, idle, image, broken, backupNote, memory}
 use Rattle.cases.specs.Worked.{Told, Worked, told, quiet}
@@ -190,32 +190,31 @@ abbrev times {ℓ} : {A : Type ℓ} → ℕ → A → List A → List A
 times zero t ts = ts
 times (suc n) t ts = t ∷ times n t ts
 
--- The log filled: 16 records pending, a record in the place of one that was forced, the last number given.
+-- The log filled: 16 records pending with the last number given, then fewer.
 abbrev pub logFilled : Worked
 logFilled =
     record {
       name = "log filled";
-      pages = 1;
+      pages = 2;
       slots = 0;
-      records = 18;
+      records = 16;
       notes = 0;
       events =
-          told (restart (memory 1)) done
+          told (restart (memory 2)) done
           ∷ does (begin 1 1 0) done
           ∷ times 15 (does (slide 1 (1 ∷ [])) done)
           (does (slide 1 (2 ∷ [])) (refused 11)
+          ∷ does (begin 2 2 9) (refused 11)
           ∷ does force done
-          ∷ does (slide 1 (3 ∷ [])) done
-          ∷ times 2 (does force done)
-          (does (slide 1 (4 ∷ [])) done
-          ∷ does (slide 1 (5 ∷ [])) (refused 12)
-          ∷ times 15 (does force done)
-          (does force idle
+          ∷ does (slide 1 (2 ∷ [])) (refused 12)
+          ∷ does (begin 2 2 9) (refused 12)
+          ∷ does force done
+          ∷ does (change 1 (Put 201 44) (payload [])) (refused 6)
           ∷ does (write 1) (refused 14)
           ∷ quiet crash
-          ∷ [])));
-      kept = logged 1 (Format 0) [] ∷ times 15 (slid 1 (1 ∷ [])) (slid 1 (3 ∷ []) ∷ slid 1 (4 ∷ []) ∷ []);
-      shows = (fromFormat Failed 18 ++ (18 ∷ 4 ∷ 3 ∷ 1 ∷ 1 ∷ 1 ∷ 1 ∷ [])) ∷ [];
+          ∷ []);
+      kept = logged 1 (Format 0) [] ∷ slid 1 (1 ∷ []) ∷ [];
+      shows = (fromFormat Failed 2 ++ (2 ∷ 1 ∷ 0 ∷ 0 ∷ 0 ∷ 0 ∷ 0 ∷ [])) ∷ refused 7 ∷ [];
     }
 
 unfoldable pub histories : List Worked

@@ -3,7 +3,7 @@
 use Prim.Native.Nat.{ℕ, zero, suc}
 use Prim.Native.String.{String}
 use mathlib.Core.Path.{_≡_}
-use mathlib.Core.Bool.{Bool, true, false, cond, _&&_}
+use mathlib.Core.Bool.{Bool, true, false, cond, _&&_, not}
 use mathlib.Core.List.{List, [], _∷_, _++_, map}
 use lib.Dec.{eqb}
 use lib.ListN.{length, replicate, take}
@@ -11,9 +11,9 @@ use Rattle.model.specs.Bytes.{bytesOf, part}
 use Rattle.model.specs.Geometry.{lengthFor}
 use Rattle.model.specs.Change.{kindOf, lengthOf, offsetOf, fillOf}
 use Rattle.model.specs.Item.{imageLsn, imageBody}
-use Rattle.model.specs.Calls.{makeOf, inspectOf, restartOf, refusalOf}
-use Rattle.model.specs.AbstractLog.{Logged, AbstractLog, emptyLog, lastPlace, replay}
-use Rattle.model.specs.History.{Machine, Event, restart, perform, crash, crashIn, damage, lent, step, allowed, stepLog}
+use Rattle.model.specs.Calls.{StoredItem, Call, makeOf, inspectOf, restartOf, outcomeOf, volumeAfter, refusalOf}
+use Rattle.model.specs.AbstractLog.{Logged, AbstractLog, emptyLog, lastPlace, replay, forget, stepCall}
+use Rattle.model.specs.History.{Power, off, on, Machine, Event, restart, perform, crash, crashIn, damage, lent, step, allowed, stepLog}
 use Rattle.model.specs.Claim.{History, Legal, fresh, reached, keptOf}
 use Rattle.model.specs.declared.answer.Answer.{Answer}
 use Rattle.model.specs.declared.answer.Answer.the-variants.{Refused, Nothing, Done, Repaired}
@@ -67,8 +67,46 @@ abbrev pub answersOf : Machine → List Event → List (List ℕ)
 answersOf w [] = []
 answersOf w (e ∷ es) = answerTo w e ∷ answersOf (step w e) es
 
--- all that a history leaves, in one pass: that its events are allowed, their answers, the machine and the abstract log. (`allAllowed`, `run`
--- and `logAfter` each make every step again.)
+abbrev pub isRefused : Answer → Bool
+isRefused (Refused n) = true
+isRefused Nothing = false
+isRefused Done = false
+isRefused (Repaired r) = false
+
+-- an event's machine, abstract log and answer, from one outcome: `step`, `stepLog` and `answerTo` each compute it again
+pub record Step : Type 0 where
+  pub machine : Machine
+  pub log : AbstractLog
+  pub answer : List ℕ
+
+abbrev pub restartStep : List ℕ → List ℕ → List StoredItem → AbstractLog → Step
+restartStep v m past b =
+    let o = restartOf v m in
+    let r = isRefused (o .answer) in
+    record {
+      machine = record { volume = v; power = cond (not r) (on (o .memory) (o .state)) off; past = past };
+      log = cond (not r) (forget b) b;
+      answer = numbers (o .answer);
+    }
+
+abbrev pub callStep : Power → List ℕ → Call → List StoredItem → AbstractLog → Step
+callStep off v c past b = record { machine = record { volume = v; power = off; past = past }; log = b; answer = [] }
+callStep (on m s) v c past b =
+    let o = outcomeOf c v m s in
+    record {
+      machine = record { volume = volumeAfter v (o .stored); power = on (o .memory) (o .state); past = o .stored ∷ past };
+      log = cond (isRefused (o .answer)) b (stepCall b c);
+      answer = numbers (o .answer);
+    }
+
+abbrev pub eventStep : Machine → AbstractLog → Event → Step
+eventStep w b (restart m) = restartStep (w .volume) (lent (w .power) m) (w .past) b
+eventStep w b (perform c) = callStep (w .power) (w .volume) c (w .past) b
+eventStep w b crash = record { machine = step w crash; log = stepLog w b crash; answer = [] }
+eventStep w b (crashIn c l) = record { machine = step w (crashIn c l); log = stepLog w b (crashIn c l); answer = [] }
+eventStep w b (damage at xs) = record { machine = step w (damage at xs); log = stepLog w b (damage at xs); answer = [] }
+
+-- all that a history leaves, in one pass: that its events are allowed, their answers, the machine and the abstract log
 pub record Tale : Type 0 where
   pub ok : Bool
   pub answers : List (List ℕ)
@@ -78,8 +116,9 @@ pub record Tale : Type 0 where
 abbrev pub taleFrom : Machine → AbstractLog → List Event → Tale
 taleFrom w b [] = record { ok = true; answers = []; machine = w; log = b }
 taleFrom w b (e ∷ es) =
-    let rest = taleFrom (step w e) (stepLog w b e) es in
-    record { ok = cond (allowed w e) (rest .ok) false; answers = answerTo w e ∷ rest .answers; machine = rest .machine; log = rest .log }
+    let s = eventStep w b e in
+    let rest = taleFrom (s .machine) (s .log) es in
+    record { ok = cond (allowed w e) (rest .ok) false; answers = s .answer ∷ rest .answers; machine = rest .machine; log = rest .log }
 
 abbrev pub taleOf : History → Tale
 taleOf h = taleFrom (fresh h) emptyLog (h .events)
