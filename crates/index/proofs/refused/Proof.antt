@@ -2,8 +2,6 @@ use mathlib.Core.Path.{refl}
 use Rattle.model.specs.Index.{emptyIndex}
 use Rattle.index.proofs.refused.Statement.{statement}
 use Rattle.index.proofs.refused.Tie as tie
-use Rattle.index.proofs.refused.Reads as reads
-use Rattle.index.proofs.refused.Lts as lts
 
 returns : tie.Need-returns
 unfolding emptyIndex

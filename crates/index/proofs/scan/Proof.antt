@@ -4,13 +4,6 @@ use Rattle.index.proofs.Whole.{volume-refused, sized, log-refused, log-
 use borrow.Author.Needs.{needs}
 use Rattle.index.proofs.scan.Statement.{statement}
 use Rattle.index.proofs.scan.Tie as tie
-use Rattle.index.proofs.scan.Reads as reads
-use Rattle.index.proofs.scan.Lts as lts
-use Rattle.index.proofs.log.scan.Reads as log-scan-reads
-use Rattle.index.proofs.notes.scan.Reads as notes-scan-reads
-use Rattle.index.proofs.refused.Reads as refused-reads
-use Rattle.volume.proofs.heading.geometry.Reads as geometry-reads
-use Rattle.volume.proofs.heading.valid.Reads as valid-reads
 
 valid-requires : tie.Need-valid-requires
 valid-requires c κs = search needs

@@ -19,18 +19,6 @@ use Rattle.index.proofs.Pass.{Passed, Judged, run, run-full, run-here, 
 use Rattle.index.proofs.LogPass.{logItems, log-spaced, log-whole, log-none, log-judged, record-length}
 use Rattle.index.proofs.log.scan.Statement.{statement}
 use Rattle.index.proofs.log.scan.Tie as tie
-use Rattle.index.proofs.log.scan.Reads as reads
-use Rattle.index.proofs.log.scan.Lts as lts
-use Rattle.codec.proofs.checksum.holds.Reads as holds-reads
-use Rattle.index.proofs.log.fits.Reads as fits-reads
-use Rattle.index.proofs.log.logged.Reads as logged-reads
-use Rattle.index.proofs.rows.row.Reads as row-reads
-use Rattle.index.proofs.section.broken.Reads as broken-reads
-use Rattle.index.proofs.section.rest.Reads as rest-reads
-use Rattle.item.proofs.record.layout.Reads as layout-reads
-use Rattle.item.proofs.record.read.Reads as read-reads
-use Rattle.volume.proofs.place.record.Reads as record-reads
-use Rattle.volume.proofs.place.recordat.Reads as recordat-reads
 
 abbrev Inv-loop : tie.InvT-loop
 Inv-loop v g records pages index₀ n₀ index n = Passed v (logItems g v) n index

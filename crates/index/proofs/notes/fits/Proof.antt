@@ -1,9 +1,6 @@
 use borrow.Author.Needs.{needs}
 use Rattle.index.proofs.notes.fits.Statement.{statement}
 use Rattle.index.proofs.notes.fits.Tie as tie
-use Rattle.index.proofs.notes.fits.Reads as reads
-use Rattle.index.proofs.notes.fits.Lts as lts
-use Rattle.item.proofs.note.layout.Reads as layout-reads
 
 cast-own : tie.Need-cast-own
 cast-own c = search needs

@@ -2,8 +2,6 @@ use borrow.Author.Tests.{eq-eqb, ne-eqb}
 use borrow.Author.Needs.{needs}
 use Rattle.index.proofs.notes.follows.Statement.{statement}
 use Rattle.index.proofs.notes.follows.Tie as tie
-use Rattle.index.proofs.notes.follows.Reads as reads
-use Rattle.index.proofs.notes.follows.Lts as lts
 
 returns : tie.Need-returns
 returns c = rw (eq-eqb _ _ (c .before .before .if1 .taken))

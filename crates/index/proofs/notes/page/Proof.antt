@@ -6,10 +6,6 @@ use Rattle.index.proofs.NotePass.{record-page}
 use borrow.Author.Needs.{needs}
 use Rattle.index.proofs.notes.page.Statement.{statement}
 use Rattle.index.proofs.notes.page.Tie as tie
-use Rattle.index.proofs.notes.page.Reads as reads
-use Rattle.index.proofs.notes.page.Lts as lts
-use Rattle.codec.proofs.field.u16at.Reads as u16at-reads
-use Rattle.volume.proofs.place.recordat.Reads as recordat-reads
 
 recordat-requires : tie.Need-recordat-requires
 recordat-requires c κs = search needs

@@ -18,20 +18,6 @@ use Rattle.index.proofs.Pass.{Passed, Judged, run, run-full, run-here, 
 use Rattle.index.proofs.NotePass.{noteItems, note-spaced, note-whole, note-none, note-judged}
 use Rattle.index.proofs.notes.scan.Statement.{statement}
 use Rattle.index.proofs.notes.scan.Tie as tie
-use Rattle.index.proofs.notes.scan.Reads as reads
-use Rattle.index.proofs.notes.scan.Lts as lts
-use Rattle.codec.proofs.checksum.holds.Reads as holds-reads
-use Rattle.index.proofs.notes.fits.Reads as fits-reads
-use Rattle.index.proofs.notes.follows.Reads as follows-reads
-use Rattle.index.proofs.notes.page.Reads as page-reads
-use Rattle.index.proofs.rows.noted.Reads as noted-reads
-use Rattle.index.proofs.rows.row.Reads as row-reads
-use Rattle.index.proofs.rows.used.Reads as used-reads
-use Rattle.index.proofs.section.broken.Reads as broken-reads
-use Rattle.index.proofs.section.rest.Reads as rest-reads
-use Rattle.item.proofs.note.read.Reads as read-reads
-use Rattle.volume.proofs.place.note.Reads as note-reads
-use Rattle.volume.proofs.place.noteat.Reads as noteat-reads
 
 abbrev Inv-loop : tie.InvT-loop
 Inv-loop v g durable index₀ notes pages slots k₀ index k = Passed v (noteItems g v) k index

@@ -4,10 +4,6 @@ use Rattle.index.proofs.Entries.{row-below, entered}
 use borrow.Author.Needs.{needs}
 use Rattle.index.proofs.rows.enter.Statement.{statement}
 use Rattle.index.proofs.rows.enter.Tie as tie
-use Rattle.index.proofs.rows.enter.Reads as reads
-use Rattle.index.proofs.rows.enter.Lts as lts
-use Rattle.index.proofs.rows.noted.Reads as noted-reads
-use Rattle.index.proofs.rows.row.Reads as row-reads
 
 cast-row : tie.Need-cast-row
 cast-row c = search needs

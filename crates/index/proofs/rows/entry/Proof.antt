@@ -7,9 +7,6 @@ use Rattle.index.proofs.Entries.{row-below, row-is}
 use borrow.Author.Needs.{needs}
 use Rattle.index.proofs.rows.entry.Statement.{statement}
 use Rattle.index.proofs.rows.entry.Tie as tie
-use Rattle.index.proofs.rows.entry.Reads as reads
-use Rattle.index.proofs.rows.entry.Lts as lts
-use Rattle.index.proofs.rows.row.Reads as row-reads
 
 row-requires : tie.Need-row-requires
 row-requires c κs = search needs

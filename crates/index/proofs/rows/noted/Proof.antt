@@ -1,8 +1,6 @@
 use borrow.Author.Tests.{eq-eqb, ne-eqb}
 use Rattle.index.proofs.rows.noted.Statement.{statement}
 use Rattle.index.proofs.rows.noted.Tie as tie
-use Rattle.index.proofs.rows.noted.Reads as reads
-use Rattle.index.proofs.rows.noted.Lts as lts
 
 returns : tie.Need-returns
 returns c = rw (eq-eqb _ _ (c .if1 .taken))

@@ -3,8 +3,6 @@ use Rattle.index.specs.Rows.{rowOf}
 use borrow.Author.Needs.{needs}
 use Rattle.index.proofs.rows.row.Statement.{statement}
 use Rattle.index.proofs.rows.row.Tie as tie
-use Rattle.index.proofs.rows.row.Reads as reads
-use Rattle.index.proofs.rows.row.Lts as lts
 
 returns : tie.Need-returns
 unfolding rowOf

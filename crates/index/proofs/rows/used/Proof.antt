@@ -6,8 +6,6 @@ use Rattle.model.specs.Index.{slotUsed}
 use Rattle.index.proofs.Entries.{used-here, used-on, used-end}
 use Rattle.index.proofs.rows.used.Statement.{statement}
 use Rattle.index.proofs.rows.used.Tie as tie
-use Rattle.index.proofs.rows.used.Reads as reads
-use Rattle.index.proofs.rows.used.Lts as lts
 
 abbrev Inv-loop : tie.InvT-loop
 Inv-loop slot index i₀ i = (i ≤ 64) × (slotUsed slot (drop i index) ≡ slotUsed slot index)

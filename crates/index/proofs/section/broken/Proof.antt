@@ -2,8 +2,6 @@ use mathlib.Core.Path.{refl}
 use Rattle.model.specs.Index.{emptyIndex}
 use Rattle.index.proofs.section.broken.Statement.{statement}
 use Rattle.index.proofs.section.broken.Tie as tie
-use Rattle.index.proofs.section.broken.Reads as reads
-use Rattle.index.proofs.section.broken.Lts as lts
 
 returns : tie.Need-returns
 unfolding emptyIndex

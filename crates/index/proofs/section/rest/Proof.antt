@@ -5,9 +5,6 @@ use Rattle.index.proofs.Pass.{rest-fits, rest-part, rest-none}
 use borrow.Author.Needs.{needs}
 use Rattle.index.proofs.section.rest.Statement.{statement}
 use Rattle.index.proofs.section.rest.Tie as tie
-use Rattle.index.proofs.section.rest.Reads as reads
-use Rattle.index.proofs.section.rest.Lts as lts
-use Rattle.codec.proofs.part.zero.Reads as zero-reads
 
 returns : tie.Need-returns
 returns c = sym (rest-none _ _ _ _ _ (c .if1 .taken))
