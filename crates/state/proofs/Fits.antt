@@ -1,24 +1,32 @@
 -- The tests of a state as the code makes them: what its callees give comes to the model's clauses.
-use Prim.Native.Nat.{ℕ, _+_, _≤_, _<_}
-use mathlib.Core.Path.{_≡_, refl, sym, _∙_}
+use Prim.Native.Nat.{ℕ, _+_}
+use mathlib.Core.Path.{_≡_, refl, _∙_}
 use mathlib.Core.List.{List, [], _∷_}
 use mathlib.Core.Bool.{Bool, true, false, _||_, not, cond}
 use lib.Dec.{eqb, leb, ltb}
 use lib.ListN.{length}
 use native.Mathlib.Numerals.{add-one}
-use borrow.Author.Tests.{lt-ltb, le-ltb}
-use Rattle.laws.proofs.Tests.{when-true, when-false}
+use Rattle.laws.proofs.Tests.{every-same}
 use Rattle.model.specs.Tests.{Row, all, every, firstOf}
 use Rattle.model.specs.Geometry.{geometryOf, validVolume}
 use Rattle.model.specs.Index.{entryRow}
-use Rattle.model.specs.State.{frameCount, validMemory, frameRow, lastNumber, held, blank, pendingNoteFits, firstHolder, frameFits, entryFits, entryZero, pageFits, wellFormed}
+use Rattle.model.specs.State.{holderFrom, frameCount, validMemory, frameRow, blank, pendingNoteFits, frameFits, entryFits, pageFits, wellFormed}
 use Rattle.model.specs.Refusals.{stateRows}
+use Rattle.state.specs.Clauses.{firstIn, pageClauses, pageIn}
 use Rattle.model.specs.declared.geometry.Geometry.{Geometry}
 use Rattle.model.specs.declared.state.Entry.{Entry}
+use Rattle.model.specs.declared.state.Frame.{Frame}
 use Rattle.model.specs.declared.state.State.{State}
 
+-- the search's answer stands for the search
+pub page-is : (g : Geometry) (durable pending : ℕ) (table : List Frame) (index : List Entry) (i k : ℕ) (r : Bool)
+    → k ≡ holderFrom 0 (i + 1) table
+    → r ≡ pageClauses g durable pending (ltb 0 k) i (entryRow index i)
+    → r ≡ pageIn g durable pending table index i
+page-is g durable pending table index i k r ek er = er ∙ rw ek
+
 module _ (g : Geometry) (s : State) where
-  pub frame-is : (count i page : ℕ) (only none : Bool) → page ≡ frameRow s i .page → only ≡ firstHolder s i → none ≡ blank s page
+  pub frame-is : (count i page : ℕ) (only none : Bool) → page ≡ frameRow s i .page → only ≡ firstIn (s .frames) i → none ≡ blank s page
       → all
       (leb page (g .pages) ∷ (eqb page 0 || only) ∷ (eqb page 0 || not none) ∷ (not (eqb page 0) || not (frameRow s i .dirty))
       ∷ (ltb i count || eqb page 0) ∷ [])
@@ -26,21 +34,9 @@ module _ (g : Geometry) (s : State) where
   unfolding frameFits
   frame-is count i page only none ep eo en = rw (en, eo, ep)
 
-  pub entry-is : (p : ℕ) (e : Entry) (in-frame : Bool) → in-frame ≡ held s p
-      → all
-      (leb (e .last) (lastNumber s) ∷ leb (e .durable) (e .last) ∷ leb (e .durable) (s .durable) ∷ leb (e .written) (e .durable)
-      ∷ leb (e .backup) (e .durable) ∷ leb (e .slot) (g .slots) ∷ (in-frame || eqb (e .last) (e .durable)) ∷ [])
-      ≡ entryFits g s p e
-  unfolding entryFits
-  entry-is p e h eh = rw eh
-
-  pub page-in : (i : ℕ) (r : Bool) → i < g .pages → r ≡ entryFits g s (i + 1) (entryRow (s .index) i) → r ≡ pageFits g s i
-  unfolding pageFits
-  page-in i r l e = e ∙ rw add-one (sym (when-true _ _ (lt-ltb _ _ l)))
-
-  pub page-out : (i : ℕ) (r : Bool) → g .pages ≤ i → r ≡ entryZero (entryRow (s .index) i) → r ≡ pageFits g s i
-  unfolding pageFits
-  page-out i r l e = e ∙ sym (when-false _ _ (le-ltb _ _ l))
+  pub pages-are : every 64 (pageIn g (s .durable) (s .pending) (s .frames) (s .index)) ≡ every 64 (pageFits g s)
+  unfolding pageFits entryFits
+  pages-are = every-same (pageIn g (s .durable) (s .pending) (s .frames) (s .index)) (pageFits g s) 64 (λ i l. rw add-one)
 
   pub formed-is : (count : ℕ) (pending table index : Bool) → pending ≡ pendingNoteFits g (s .notes) (s .durable) (s .note)
       → table ≡ every 16 (frameFits g count s)

@@ -1,7 +1,7 @@
 // The frame table of a state.
 ghost use mathlib.Core.Path.{_≡_};
 ghost use Prim.Native.Nat.{_-_, _<_};
-ghost use Rattle.model.specs.State.{frameOf, holder, held};
+ghost use Rattle.model.specs.State.{frameOf, holderFrom, holder, held};
 use model::state::State;
 
 // The row of frame f, counted from 1; past the table an empty one.
@@ -19,18 +19,26 @@ pub fn frame(s: State, f: u32) -> model::state::Frame
     }
 }
 
-// The frame that holds the page, counted from 1; 0 if none does.
-pub fn holder(s: State, page: u32) -> u32
-    ensures { λ r. ⌜ r ≡ holder s page ⌝ }
+// The row of a frame table that holds the page, counted from 1; 0 if none does.
+pub fn search(table: [model::state::Frame; 16], page: u32) -> u32
+    ensures { λ r. ⌜ r ≡ holderFrom 0 page table ⌝ }
 {
     let mut i = 0;
     while i < 16 {
-        if crate::wide(s.frames[i].page) == page {
+        if crate::wide(table[i].page) == page {
             return i as u32 + 1;
         }
         i += 1;
     }
     0
+}
+
+// The frame that holds the page, counted from 1; 0 if none does.
+pub fn holder(s: State, page: u32) -> u32
+    ensures { λ r. ⌜ r ≡ holder s page ⌝ }
+{
+    let table = s.frames;
+    search(table, page)
 }
 
 // Whether some frame holds the page.

@@ -2,13 +2,15 @@
 ghost use mathlib.Core.Path.{_≡_};
 ghost use Prim.Native.Nat.{_+_, _<_};
 ghost use Rattle.model.specs.Tests.{every};
-ghost use Rattle.model.specs.State.{pendingNoteFits, firstHolder, frameFits, entryFits, entryZero, pageFits, wellFormed};
+ghost use Rattle.model.specs.State.{pendingNoteFits, frameFits, entryZero, pageFits, wellFormed};
+ghost use Rattle.state.specs.Clauses.{firstIn, entryClauses, pageClauses};
 ghost use Rattle.model.specs.declared.state.PendingNote.the-variants.{Present};
 use crate::entries;
 use crate::frames;
 use model::geometry::Geometry;
 use model::item::Note;
 use model::state::Entry;
+use model::state::Frame;
 use model::state::PendingNote;
 use model::state::State;
 
@@ -34,15 +36,15 @@ fn pendingfits(g: Geometry, notes: u32, durable: u32, p: PendingNote) -> bool
     }
 }
 
-// No frame before frame i, counted from 0, holds its page.
-fn firstholder(s: State, i: usize) -> bool
+// No row before row i holds its page.
+fn firstholder(table: [Frame; 16], i: usize) -> bool
     requires { ⌜ i < 16 ⌝ }
-    ensures { λ r. ⌜ r ≡ firstHolder s i ⌝ }
+    ensures { λ r. ⌜ r ≡ firstIn table i ⌝ }
 {
-    let page = s.frames[i].page;
+    let page = table[i].page;
     let mut j = 0;
     while j < i {
-        if s.frames[j].page == page {
+        if table[j].page == page {
             return false;
         }
         j += 1;
@@ -58,7 +60,8 @@ fn framefits(g: Geometry, count: usize, s: State, i: usize) -> bool
     let page = crate::wide(s.frames[i].page);
     let dirty = s.frames[i].dirty;
     let empty = page == 0;
-    let only = firstholder(s, i);
+    let table = s.frames;
+    let only = firstholder(table, i);
     let blank = entries::blank(s, page);
     (page <= g.pages)
         & ((empty | only) & ((empty | !blank) & ((!empty | !dirty) & ((i < count) | empty))))
@@ -78,15 +81,14 @@ fn framesfit(g: Geometry, count: usize, s: State) -> bool
     true
 }
 
-// The entry may be that of page p, one of the volume's.
-fn entryfits(g: Geometry, s: State, p: u32, e: Entry) -> bool
-    ensures { λ r. ⌜ r ≡ entryFits g s p e ⌝ }
+// The entry may be that of one of the volume's pages, which is in a frame or not.
+fn entryfits(g: Geometry, durable: u32, pending: u32, inframe: bool, e: Entry) -> bool
+    ensures { λ r. ⌜ r ≡ entryClauses g durable pending inframe e ⌝ }
 {
-    let last = s.durable as u64 + s.pending as u64;
-    let inframe = frames::held(s, p);
+    let last = durable as u64 + pending as u64;
     (e.last as u64 <= last)
         & ((e.durable <= e.last)
-            & ((e.durable <= s.durable)
+            & ((e.durable <= durable)
                 & ((e.written <= e.durable)
                     & ((e.backup <= e.durable)
                         & ((e.slot as u32 <= g.slots) & (inframe | (e.last == e.durable)))))))
@@ -99,26 +101,30 @@ fn entryzero(e: Entry) -> bool
     (e.last == 0) & ((e.durable == 0) & ((e.written == 0) & ((e.slot == 0) & (e.backup == 0))))
 }
 
-// The entry of page i + 1 is as it may be.
-fn pagefits(g: Geometry, s: State, i: usize) -> bool
-    requires { ⌜ i < 64 ⌝ }
-    ensures { λ r. ⌜ r ≡ pageFits g s i ⌝ }
+// The entry may be that of page i + 1.
+fn pagefits(g: Geometry, durable: u32, pending: u32, inframe: bool, i: usize, e: Entry) -> bool
+    ensures { λ r. ⌜ r ≡ pageClauses g durable pending inframe i e ⌝ }
 {
-    let e = s.index[i];
     if i < g.pages as usize {
-        entryfits(g, s, i as u32 + 1, e)
+        entryfits(g, durable, pending, inframe, e)
     } else {
         entryzero(e)
     }
 }
 
-// All entries are as they may be.
+// All entries are as they may be. The tables are copied once: a state that is passed at each turn costs more than the tests.
 fn pagesfit(g: Geometry, s: State) -> bool
     ensures { λ r. ⌜ r ≡ every 64 (pageFits g s) ⌝ }
 {
+    let durable = s.durable;
+    let pending = s.pending;
+    let table = s.frames;
+    let index = s.index;
     let mut i = 0;
     while i < 64 {
-        if !pagefits(g, s, i) {
+        let e = index[i];
+        let f = frames::search(table, i as u32 + 1);
+        if !pagefits(g, durable, pending, 0 < f, i, e) {
             return false;
         }
         i += 1;

@@ -8,15 +8,16 @@ use borrow.Author.Needs.{needs}
 use borrow.Author.Tests.{eq-eqb, ne-eqb}
 use Rattle.laws.proofs.Tests.{every-none, every-more, every-fails}
 use Rattle.model.specs.Tests.{every}
-use Rattle.model.specs.State.{frameRow}
+use Rattle.model.specs.State.{emptyFrame}
+use lib.ListN.{getD}
 use Rattle.state.proofs.wellformed.firstholder.Statement.{statement}
 use Rattle.state.proofs.wellformed.firstholder.Tie as tie
 
 abbrev Inv-loop : tie.InvT-loop
-Inv-loop i s page j₀ j = (j ≤ i) × (every j (λ k. not (eqb (frameRow s k .page) page)) ≡ true)
+Inv-loop i table page j₀ j = (j ≤ i) × (every j (λ k. not (eqb (getD table k emptyFrame .page) page)) ≡ true)
 
 abbrev μ-loop : tie.MeasureT-loop
-μ-loop i s page j₀ j = i - j
+μ-loop i table page j₀ j = i - j
 
 mul-page : tie.Need-mul-page Inv-loop μ-loop
 mul-page c = search needs

@@ -27,7 +27,7 @@ blank-requires c κs = search needs
 
 returns : tie.Need-returns
 returns c =
-    frame-is _ _ _ _ _ _ _ (c .before .before .before .wide .ensures) (c .before .before .firstholder .ensures) (c .before .blank .ensures)
+    frame-is _ _ _ _ _ _ _ (c .before .before .before .before .wide .ensures) (c .before .before .firstholder .ensures) (c .before .blank .ensures)
 
 pub framefits-spec : {M : Type 1} → statement M
 framefits-spec =

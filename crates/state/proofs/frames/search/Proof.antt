@@ -1,22 +1,22 @@
--- `state::frames::holder` meets its contract.
+-- `state::frames::search` meets its contract.
 use Prim.Native.Nat.{_≤_, _<_, _-_}
 use mathlib.Core.Path.{_≡_, refl, sym, _∙_}
 use lib.ListN.{length, drop}
 use native.Mathlib.Omega.{arith}
 use borrow.Author.Needs.{needs}
-use Rattle.model.specs.State.{holderFrom, holder}
+use Rattle.model.specs.State.{holderFrom}
 use Rattle.state.proofs.Tables.{length-mapped, holder-here, holder-later, holder-end}
-use Rattle.state.proofs.frames.holder.Statement.{statement}
-use Rattle.state.proofs.frames.holder.Tie as tie
+use Rattle.state.proofs.frames.search.Statement.{statement}
+use Rattle.state.proofs.frames.search.Tie as tie
 
 abbrev Inv-loop : tie.InvT-loop
-Inv-loop page s i₀ i = (i ≤ 16) × (holderFrom i page (drop i (s .frames)) ≡ holder s page)
+Inv-loop page table i₀ i = (i ≤ 16) × (holderFrom i page (drop i table) ≡ holderFrom 0 page table)
 
 abbrev μ-loop : tie.MeasureT-loop
-μ-loop page s i₀ i = 16 - i
+μ-loop page table i₀ i = 16 - i
 
 -- the table's length
-long : (c : tie.Start Inv-loop μ-loop) → length (c .args .t1 .frames) ≡ 16
+long : (c : tie.Start Inv-loop μ-loop) → length (c .args .t1) ≡ 16
 long c = search (needs, length-mapped)
 
 loop-holds : tie.Need-loop-holds Inv-loop μ-loop
@@ -40,7 +40,7 @@ add-result c = search needs
 returns : tie.Need-returns Inv-loop μ-loop
 returns c =
     let k = c .before .before .before in
-    let l : k .loop .i < length (k .before .args .t1 .frames) = omega (arith, long (k .before)) in
+    let l : k .loop .i < length (k .before .args .t1) = omega (arith, long (k .before)) in
     sym (holder-here _ _ _ l (sym (c .before .wide .ensures) ∙ c .if1 .taken)) ∙ k .loop .inv .1
 
 add-i : tie.Need-add-i Inv-loop μ-loop
@@ -52,16 +52,16 @@ loop-less c = search needs
 loop-again : tie.Need-loop-again Inv-loop μ-loop
 loop-again c =
     let k = c .before .before .before in
-    let l : k .loop .i < length (k .before .args .t1 .frames) = omega (arith, long (k .before)) in
+    let l : k .loop .i < length (k .before .args .t1) = omega (arith, long (k .before)) in
     (search needs, sym (holder-later _ _ _ l (λ e. c .if1 .left (c .before .wide .ensures ∙ e))) ∙ k .loop .inv .1)
 
 returns-2 : tie.Need-returns-2 Inv-loop μ-loop
 returns-2 c =
-    let l : length (c .before .before .args .t1 .frames) ≤ c .before .loop .i = omega (arith, long (c .before .before)) in
+    let l : length (c .before .before .args .t1) ≤ c .before .loop .i = omega (arith, long (c .before .before)) in
     sym (holder-end _ _ _ l) ∙ c .before .loop .inv .1
 
-pub holder-spec : {M : Type 1} → statement M
-holder-spec =
+pub search-spec : {M : Type 1} → statement M
+search-spec =
     tie.close
     (tie.spec
     Inv-loop
