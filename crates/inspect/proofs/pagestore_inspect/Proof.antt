@@ -1,0 +1,29 @@
+-- `inspect::pagestore_inspect` hands on what `inspect` ensures.
+use mathlib.Core.Path.{ap, _∙_}
+use Rattle.model.specs.Calls.{refusalOf}
+use borrow.Author.Needs.{needs}
+use Rattle.inspect.proofs.pagestore_inspect.Statement.{statement}
+use Rattle.inspect.proofs.pagestore_inspect.Tie as tie
+use Rattle.inspect.proofs.pagestore_inspect.Reads as reads
+use Rattle.inspect.proofs.pagestore_inspect.Lts as lts
+use Rattle.inspect.proofs.inspect.Reads as inspect-reads
+use Rattle.inspect.proofs.number.Reads as number-reads
+
+-- src/lib.rt:70:12
+inspect-requires : tie.Need-inspect-requires
+inspect-requires c κs = search needs
+
+-- src/lib.rt:70:5
+number-requires : tie.Need-number-requires
+number-requires c κs = search needs
+
+-- src/lib.rt:65:1
+same-length : tie.Need-same-length
+same-length c = search needs
+
+-- src/lib.rt:65:1
+returns : tie.Need-returns
+returns c = let e = c .before .before .before .inspect .ensures in (c .number .ensures ∙ ap refusalOf (e .0), e .1)
+
+pub pagestore-inspect-spec : {M : Type 1} → statement M
+pagestore-inspect-spec = tie.close (tie.spec inspect-requires number-requires same-length returns)
