@@ -15,5 +15,30 @@ test:
 mutants:
 	@python3 tools/mutants.py
 
-demo:
-	@echo "There is no program yet: the definitions stand, the code comes next."
+# make scan VOLUME=file   the program on a volume of your own (at most 32,768 bytes)
+.PHONY: scan scan-program c-test demo-check
+scan-program:
+	@echo "Proving and building the program (a few minutes the first time; each crate says when it is proved):"
+	@rt check scan
+
+demo: scan-program
+	@echo
+	@echo "A sample volume of six pages after a night of power cuts: page, class of its image on disk, where the repair starts, records replayed."
+	@echo "\$$ scan < samples/demo.vol"
+	@./target/bin/scan < samples/demo.vol
+
+scan: scan-program
+	@test -n "$(VOLUME)" || { echo "say which volume: make scan VOLUME=file"; exit 2; }
+	@./target/bin/scan < "$(VOLUME)"
+
+# make demo-check         the program on the sample volume against what it must print
+demo-check: scan-program
+	@python3 tools/sample.py demo target/demo.vol && cmp target/demo.vol samples/demo.vol
+	@./target/bin/scan < samples/demo.vol | diff - samples/demo.txt
+
+# make c-test             the C function through the static library: K6 to K12, every refusal, full and smallest volumes
+c-test:
+	@rt staticlib inspect
+	@mkdir -p target/c
+	@gcc -Wall -Wextra -Werror -std=c11 -O2 -Iinclude tests/c/inspect_test.c target/staticlib/libinspect.a -o target/c/inspect_test
+	@./target/c/inspect_test

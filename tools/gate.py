@@ -10,6 +10,8 @@ import sys
 # Further checks, in order: what it is, and the command that must exit with 0.
 CHECKS = [
     ("layout of the sources (rt fmt --check)", ["rt", "fmt", "--check"]),
+    ("the program on the sample volume", ["make", "--no-print-directory", "demo-check"]),
+    ("the C function: cases, refusals, full volumes", ["make", "--no-print-directory", "c-test"]),
 ]
 
 

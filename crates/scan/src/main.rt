@@ -1,0 +1,85 @@
+// The program of a field engineer: reads one volume of at most 32,768 bytes from standard input and prints, a line for each page, how Inspect
+// found it. A refusal, or a longer input, is the only line. All that matters is in `inspect`, which is proved; this file only prints.
+use libc::STDIN_FILENO;
+use libc::STDOUT_FILENO;
+use model::answer::Answer;
+use model::answer::Class;
+use model::answer::Repair;
+use model::answer::Start;
+
+fn print_number(n: u32) {
+    io::print_decimal(STDOUT_FILENO, n as u64);
+}
+
+fn print_refused(n: u32) {
+    io::write_all(STDOUT_FILENO, b"REFUSED ");
+    print_number(n);
+    io::write_all(STDOUT_FILENO, b"\n");
+}
+
+fn print_class(c: Class) {
+    match c {
+        Class::Good => io::write_all(STDOUT_FILENO, b" GOOD"),
+        Class::Behind => io::write_all(STDOUT_FILENO, b" BEHIND"),
+        Class::Stale => io::write_all(STDOUT_FILENO, b" STALE"),
+        Class::Failed => io::write_all(STDOUT_FILENO, b" FAILED"),
+    }
+    ;
+}
+
+fn print_start(s: Start) {
+    match s {
+        Start::Own => io::write_all(STDOUT_FILENO, b" OWN "),
+        Start::Backup => io::write_all(STDOUT_FILENO, b" BACKUP "),
+        Start::Format => io::write_all(STDOUT_FILENO, b" FORMAT "),
+    }
+    ;
+}
+
+fn print_repair(page: u32, r: Repair) {
+    let class = r.class;
+    let start = r.start;
+    print_number(page);
+    print_class(class);
+    print_start(start);
+    print_number(r.count);
+    io::write_all(STDOUT_FILENO, b"\n");
+}
+
+// Prints a page's line; false where the volume is refused, and that is the only line.
+fn print_page(volume: &[u8], page: u32) -> bool {
+    let mut buffer = [0u8; 256];
+    match inspect::inspect(volume, page, &mut buffer) {
+        Answer::Repaired(r) => print_repair(page, r),
+        Answer::Refused(n) => {
+            if n != 7 {
+                print_refused(n);
+                return false;
+            }
+            print_number(page);
+            io::write_all(STDOUT_FILENO, b" BLANK\n");
+        }
+        Answer::Nothing => {}
+        Answer::Done => {}
+    }
+    true
+}
+
+fn main() {
+    let mut space = [0u8; 32769];
+    let n = io::read_full(STDIN_FILENO, &mut space);
+    if 32768 < n {
+        print_refused(1);
+        return;
+    }
+    let volume = &space[..n];
+    let pages = volume::heading::geometry(volume).pages;
+    let mut page: u32 = 1;
+    while page < pages {
+        if !print_page(volume, page) {
+            return;
+        }
+        page += 1;
+    }
+    print_page(volume, page);
+}
