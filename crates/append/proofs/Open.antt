@@ -1,21 +1,21 @@
 -- What is known once Begin or Change is not refused: the page, its frame, the numbers and the room in the memory.
 use mathlib.Core.Path.{_≡_, refl}
-use mathlib.Core.Bool.{Bool, true, false, not}
+use mathlib.Core.Bool.{true, false}
 use mathlib.Core.List.{List}
-use Prim.Native.Nat.{ℕ, _+_, _-_, _*_, _≤_, _<_}
+use Prim.Native.Nat.{ℕ, _+_, _-_, _≤_, _<_}
 use native.Mathlib.Omega.{arith}
 use lib.Dec.{leb}
 use lib.ListN.{length, getD}
 use borrow.Author.Tests.{leb-false, eqb-false, not-false}
 use Rattle.laws.proofs.Tests.{none-at, within-bounds}
 use Rattle.laws.proofs.Places.{valid-facts}
-use Rattle.laws.proofs.WellFormed.{Ready, ready, holder-low, holder-high, holder-within, frame-within}
+use Rattle.laws.proofs.WellFormed.{Ready, ready, holder-low, holder-within, frame-within}
 use Rattle.append.specs.Rows.{beginTail, changeTail}
 use Rattle.model.specs.Tests.{Row, firstOf, within}
 use Rattle.model.specs.Geometry.{geometryOf}
 use Rattle.model.specs.Change.{fits}
 use Rattle.model.specs.State.{frameCount, frameAt, lastNumber, holder, held}
-use Rattle.model.specs.Refusals.{stateRows, beginRows, changeRows}
+use Rattle.model.specs.Refusals.{beginRows, changeRows}
 use Rattle.model.specs.declared.change.Change.{Change}
 use Rattle.model.specs.declared.state.State.{State}
 

@@ -29,6 +29,10 @@ left : (t t′ : State) (w w′ : List ℕ) → t ≡ t′ → w ≡ w′
     → _≡_ {A = Outcome} (record { answer = Done; state = t; memory = w; stored = nothing }) (record { answer = Done; state = t′; memory = w′; stored = nothing })
 left t t′ w w′ et ew = rw (et, ew)
 
+-- the number that the code found is 0: no row holds
+pub no-row : (k n : ℕ) → k ≡ n → k ≡ 0 → n ≡ 0
+no-row k n e z = sym e ∙ z
+
 -- the clauses of a call's contract, from one equation
 pub clauses : {o p : Outcome} → o ≡ p → (replyOf o ≡ replyOf p) × (o .memory ≡ p .memory)
 clauses e = (ap replyOf e, ap (λ (x : Outcome). x .memory) e)

@@ -1,7 +1,7 @@
 // Begin: the first format of a blank page.
 ghost use mathlib.Core.Path.{_≡_};
 ghost use mathlib.Core.List.{List};
-ghost use Prim.Native.Nat.{ℕ, _+_, _-_, _≤_, _<_};
+ghost use Prim.Native.Nat.{ℕ, _<_};
 ghost use lib.ListN.{length, replicate};
 ghost use Rattle.append.specs.Rows.{beginTail};
 ghost use Rattle.model.specs.Tests.{firstOf};
@@ -56,7 +56,7 @@ fn format(x: &mut [u8], page: u32, lsn: u32, fill: u8)
 }
 
 // Begins a blank page in a frame: its format is pending, the frame is dirty, and a clean page in it makes way.
-// Ruled out: refusing 12 while the log has room; a dirty frame's page that makes way.
+// Ruled out, for example: 12 while the log has room; a dirty frame's page that makes way; a refusal that clears the frame.
 pub fn begin(s: State, volume: &[u8], memory: &mut [u8], page: u32, frame: u32, fill: u8) -> Reply
     ensures reply { λ r. ⌜ r ≡ replyOf (beginOf (now (volume .entry)) (now (memory .entry)) s page frame fill) ⌝ }
     ensures memory { λ _. ⌜ now (memory .exit) ≡ beginOf (now (volume .entry)) (now (memory .entry)) s page frame fill .memory ⌝ }

@@ -2,7 +2,7 @@
 ghost use mathlib.Core.Path.{_≡_};
 ghost use mathlib.Core.Bool.{true};
 ghost use mathlib.Core.List.{List};
-ghost use Prim.Native.Nat.{ℕ, _+_, _-_, _≤_, _<_};
+ghost use Prim.Native.Nat.{ℕ};
 ghost use lib.ListN.{length};
 ghost use Rattle.append.specs.Rows.{changeTail};
 ghost use Rattle.model.specs.Tests.{firstOf};
@@ -57,7 +57,7 @@ fn alter(x: &mut [u8], lsn: u32, c: Change, payload: [u8; 44])
 }
 
 // Changes a page that a frame holds: the record is pending, the frame is dirty.
-// Ruled out: changing a page that no frame holds; refusing 12 while the log has room.
+// Ruled out, for example: a page changed that no frame holds; a record that skips the page's pending ones.
 pub fn change(
     s: State,
     volume: &[u8],

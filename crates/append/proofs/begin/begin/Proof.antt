@@ -1,8 +1,8 @@
 -- `append::begin::begin` meets its contract.
-use mathlib.Core.Path.{_≡_, refl, sym, _∙_}
+use mathlib.Core.Path.{_≡_, refl}
 use native.Mathlib.Omega.{arith}
 use denote.Ref.{now}
-use Rattle.append.proofs.Outcomes.{clauses, begin-refused, begin-done}
+use Rattle.append.proofs.Outcomes.{no-row, clauses, begin-refused, begin-done}
 use Rattle.append.proofs.Parts.{lent-length, format-fits, begun-is}
 use Rattle.append.proofs.Open.{Open, begin-open}
 use Rattle.model.specs.Tests.{firstOf}
@@ -13,7 +13,10 @@ use Rattle.append.proofs.begin.begin.Tie as tie
 
 -- past the test: no row holds, and what that tells
 none : (c : tie.Else1) → let s = c .before .before .before .before in firstOf (beginRows (now (s .args .volume)) (now (s .args .memory)) (s .args .s) (s .args .page) (s .args .frame)) ≡ 0
-none c = let s = c .before .before .before .before in sym (c .before .refusal .ensures (now (s .args .memory)) refl) ∙ c .if1 .left
+none c =
+    let s = c .before .before .before .before in
+    no-row (c .before .refusal .result) (firstOf (beginRows (now (s .args .volume)) (now (s .args .memory)) (s .args .s) (s .args .page) (s .args .frame)))
+    (c .before .refusal .ensures (now (s .args .memory)) refl) (c .if1 .left)
 
 known : (c : tie.Else1) → let s = c .before .before .before .before in Open (now (s .args .memory)) (s .args .s) (s .args .page) (s .args .frame)
 known c = begin-open _ _ _ _ _ (none c)

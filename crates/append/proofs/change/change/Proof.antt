@@ -1,11 +1,11 @@
 -- `append::change::change` meets its contract.
-use mathlib.Core.Path.{_≡_, refl, sym, ap, _∙_}
+use mathlib.Core.Path.{_≡_, refl, ap, _∙_}
 use mathlib.Core.Bool.{true}
 use native.Mathlib.Omega.{arith}
 use denote.Ref.{now}
 use lib.ListN.{length}
 use Rattle.state.proofs.Tables.{length-mapped}
-use Rattle.append.proofs.Outcomes.{clauses, change-refused, change-done}
+use Rattle.append.proofs.Outcomes.{no-row, clauses, change-refused, change-done}
 use Rattle.append.proofs.Parts.{lent-length, altered-is}
 use Rattle.append.proofs.Open.{Open, change-open, change-fits}
 use Rattle.model.specs.Tests.{firstOf}
@@ -19,7 +19,10 @@ use Rattle.append.proofs.change.change.Tie as tie
 
 -- past the test: no row holds, and what that tells
 none : (c : tie.Else1) → let s = c .before .before .before .before in firstOf (changeRows (now (s .args .volume)) (now (s .args .memory)) (s .args .s) (s .args .page) (s .args .change)) ≡ 0
-none c = let s = c .before .before .before .before in sym (c .before .refusal .ensures (now (s .args .memory)) refl) ∙ c .if1 .left
+none c =
+    let s = c .before .before .before .before in
+    no-row (c .before .refusal .result) (firstOf (changeRows (now (s .args .volume)) (now (s .args .memory)) (s .args .s) (s .args .page) (s .args .change)))
+    (c .before .refusal .ensures (now (s .args .memory)) refl) (c .if1 .left)
 
 known : (c : tie.Else1) → let s = c .before .before .before .before in Open (now (s .args .memory)) (s .args .s) (s .args .page) (holder (s .args .s) (s .args .page))
 known c =
