@@ -1,0 +1,5 @@
+-- Laws that belong to no one function.
+pub mod Refused
+pub mod Outcomes
+pub mod Room
+pub mod Parts

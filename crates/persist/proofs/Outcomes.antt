@@ -1,0 +1,112 @@
+-- What the definitions of Write, Backup and Note say in each of their cases.
+use mathlib.Core.Path.{_≡_, refl, sym, ap, _∙_}
+use mathlib.Core.Bool.{Bool, true, false, cond}
+use mathlib.Core.List.{List, []}
+use Prim.Native.Nat.{ℕ, _+_, _-_}
+use lib.Dec.{eqb}
+use borrow.Author.Tests.{eq-eqb, ne-eqb}
+use Rattle.laws.proofs.Tests.{when-true, when-false}
+use Rattle.model.specs.Tests.{Row, firstOf}
+use Rattle.model.specs.Bytes.{splice}
+use Rattle.model.specs.Checksum.{sealImage}
+use Rattle.model.specs.Item.{imageLsn, noteBytes}
+use Rattle.model.specs.Geometry.{Place, pageAt, slotAt, noteAt, start, store, geometryOf}
+use Rattle.model.specs.State.{frameBytes, frameOf, holder, lastNote}
+use Rattle.model.specs.Refusals.{stateRows, pageDirty, writeRows, backupRows, noteRows}
+use Rattle.model.specs.Calls.{Outcome, StoredItem, nothing, oneItem, unchanged, decided, withFrame, withFrames, nextNote, writeOf, backupOf, notedState, noteStored, noteCall, replyOf, volumeAfter}
+use Rattle.model.specs.declared.geometry.Geometry.{Geometry}
+use Rattle.model.specs.declared.item.Note.{Note}
+use Rattle.model.specs.declared.state.Frame.{Frame}
+use Rattle.model.specs.declared.state.PendingNote.the-variants.{Absent, Present}
+use Rattle.model.specs.declared.state.State.{State}
+use Rattle.model.specs.declared.answer.Answer.{Answer}
+use Rattle.model.specs.declared.answer.Answer.the-variants.{Refused, Nothing, Done}
+use Rattle.model.specs.declared.answer.Reply.{Reply}
+
+-- what a call has to show: its reply and the volume that it leaves are those of an outcome
+abbrev pub Gives : List ℕ → Answer → State → List ℕ → Outcome → Type 0
+Gives v a t w o = (_≡_ {A = Reply} (record { answer = a; state = t }) (replyOf o)) × (w ≡ volumeAfter v (o .stored))
+
+gives-is : (v : List ℕ) (a : Answer) (t : State) (w : List ℕ) (o p : Outcome) → o ≡ p → Gives v a t w o → Gives v a t w p
+gives-is v a t w o p e h = rw e at h
+
+-- what a table decides
+module _ (v m : List ℕ) (s : State) (rows : List Row) (done : Outcome) where
+  refused : (n : ℕ) → n ≡ firstOf rows → (n ≡ 0 → ⊥) → Gives v (Refused n) s v (decided rows m s done)
+  unfolding volumeAfter
+  refused n e ne = rw (ne-eqb (firstOf rows) 0 (λ z. ne (e ∙ z))) (ap (λ (k : ℕ). record { answer = Refused k; state = s }) e, refl)
+
+  passed : firstOf rows ≡ 0 → done ≡ decided rows m s done
+  passed e = sym (when-true _ _ (eq-eqb _ _ e))
+
+idle : (v m : List ℕ) (s : State) → Gives v Nothing s v (unchanged Nothing m s)
+unfolding volumeAfter
+idle v m s = (refl, refl)
+
+-- an item stored at a place; the code's geometry and offset
+stored : (v m : List ℕ) (t u : State) (g : Geometry) (k : ℕ) (w x y : List ℕ) (at : Place) → t ≡ u → x ≡ y → g ≡ geometryOf v → k ≡ start g at
+    → w ≡ splice v k x
+    → Gives v Done t w (record { answer = Done; state = u; memory = m; stored = oneItem at y })
+unfolding volumeAfter store
+stored v m t u g k w x y at et ex eg ek ew =
+    (ap (λ (q : State). record { answer = Done; state = q }) et, ew ∙ rw (ek, eg, ex))
+
+-- ---- Write and Backup: f is the code's frame, lsn its page lsn
+module _ (v m : List ℕ) (s : State) (page : ℕ) where
+  pub write-refused : (n : ℕ) → n ≡ firstOf (writeRows v m s page) → (n ≡ 0 → ⊥) → Gives v (Refused n) s v (writeOf v m s page)
+  unfolding writeOf
+  write-refused n = refused v m s (writeRows v m s page) _ n
+
+  pub backup-refused : (slot n : ℕ) → n ≡ firstOf (backupRows v m s page slot) → (n ≡ 0 → ⊥) → Gives v (Refused n) s v (backupOf v m s page slot)
+  unfolding backupOf
+  backup-refused slot n = refused v m s (backupRows v m s page slot) _ n
+
+  -- the code's frame says whether the page is dirty
+  pub dirty-is : (f : ℕ) (x : Frame) (b : Bool) → f ≡ holder s page → x ≡ frameOf s f → x .dirty ≡ b → pageDirty s page ≡ b
+  dirty-is f x b ef ex e = ap (λ (i : ℕ). frameOf s i .dirty) (sym ef) ∙ ap (λ (y : Frame). y .dirty) (sym ex) ∙ e
+
+  pub write-idle : firstOf (writeRows v m s page) ≡ 0 → pageDirty s page ≡ false → Gives v Nothing s v (writeOf v m s page)
+  unfolding writeOf
+  write-idle e d = gives-is v Nothing s v (unchanged Nothing m s) _ (sym (when-false _ _ d) ∙ passed v m s (writeRows v m s page) _ e) (idle v m s)
+
+  module _ (g : Geometry) (f lsn k : ℕ) (t : State) (w : List ℕ) (eg : g ≡ geometryOf v) (ef : f ≡ holder s page) (el : lsn ≡ imageLsn (frameBytes m f))
+      (ew : w ≡ splice v k (sealImage g (frameBytes m f))) where
+    image-is : sealImage g (frameBytes m f) ≡ sealImage (geometryOf v) (frameBytes m (holder s page))
+    image-is = ap (λ (i : ℕ). sealImage g (frameBytes m i)) ef
+
+    pub write-done : firstOf (writeRows v m s page) ≡ 0 → pageDirty s page ≡ true → k ≡ start g (pageAt page)
+        → t ≡ withFrames s (withFrame s f page false) (nextNote s page 1 0 lsn)
+        → Gives v Done t w (writeOf v m s page)
+    unfolding writeOf
+    write-done e d ek et =
+        gives-is v Done t w _ _ (sym (when-true _ _ d) ∙ passed v m s (writeRows v m s page) _ e)
+        (stored v m t _ g k w (sealImage g (frameBytes m f)) _ (pageAt page) (et ∙ rw (el, ef)) image-is eg ek ew)
+
+    pub backup-done : (slot : ℕ) → firstOf (backupRows v m s page slot) ≡ 0 → k ≡ start g (slotAt slot)
+        → t ≡ withFrames s (s .frames) (nextNote s page 2 slot lsn)
+        → Gives v Done t w (backupOf v m s page slot)
+    unfolding backupOf
+    backup-done slot e ek et =
+        gives-is v Done t w _ _ (passed v m s (backupRows v m s page slot) _ e)
+        (stored v m t _ g k w (sealImage g (frameBytes m f)) _ (slotAt slot) (et ∙ rw (el, ef)) image-is eg ek ew)
+
+-- ---- Note
+module _ (v m : List ℕ) (s : State) where
+  pub note-refused : (n : ℕ) → n ≡ firstOf (stateRows v m s []) → (n ≡ 0 → ⊥) → Gives v (Refused n) s v (noteCall v m s)
+  unfolding noteCall noteRows
+  note-refused n = refused v m s (stateRows v m s []) _ n
+
+  pub note-idle : firstOf (stateRows v m s []) ≡ 0 → s .note ≡ Absent → Gives v Nothing s v (noteCall v m s)
+  unfolding noteCall noteRows
+  note-idle e d =
+      gives-is v Nothing s v (unchanged Nothing m s) _ (sym (ap (noteStored v m s) d) ∙ passed v m s (stateRows v m s []) _ e) (idle v m s)
+
+  pub note-done : (n : Note) (g : Geometry) (k : ℕ) (t : State) (w : List ℕ) → firstOf (stateRows v m s []) ≡ 0 → s .note ≡ Present n → g ≡ geometryOf v
+      → k ≡ start g (noteAt (s .notes + 1))
+      → t ≡ notedState s n
+      → w ≡ splice v k (noteBytes n)
+      → Gives v Done t w (noteCall v m s)
+  unfolding noteCall noteRows
+  note-done n g k t w e d eg ek et ew =
+      gives-is v Done t w _ _ (sym (ap (noteStored v m s) d) ∙ passed v m s (stateRows v m s []) _ e)
+      (stored v m t _ g k w (noteBytes n) _ (noteAt (s .notes + 1)) et refl eg ek ew)

@@ -1,0 +1,87 @@
+-- `persist::backup::backup` is its definition: the laws of Outcomes.antt say what each case is.
+use mathlib.Core.Path.{_≡_, refl, sym, ap, _∙_}
+use Prim.Native.Nat.{_≤_}
+use native.Mathlib.Omega.{arith}
+use lib.ListN.{length}
+use denote.Ref.{now}
+use Rattle.state.proofs.Tables.{length-mapped}
+use Rattle.model.specs.Tests.{firstOf}
+use Rattle.model.specs.Geometry.{slotAt, start}
+use Rattle.model.specs.Refusals.{backupRows}
+use Rattle.model.specs.declared.geometry.Geometry.{Geometry}
+use Rattle.persist.proofs.Outcomes.{backup-refused, backup-done}
+use Rattle.persist.proofs.Room.{Room, backup-room}
+use borrow.Author.Needs.{needs}
+use Rattle.persist.proofs.backup.backup.Statement.{statement}
+use Rattle.persist.proofs.backup.backup.Tie as tie
+
+-- past the test: no row holds, and what that tells
+none : (c : tie.Else1) → let s = c .before .before .before .before .before in firstOf (backupRows (now (s .args .volume)) (now (s .args .memory)) (s .args .s) (s .args .page) (s .args .slot)) ≡ 0
+none c = sym (c .before .refusal .ensures) ∙ c .if1 .left
+
+known : (c : tie.Else1) → let s = c .before .before .before .before .before in (s .args .slot ≤ 255) × Room (now (s .args .volume)) (now (s .args .memory)) (s .args .s) (s .args .page) (slotAt (s .args .slot))
+known c =
+    let s = c .before .before .before .before .before in
+    let l : length (s .args .s .frames) ≡ 16 = search (needs, length-mapped) in
+    backup-room (now (s .args .volume)) (now (s .args .memory)) (s .args .s) (s .args .page) l (s .args .slot) (none c)
+
+refusal-requires : tie.Need-refusal-requires
+refusal-requires c κs = search needs
+
+same-length : tie.Need-same-length
+same-length c = search needs
+
+returns : tie.Need-returns
+returns c = backup-refused _ _ _ _ _ _ (c .before .refusal .ensures) (c .if1 .taken)
+
+holder-requires : tie.Need-holder-requires
+holder-requires c κs = search needs
+
+geometry-requires : tie.Need-geometry-requires
+geometry-requires c κs = search needs
+
+lsn-requires : tie.Need-lsn-requires
+lsn-requires c κs = search needs
+
+slotat-requires : tie.Need-slotat-requires
+slotat-requires c κs = search needs
+
+store-requires : tie.Need-store-requires
+store-requires c κs =
+    let h = c .before .before .before .before .before in
+    let k = known (h .before) .1 in
+    let l = c .before .before .before .geometry .ensures in
+    (omega (arith, k .place, c .slotat .ensures ∙ ap (λ (g : Geometry). start g (slotAt (h .before .before .before .before .before .before .args .slot))) l), omega (arith, k .frame, h .holder .ensures))
+
+backedup-requires : tie.Need-backedup-requires
+backedup-requires c κs =
+    let k = known (c .before .before .before .before .before .before .before .before .before) in
+    (k .1 .page-high, k .0, omega (arith, k .1 .notes))
+
+same-length-2 : tie.Need-same-length-2
+same-length-2 c = search needs
+
+returns-2 : tie.Need-returns-2
+returns-2 c =
+    let t = c .before .before .before in
+    let g = t .before .before .before .before in
+    let h = g .before .before in
+    let a = h .before .before .before .before .before .before .args in
+    backup-done (now (a .volume)) (now (a .memory)) (a .s) (a .page) _ _ _ _ _ _ (g .geometry .ensures) (h .holder .ensures)
+    (t .before .before .before .lsn .ensures) (t .store .ensures) (a .slot) (none (h .before)) (t .before .slotat .ensures) (c .backedup .ensures)
+
+pub backup-spec : {M : Type 1} → statement M
+backup-spec =
+    tie.close
+    (tie.spec
+    refusal-requires
+    same-length
+    returns
+    holder-requires
+    geometry-requires
+    lsn-requires
+    slotat-requires
+    store-requires
+    backedup-requires
+    same-length-2
+    returns-2)

@@ -1,0 +1,43 @@
+-- `persist::backup::own` meets its contract.
+use Rattle.persist.proofs.Refused.{backup-own}
+use borrow.Author.Needs.{needs}
+use Rattle.persist.proofs.backup.own.Statement.{statement}
+use Rattle.persist.proofs.backup.own.Tie as tie
+
+used-requires : tie.Need-used-requires
+used-requires c κs = search needs
+
+first-requires : tie.Need-first-requires
+first-requires c κs = search needs
+
+refusal-requires : tie.Need-refusal-requires
+refusal-requires c κs = search needs
+
+first-requires-2 : tie.Need-first-requires-2
+first-requires-2 c κs = search needs
+
+first-requires-3 : tie.Need-first-requires-3
+first-requires-3 c κs = search needs
+
+first-requires-4 : tie.Need-first-requires-4
+first-requires-4 c κs = search needs
+
+returns : tie.Need-returns
+returns c =
+    let r = c .before .before .before in
+    let u = r .before .before in
+    let a = u .before .before .before .before .args in
+    backup-own (a .g) (a .s) (a .page) (a .f) (a .lsn) (a .slot) _ _ _ _ _ _ (u .used .ensures) (r .before .first .ensures) (r .refusal .ensures)
+    (c .before .before .first2 .ensures) (c .before .first3 .ensures) (c .first4 .ensures)
+
+pub own-spec : {M : Type 1} → statement M
+own-spec =
+    tie.close
+    (tie.spec
+    used-requires
+    first-requires
+    refusal-requires
+    first-requires-2
+    first-requires-3
+    first-requires-4
+    returns)

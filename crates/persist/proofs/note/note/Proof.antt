@@ -1,0 +1,120 @@
+-- `persist::note::note` is its definition: the laws of Outcomes.antt say what each case is.
+use mathlib.Core.Path.{_≡_, refl, sym, ap, _∙_}
+use mathlib.Core.List.{[]}
+use Prim.Native.Nat.{_+_}
+use native.Mathlib.Omega.{arith}
+use denote.Ref.{now}
+use Rattle.model.specs.Tests.{firstOf}
+use Rattle.model.specs.Geometry.{noteAt, start}
+use Rattle.model.specs.Refusals.{stateRows}
+use Rattle.model.specs.declared.geometry.Geometry.{Geometry}
+use Rattle.persist.proofs.Outcomes.{note-refused, note-idle, note-done}
+use Rattle.persist.proofs.Parts.{note-put}
+use Rattle.persist.proofs.Room.{NoteRoom, note-room}
+use borrow.Author.Needs.{needs}
+use Rattle.persist.proofs.note.note.Statement.{statement}
+use Rattle.persist.proofs.note.note.Tie as tie
+
+-- past the test: rows 1 and 2 do not hold
+none : (c : tie.Else1) → let s = c .before .before .before .before .before in firstOf (stateRows (now (s .args .volume)) (now (s .args .memory)) (s .args .s) []) ≡ 0
+none c = sym (c .before .refusal .ensures (now (c .before .before .before .before .before .args .memory)) refl) ∙ c .if1 .left
+
+-- a note is owed
+known : (c : tie.After-p) → let s = c .before .before .before .before .before .before .before in NoteRoom (now (s .args .volume)) (s .args .s) (c .p .given .0 .0)
+known c =
+    let s = c .before .before .before .before .before .before .before in
+    note-room (now (s .args .volume)) (now (s .args .memory)) (s .args .s) _ (none (c .before .before)) (c .p .given .1)
+
+refusal-requires : tie.Need-refusal-requires
+refusal-requires c κs = search needs
+
+same-length : tie.Need-same-length
+same-length c = search needs
+
+returns : tie.Need-returns
+returns c =
+    let a = c .before .before .before .before .before .args in
+    note-refused (now (a .volume)) (now (a .memory)) (a .s) _ (c .before .refusal .ensures (now (a .memory)) refl) (c .if1 .taken)
+
+enum-known-p : tie.Need-enum-known-p
+enum-known-p c = search needs
+
+enum-told : tie.Need-enum-told
+enum-told c = search needs
+
+same-length-2 : tie.Need-same-length-2
+same-length-2 c = search needs
+
+returns-2 : tie.Need-returns-2
+returns-2 c =
+    let a = c .before .before .before .before .before .before .before .args in
+    note-idle (now (a .volume)) (now (a .memory)) (a .s) (none (c .before .before)) (c .enum-told .given .1)
+
+geometry-requires : tie.Need-geometry-requires
+geometry-requires c κs = search needs
+
+add-number : tie.Need-add-number
+add-number c = omega (arith, known (c .before .before .before .before) .notes)
+
+noteat-requires : tie.Need-noteat-requires
+noteat-requires c κs = search needs
+
+add-end : tie.Need-add-end
+add-end c = search needs
+
+sub-slot : tie.Need-sub-slot
+sub-slot c = search needs
+
+part-slot-start : tie.Need-part-slot-start
+part-slot-start c = search needs
+
+part-slot-end : tie.Need-part-slot-end
+part-slot-end c =
+    let g = c .before .before in
+    let p = g .before .before .before in
+    let n = p .before .before .before .before .before .before .before .args .s .notes in
+    omega (arith, known p .place, c .noteat .ensures ∙ ap (λ (x : Geometry). start x (noteAt (n + 1))) (g .geometry .ensures))
+
+encode-requires : tie.Need-encode-requires
+encode-requires c κs = search needs
+
+noted-requires : tie.Need-noted-requires
+noted-requires c κs =
+    let k = known (c .before .before .before .before .before .before .before .before .before) in
+    (k .page-low, k .page-high, omega (arith, k .notes))
+
+same-length-3 : tie.Need-same-length-3
+same-length-3 c = search needs
+
+returns-3 : tie.Need-returns-3
+returns-3 c =
+    let e = c .before .before .before in
+    let at = e .before .before in
+    let g = at .before .before in
+    let p = g .before .before .before in
+    let a = p .before .before .before .before .before .before .before .args in
+    note-done (now (a .volume)) (now (a .memory)) (a .s) (p .p .given .0 .0) _ _ _ _ (none (p .before .before)) (p .p .given .1) (g .geometry .ensures)
+    (at .noteat .ensures) (c .noted .ensures) (note-put (now (a .volume)) _ (p .p .given .0 .0) _ (e .encode .ensures))
+
+pub note-spec : {M : Type 1} → statement M
+note-spec =
+    tie.close
+    (tie.spec
+    refusal-requires
+    same-length
+    returns
+    enum-known-p
+    enum-told
+    same-length-2
+    returns-2
+    geometry-requires
+    add-number
+    noteat-requires
+    add-end
+    sub-slot
+    part-slot-start
+    part-slot-end
+    encode-requires
+    noted-requires
+    same-length-3
+    returns-3)

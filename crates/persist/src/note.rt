@@ -1,0 +1,43 @@
+// Note: stores the owed note; only then does the index change.
+ghost use mathlib.Core.Path.{_≡_};
+ghost use Rattle.model.specs.Calls.{noteCall, replyOf, volumeAfter};
+use model::answer::Answer;
+use model::answer::Reply;
+use model::state::PendingNote;
+use model::state::State;
+use state::next;
+use state::rows;
+use volume::heading;
+use volume::place;
+
+// Stores the owed note in the next note slot and enters it in the index. Nothing where none is owed.
+// Ruled out: a note stored over an earlier one; an index that does not have what was stored.
+pub fn note(s: State, volume: &mut [u8], memory: &[u8]) -> Reply
+    ensures reply { λ r. ⌜ r ≡ replyOf (noteCall (now (volume .entry)) (now (memory .entry)) s) ⌝ }
+    ensures volume { λ _. ⌜ now (volume .exit) ≡ volumeAfter (now (volume .entry)) (noteCall (now (volume .entry)) (now (memory .entry)) s .stored) ⌝ }
+{
+    let no = rows::refusal(volume, memory.len(), s);
+    if no != 0 {
+        return Reply {
+            answer: Answer::Refused(no),
+            state: s,
+        };
+    }
+    let p = s.note;
+    let PendingNote::Present(n) = p else {
+        return Reply {
+            answer: Answer::Nothing,
+            state: s,
+        };
+    };
+    let g = heading::geometry(volume);
+    let number = s.notes + 1;
+    let at = place::noteat(g, number);
+    let end = at + 16;
+    let slot = &mut volume[at..end];
+    item::note::encode(slot, n);
+    Reply {
+        answer: Answer::Done,
+        state: next::noted(s, n),
+    }
+}

@@ -1,0 +1,34 @@
+// The rows 13 to 15, which Write and Backup share: whether the state may owe a note of an image.
+ghost use mathlib.Core.Path.{_≡_};
+ghost use mathlib.Core.Bool.{_&&_, cond};
+ghost use lib.Dec.{ltb};
+ghost use Rattle.model.specs.State.{notePending, notesFull};
+use model::geometry::Geometry;
+use model::state::PendingNote;
+use model::state::State;
+use state::rows;
+
+// A note is to be stored.
+fn present(p: PendingNote) -> bool
+    ensures { λ r. ⌜ r ≡ notePending p ⌝ }
+{
+    match p {
+        PendingNote::Absent => false,
+        PendingNote::Present(_) => true,
+    }
+}
+
+// The first of the rows that holds, where t does, for an image of this page lsn; else rest.
+pub fn refusal(g: Geometry, s: State, t: bool, lsn: u32, rest: u32) -> u32
+    ensures { λ r. ⌜ r ≡ cond (t && notePending (s .note)) 13 (cond (t && notesFull g s) 14 (cond (t && ltb (s .durable) lsn) 15 rest)) ⌝ }
+{
+    let p = s.note;
+    let pending = present(p);
+    let full = g.notes <= s.notes;
+    let ahead = s.durable < lsn;
+    rows::first(
+        t & pending,
+        13,
+        rows::first(t & full, 14, rows::first(t & ahead, 15, rest)),
+    )
+}

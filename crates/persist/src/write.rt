@@ -1,0 +1,69 @@
+// Write: stores a dirty page's image and owes a note of it.
+ghost use mathlib.Core.Path.{_≡_};
+ghost use Rattle.persist.specs.Rows.{writeTail};
+ghost use Rattle.model.specs.Tests.{firstOf};
+ghost use Rattle.model.specs.Refusals.{writeRows};
+ghost use Rattle.model.specs.Calls.{writeOf, replyOf, volumeAfter};
+use crate::image;
+use crate::owed;
+use model::answer::Answer;
+use model::answer::Reply;
+use model::geometry::Geometry;
+use model::state::State;
+use state::frames;
+use state::next;
+use state::rows;
+use volume::heading;
+use volume::place;
+
+// The rows of Write's own, for the frame that holds the page, or 0, and the page lsn in it.
+fn own(g: Geometry, s: State, page: u32, f: u32, lsn: u32) -> u32
+    ensures { λ r. ⌜ r ≡ firstOf (writeTail g s page f lsn) ⌝ }
+{
+    let outside = !((1 <= page) & (page <= g.pages));
+    let dirty = frames::frame(s, f).dirty;
+    let rest = owed::refusal(g, s, dirty, lsn, 0);
+    rows::first(outside, 3, rows::first(!(0 < f), 8, rest))
+}
+
+// The refusal, the lowest that holds.
+fn refusal(s: State, v: &[u8], m: &[u8], page: u32) -> u32
+    ensures { λ r. ⌜ r ≡ firstOf (writeRows (now (v .entry)) (now (m .entry)) s page) ⌝ }
+{
+    let no = rows::refusal(v, m.len(), s);
+    let g = heading::geometry(v);
+    let f = frames::holder(s, page);
+    let lsn = image::lsn(m, f);
+    let rest = own(g, s, page, f, lsn);
+    rows::first(no != 0, no, rest)
+}
+
+// Stores a dirty page's image; the page is clean, a note of it is owed. Nothing on a clean page.
+// Ruled out: a written page that owes no note, or one of another page lsn; 13 to 15 on a clean page.
+pub fn write(s: State, volume: &mut [u8], memory: &[u8], page: u32) -> Reply
+    ensures reply { λ r. ⌜ r ≡ replyOf (writeOf (now (volume .entry)) (now (memory .entry)) s page) ⌝ }
+    ensures volume { λ _. ⌜ now (volume .exit) ≡ volumeAfter (now (volume .entry)) (writeOf (now (volume .entry)) (now (memory .entry)) s page .stored) ⌝ }
+{
+    let no = refusal(s, volume, memory, page);
+    if no != 0 {
+        return Reply {
+            answer: Answer::Refused(no),
+            state: s,
+        };
+    }
+    let f = frames::holder(s, page);
+    let dirty = frames::frame(s, f).dirty;
+    if !dirty {
+        return Reply {
+            answer: Answer::Nothing,
+            state: s,
+        };
+    }
+    let g = heading::geometry(volume);
+    let lsn = image::lsn(memory, f);
+    image::store(volume, place::pageat(g, page), memory, f, g);
+    Reply {
+        answer: Answer::Done,
+        state: next::written(s, page, f, lsn),
+    }
+}
