@@ -1,5 +1,5 @@
 -- Laws that belong to no one function.
-pub mod Refused
+pub mod Rows
 pub mod Outcomes
 pub mod Room
 pub mod Parts

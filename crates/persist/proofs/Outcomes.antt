@@ -1,9 +1,8 @@
 -- What the definitions of Write, Backup and Note say in each of their cases.
 use mathlib.Core.Path.{_≡_, refl, sym, ap, _∙_}
-use mathlib.Core.Bool.{Bool, true, false, cond}
+use mathlib.Core.Bool.{Bool, true, false}
 use mathlib.Core.List.{List, []}
-use Prim.Native.Nat.{ℕ, _+_, _-_}
-use lib.Dec.{eqb}
+use Prim.Native.Nat.{ℕ, _+_}
 use borrow.Author.Tests.{eq-eqb, ne-eqb}
 use Rattle.laws.proofs.Tests.{when-true, when-false}
 use Rattle.model.specs.Tests.{Row, firstOf}
@@ -11,9 +10,9 @@ use Rattle.model.specs.Bytes.{splice}
 use Rattle.model.specs.Checksum.{sealImage}
 use Rattle.model.specs.Item.{imageLsn, noteBytes}
 use Rattle.model.specs.Geometry.{Place, pageAt, slotAt, noteAt, start, store, geometryOf}
-use Rattle.model.specs.State.{frameBytes, frameOf, holder, lastNote}
+use Rattle.model.specs.State.{frameBytes, frameOf, holder}
 use Rattle.model.specs.Refusals.{stateRows, pageDirty, writeRows, backupRows, noteRows}
-use Rattle.model.specs.Calls.{Outcome, StoredItem, nothing, oneItem, unchanged, decided, withFrame, withFrames, nextNote, writeOf, backupOf, notedState, noteStored, noteCall, replyOf, volumeAfter}
+use Rattle.model.specs.Calls.{Outcome, oneItem, unchanged, decided, withFrame, withFrames, nextNote, writeOf, backupOf, notedState, noteStored, noteCall, replyOf, volumeAfter}
 use Rattle.model.specs.declared.geometry.Geometry.{Geometry}
 use Rattle.model.specs.declared.item.Note.{Note}
 use Rattle.model.specs.declared.state.Frame.{Frame}

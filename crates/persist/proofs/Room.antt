@@ -1,58 +1,58 @@
 -- What is known once Write, Backup or Note is not refused and stores: the numbers, the frame, and the room in volume and memory.
 use mathlib.Core.Path.{_≡_, refl, sym, ap, _∙_}
-use mathlib.Core.Bool.{Bool, true, false, _&&_, not}
+use mathlib.Core.Bool.{Bool, true, false, _&&_}
 use mathlib.Core.List.{List, []}
-use Prim.Native.Nat.{ℕ, _+_, _-_, _*_, _≤_, _<_}
+use Prim.Native.Nat.{ℕ, _+_, _≤_, _<_}
 use native.Mathlib.Omega.{arith}
-use lib.Dec.{leb, ltb}
+use lib.Dec.{leb}
 use lib.ListN.{length, getD}
 use borrow.Author.Tests.{leb-false, eqb-false, not-false}
 use Rattle.laws.proofs.Tests.{none-at, within-bounds}
 use Rattle.laws.proofs.Places.{valid-facts, place-fits, In}
-use Rattle.laws.proofs.WellFormed.{Ready, ready, FormedNote, formed-note, holder-low, holder-high, holder-within, frame-within}
+use Rattle.laws.proofs.WellFormed.{Ready, ready, formed-note, holder-low, holder-high, holder-within, frame-within}
 use Rattle.persist.specs.Rows.{writeTail, backupTail}
 use Rattle.model.specs.Tests.{Row, firstOf, within}
 use Rattle.model.specs.Item.{imageLsn}
 use Rattle.model.specs.Geometry.{geometryOf, Place, pageAt, slotAt, noteAt, width, start}
 use Rattle.model.specs.State.{frameCount, frameAt, frameBytes, lastNote, holder, held, pendingNoteFits}
-use Rattle.model.specs.Refusals.{stateRows, pageDirty, writeRows, backupRows, noteRows}
+use Rattle.model.specs.Refusals.{stateRows, pageDirty, writeRows, backupRows}
+use Rattle.model.specs.declared.geometry.Geometry.{Geometry}
 use Rattle.model.specs.declared.item.Note.{Note}
-use Rattle.model.specs.declared.state.PendingNote.{PendingNote}
 use Rattle.model.specs.declared.state.PendingNote.the-variants.{Present}
 use Rattle.model.specs.declared.state.State.{State}
 
--- of an image that goes to a place
-pub record Room (v m : List ℕ) (s : State) (page : ℕ) (at : Place) : Type 0 where
+-- of an image that goes to a place; g is the code's geometry
+pub record Room (v m : List ℕ) (s : State) (g : Geometry) (page : ℕ) (at : Place) : Type 0 where
   pub page-high : page ≤ 64
   pub frame-low : 1 ≤ holder s page
   pub frame-high : holder s page ≤ 16
   pub notes : s .notes < 1024
   pub frame : frameAt (holder s page) + 256 ≤ length m
-  pub place : start (geometryOf v) at + width at ≤ length v
+  pub place : start g at + width at ≤ length v
 
-module _ (v m : List ℕ) (s : State) (page : ℕ) (sixteen : length (s .frames) ≡ 16) where
+module _ (v m : List ℕ) (s : State) (g : Geometry) (page : ℕ) (sixteen : length (s .frames) ≡ 16) (eg : g ≡ geometryOf v) where
   -- from the rows that both calls have
   opened : (rows : List Row) (at : Place) → Ready v m s rows → within (geometryOf v .pages) page ≡ true → held s page ≡ true
       → leb (geometryOf v .notes) (lastNote s) ≡ false
       → In (geometryOf v) at
-      → Room v m s page at
+      → Room v m s g page at
   opened rows at k hp hh hn inside =
-      let g = geometryOf v in
+      let h = geometryOf v in
       let n = frameCount (length m) in
       let f = valid-facts v (k .volume) in
-      let w = within-bounds (g .pages) page hp in
-      let l : lastNote s < g .notes = leb-false _ _ hn in
-      let low = holder-low g n s (k .state) sixteen page hh in
+      let w = within-bounds (h .pages) page hp in
+      let l : lastNote s < h .notes = leb-false _ _ hn in
+      let low = holder-low h n s (k .state) sixteen page hh in
       record {
         page-high = omega (arith, w .1, f .p-high);
         frame-low = low;
-        frame-high = holder-high g n s (k .state) sixteen page hh;
+        frame-high = holder-high h n s (k .state) sixteen page hh;
         notes = omega (arith, l, f .n-high);
-        frame = frame-within m (k .memory) (holder s page) low (holder-within g n s (k .state) sixteen page hh (w .0));
-        place = place-fits g v (f .size) at inside;
+        frame = frame-within m (k .memory) (holder s page) low (holder-within h n s (k .state) sixteen page hh (w .0));
+        place = rw eg (place-fits h v (f .size) at inside);
       }
 
-  pub write-room : firstOf (writeRows v m s page) ≡ 0 → pageDirty s page ≡ true → Room v m s page (pageAt page)
+  pub write-room : firstOf (writeRows v m s page) ≡ 0 → pageDirty s page ≡ true → Room v m s g page (pageAt page)
   unfolding writeRows
   write-room h d =
       let rows = writeTail (geometryOf v) s page (holder s page) (imageLsn (frameBytes m (holder s page))) in
@@ -64,7 +64,7 @@ module _ (v m : List ℕ) (s : State) (page : ℕ) (sixteen : length (s .frames)
       (within-bounds (geometryOf v .pages) page hp)
 
   -- the slot, and the room of Backup
-  pub backup-room : (slot : ℕ) → firstOf (backupRows v m s page slot) ≡ 0 → (slot ≤ 255) × Room v m s page (slotAt slot)
+  pub backup-room : (slot : ℕ) → firstOf (backupRows v m s page slot) ≡ 0 → (slot ≤ 255) × Room v m s g page (slotAt slot)
   unfolding backupRows
   backup-room slot h =
       let rows = backupTail (geometryOf v) s page slot (holder s page) (imageLsn (frameBytes m (holder s page))) in
@@ -79,14 +79,14 @@ module _ (v m : List ℕ) (s : State) (page : ℕ) (sixteen : length (s .frames)
       )
 
 -- of a note
-pub record NoteRoom (v : List ℕ) (s : State) (n : Note) : Type 0 where
+pub record NoteRoom (v : List ℕ) (s : State) (g : Geometry) (n : Note) : Type 0 where
   pub page-low : 1 ≤ n .page
   pub page-high : n .page ≤ 64
   pub notes : s .notes < 1024
-  pub place : start (geometryOf v) (noteAt (s .notes + 1)) + 16 ≤ length v
+  pub place : start g (noteAt (s .notes + 1)) + 16 ≤ length v
 
-pub note-room : (v m : List ℕ) (s : State) (n : Note) → firstOf (stateRows v m s []) ≡ 0 → s .note ≡ Present n → NoteRoom v s n
-note-room v m s n h e =
+pub note-room : (v m : List ℕ) (s : State) (g : Geometry) (n : Note) → g ≡ geometryOf v → firstOf (stateRows v m s []) ≡ 0 → s .note ≡ Present n → NoteRoom v s g n
+note-room v m s g n eg h e =
     let k = ready v m s [] h in
     let f = valid-facts v (k .volume) in
     let w = formed-note (geometryOf v) (s .notes) (s .durable) n
@@ -95,5 +95,5 @@ note-room v m s n h e =
       page-low = w .low;
       page-high = omega (arith, w .high, f .p-high);
       notes = omega (arith, w .room, f .n-high);
-      place = place-fits (geometryOf v) v (f .size) (noteAt (s .notes + 1)) (omega arith, omega (arith, w .room));
+      place = rw eg (place-fits (geometryOf v) v (f .size) (noteAt (s .notes + 1)) (omega arith, omega (arith, w .room)));
     }

@@ -45,7 +45,7 @@ fn refusal(s: State, v: &[u8], m: &[u8], page: u32, slot: u32) -> u32
 }
 
 // Stores the image of a page that a frame holds in the slot; a note of it is owed.
-// Ruled out: a slot that the index names overwritten; the index changed before the note is stored.
+// Ruled out: a slot overwritten that the index names; a note of another slot than the image's.
 pub fn backup(s: State, volume: &mut [u8], memory: &[u8], page: u32, slot: u32) -> Reply
     ensures reply { λ r. ⌜ r ≡ replyOf (backupOf (now (volume .entry)) (now (memory .entry)) s page slot) ⌝ }
     ensures volume { λ _. ⌜ now (volume .exit) ≡ volumeAfter (now (volume .entry)) (backupOf (now (volume .entry)) (now (memory .entry)) s page slot .stored) ⌝ }

@@ -11,7 +11,7 @@ use volume::heading;
 use volume::place;
 
 // Stores the owed note in the next note slot and enters it in the index. Nothing where none is owed.
-// Ruled out: a note stored over an earlier one; an index that does not have what was stored.
+// Ruled out: a note stored over an earlier one; Nothing while a note is owed; an index with another number than the note's.
 pub fn note(s: State, volume: &mut [u8], memory: &[u8]) -> Reply
     ensures reply { λ r. ⌜ r ≡ replyOf (noteCall (now (volume .entry)) (now (memory .entry)) s) ⌝ }
     ensures volume { λ _. ⌜ now (volume .exit) ≡ volumeAfter (now (volume .entry)) (noteCall (now (volume .entry)) (now (memory .entry)) s .stored) ⌝ }

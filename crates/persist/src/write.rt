@@ -39,7 +39,7 @@ fn refusal(s: State, v: &[u8], m: &[u8], page: u32) -> u32
 }
 
 // Stores a dirty page's image; the page is clean, a note of it is owed. Nothing on a clean page.
-// Ruled out: a written page that owes no note, or one of another page lsn; 13 to 15 on a clean page.
+// Ruled out: a note of another page lsn than the image's; 13 to 15 on a clean page.
 pub fn write(s: State, volume: &mut [u8], memory: &[u8], page: u32) -> Reply
     ensures reply { λ r. ⌜ r ≡ replyOf (writeOf (now (volume .entry)) (now (memory .entry)) s page) ⌝ }
     ensures volume { λ _. ⌜ now (volume .exit) ≡ volumeAfter (now (volume .entry)) (writeOf (now (volume .entry)) (now (memory .entry)) s page .stored) ⌝ }

@@ -1,29 +1,32 @@
 -- `persist::backup::backup` is its definition: the laws of Outcomes.antt say what each case is.
-use mathlib.Core.Path.{_≡_, refl, sym, ap, _∙_}
+use mathlib.Core.Path.{_≡_, sym, _∙_}
 use Prim.Native.Nat.{_≤_}
 use native.Mathlib.Omega.{arith}
 use lib.ListN.{length}
 use denote.Ref.{now}
 use Rattle.state.proofs.Tables.{length-mapped}
 use Rattle.model.specs.Tests.{firstOf}
-use Rattle.model.specs.Geometry.{slotAt, start}
+use Rattle.model.specs.Geometry.{slotAt}
 use Rattle.model.specs.Refusals.{backupRows}
-use Rattle.model.specs.declared.geometry.Geometry.{Geometry}
 use Rattle.persist.proofs.Outcomes.{backup-refused, backup-done}
 use Rattle.persist.proofs.Room.{Room, backup-room}
 use borrow.Author.Needs.{needs}
 use Rattle.persist.proofs.backup.backup.Statement.{statement}
 use Rattle.persist.proofs.backup.backup.Tie as tie
 
+-- the frame table's length
+long : (c : tie.Start) → length (c .args .s .frames) ≡ 16
+long c = search (needs, length-mapped)
+
 -- past the test: no row holds, and what that tells
 none : (c : tie.Else1) → let s = c .before .before .before .before .before in firstOf (backupRows (now (s .args .volume)) (now (s .args .memory)) (s .args .s) (s .args .page) (s .args .slot)) ≡ 0
 none c = sym (c .before .refusal .ensures) ∙ c .if1 .left
 
-known : (c : tie.Else1) → let s = c .before .before .before .before .before in (s .args .slot ≤ 255) × Room (now (s .args .volume)) (now (s .args .memory)) (s .args .s) (s .args .page) (slotAt (s .args .slot))
+known : (c : tie.After-geometry) → let s = c .before .before .before .before .before .before .before .before in (s .args .slot ≤ 255) × Room (now (s .args .volume)) (now (s .args .memory)) (s .args .s) (c .geometry .result) (s .args .page) (slotAt (s .args .slot))
 known c =
-    let s = c .before .before .before .before .before in
-    let l : length (s .args .s .frames) ≡ 16 = search (needs, length-mapped) in
-    backup-room (now (s .args .volume)) (now (s .args .memory)) (s .args .s) (s .args .page) l (s .args .slot) (none c)
+    let i = c .before .before .before in
+    let s = i .before .before .before .before .before in
+    backup-room (now (s .args .volume)) (now (s .args .memory)) (s .args .s) _ (s .args .page) (long s) (c .geometry .ensures) (s .args .slot) (none i)
 
 refusal-requires : tie.Need-refusal-requires
 refusal-requires c κs = search needs
@@ -48,15 +51,14 @@ slotat-requires c κs = search needs
 
 store-requires : tie.Need-store-requires
 store-requires c κs =
-    let h = c .before .before .before .before .before in
-    let k = known (h .before) .1 in
-    let l = c .before .before .before .geometry .ensures in
-    (omega (arith, k .place, c .slotat .ensures ∙ ap (λ (g : Geometry). start g (slotAt (h .before .before .before .before .before .before .args .slot))) l), omega (arith, k .frame, h .holder .ensures))
+    let g = c .before .before .before in
+    let k = known g .1 in
+    (omega (arith, k .place, c .slotat .ensures), omega (arith, k .frame, g .before .before .holder .ensures))
 
 backedup-requires : tie.Need-backedup-requires
 backedup-requires c κs =
-    let k = known (c .before .before .before .before .before .before .before .before .before) in
-    (k .1 .page-high, k .0, omega (arith, k .1 .notes))
+    let k = known (c .before .before .before .before .before .before) in
+    (k .1 .page-high, omega (arith, k .0), omega (arith, k .1 .notes))
 
 same-length-2 : tie.Need-same-length-2
 same-length-2 c = search needs

@@ -1,5 +1,5 @@
 -- `persist::backup::own` meets its contract.
-use Rattle.persist.proofs.Refused.{backup-own}
+use Rattle.persist.proofs.Rows.{backup-own}
 use borrow.Author.Needs.{needs}
 use Rattle.persist.proofs.backup.own.Statement.{statement}
 use Rattle.persist.proofs.backup.own.Tie as tie

@@ -1,13 +1,10 @@
 -- `persist::note::note` is its definition: the laws of Outcomes.antt say what each case is.
-use mathlib.Core.Path.{_≡_, refl, sym, ap, _∙_}
+use mathlib.Core.Path.{_≡_, refl, sym, _∙_}
 use mathlib.Core.List.{[]}
-use Prim.Native.Nat.{_+_}
 use native.Mathlib.Omega.{arith}
 use denote.Ref.{now}
 use Rattle.model.specs.Tests.{firstOf}
-use Rattle.model.specs.Geometry.{noteAt, start}
 use Rattle.model.specs.Refusals.{stateRows}
-use Rattle.model.specs.declared.geometry.Geometry.{Geometry}
 use Rattle.persist.proofs.Outcomes.{note-refused, note-idle, note-done}
 use Rattle.persist.proofs.Parts.{note-put}
 use Rattle.persist.proofs.Room.{NoteRoom, note-room}
@@ -20,10 +17,11 @@ none : (c : tie.Else1) → let s = c .before .before .before .before .before in 
 none c = sym (c .before .refusal .ensures (now (c .before .before .before .before .before .args .memory)) refl) ∙ c .if1 .left
 
 -- a note is owed
-known : (c : tie.After-p) → let s = c .before .before .before .before .before .before .before in NoteRoom (now (s .args .volume)) (s .args .s) (c .p .given .0 .0)
+known : (c : tie.After-geometry) → let p = c .before .before .before in let s = p .before .before .before .before .before .before .before in NoteRoom (now (s .args .volume)) (s .args .s) (c .geometry .result) (p .p .given .0 .0)
 known c =
-    let s = c .before .before .before .before .before .before .before in
-    note-room (now (s .args .volume)) (now (s .args .memory)) (s .args .s) _ (none (c .before .before)) (c .p .given .1)
+    let p = c .before .before .before in
+    let s = p .before .before .before .before .before .before .before in
+    note-room (now (s .args .volume)) (now (s .args .memory)) (s .args .s) _ _ (c .geometry .ensures) (none (p .before .before)) (p .p .given .1)
 
 refusal-requires : tie.Need-refusal-requires
 refusal-requires c κs = search needs
@@ -54,7 +52,7 @@ geometry-requires : tie.Need-geometry-requires
 geometry-requires c κs = search needs
 
 add-number : tie.Need-add-number
-add-number c = omega (arith, known (c .before .before .before .before) .notes)
+add-number c = omega (arith, known (c .before) .notes)
 
 noteat-requires : tie.Need-noteat-requires
 noteat-requires c κs = search needs
@@ -69,18 +67,14 @@ part-slot-start : tie.Need-part-slot-start
 part-slot-start c = search needs
 
 part-slot-end : tie.Need-part-slot-end
-part-slot-end c =
-    let g = c .before .before in
-    let p = g .before .before .before in
-    let n = p .before .before .before .before .before .before .before .args .s .notes in
-    omega (arith, known p .place, c .noteat .ensures ∙ ap (λ (x : Geometry). start x (noteAt (n + 1))) (g .geometry .ensures))
+part-slot-end c = omega (arith, known (c .before .before) .place, c .noteat .ensures)
 
 encode-requires : tie.Need-encode-requires
 encode-requires c κs = search needs
 
 noted-requires : tie.Need-noted-requires
 noted-requires c κs =
-    let k = known (c .before .before .before .before .before .before .before .before .before) in
+    let k = known (c .before .before .before .before .before .before) in
     (k .page-low, k .page-high, omega (arith, k .notes))
 
 same-length-3 : tie.Need-same-length-3

@@ -1,5 +1,5 @@
 -- `persist::owed::refusal` meets its contract.
-use Rattle.persist.proofs.Refused.{note-own}
+use Rattle.persist.proofs.Rows.{note-own}
 use borrow.Author.Needs.{needs}
 use Rattle.persist.proofs.owed.refusal.Statement.{statement}
 use Rattle.persist.proofs.owed.refusal.Tie as tie

@@ -1,5 +1,5 @@
 -- `persist::write::own` meets its contract.
-use Rattle.persist.proofs.Refused.{write-own}
+use Rattle.persist.proofs.Rows.{write-own}
 use borrow.Author.Needs.{needs}
 use Rattle.persist.proofs.write.own.Statement.{statement}
 use Rattle.persist.proofs.write.own.Tie as tie

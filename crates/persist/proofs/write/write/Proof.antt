@@ -1,5 +1,5 @@
 -- `persist::write::write` is its definition: the laws of Outcomes.antt say what each case is.
-use mathlib.Core.Path.{_≡_, refl, sym, ap, _∙_}
+use mathlib.Core.Path.{_≡_, sym, _∙_}
 use mathlib.Core.Bool.{true, false}
 use native.Mathlib.Omega.{arith}
 use lib.ListN.{length}
@@ -16,6 +16,10 @@ use borrow.Author.Needs.{needs}
 use Rattle.persist.proofs.write.write.Statement.{statement}
 use Rattle.persist.proofs.write.write.Tie as tie
 
+-- the frame table's length
+long : (c : tie.Start) → length (c .args .s .frames) ≡ 16
+long c = search (needs, length-mapped)
+
 -- past the first test: no row holds
 none : (c : tie.Else1) → let s = c .before .before .before .before .before in firstOf (writeRows (now (s .args .volume)) (now (s .args .memory)) (s .args .s) (s .args .page)) ≡ 0
 none c = sym (c .before .refusal .ensures) ∙ c .if1 .left
@@ -27,11 +31,11 @@ dirty c =
     dirty-is (now (a .volume)) (now (a .memory)) (a .s) (a .page) _ _ true (c .before .before .holder .ensures) (c .before .frame .ensures)
     (not-false _ (c .if2 .left))
 
-known : (c : tie.Else2) → let s = c .before .before .before .before .before .before .before .before in Room (now (s .args .volume)) (now (s .args .memory)) (s .args .s) (s .args .page) (pageAt (s .args .page))
+known : (c : tie.After-geometry) → let s = c .before .before .before .before .before .before .before .before .before .before in Room (now (s .args .volume)) (now (s .args .memory)) (s .args .s) (c .geometry .result) (s .args .page) (pageAt (s .args .page))
 known c =
-    let s = c .before .before .before .before .before .before .before .before in
-    let l : length (s .args .s .frames) ≡ 16 = search (needs, length-mapped) in
-    write-room (now (s .args .volume)) (now (s .args .memory)) (s .args .s) (s .args .page) l (none (c .before .before .before)) (dirty c)
+    let e = c .before .before in
+    let s = e .before .before .before .before .before .before .before .before in
+    write-room (now (s .args .volume)) (now (s .args .memory)) (s .args .s) _ (s .args .page) (long s) (c .geometry .ensures) (none (e .before .before .before)) (dirty e)
 
 refusal-requires : tie.Need-refusal-requires
 refusal-requires c κs = search needs
@@ -69,16 +73,16 @@ pageat-requires c κs = search needs
 
 store-requires : tie.Need-store-requires
 store-requires c κs =
-    let e = c .before .before .before .before .before in
-    let k = known e in
-    let h = e .before .before .holder .ensures in
+    let g = c .before .before .before in
+    let k = known g in
+    let h = g .before .before .before .before .holder .ensures in
     (omega (arith, k .place, c .pageat .ensures), omega (arith, k .frame, h))
 
 written-requires : tie.Need-written-requires
 written-requires c κs =
-    let e = c .before .before .before .before .before .before .before .before in
-    let k = known e in
-    let h = e .before .before .holder .ensures in
+    let g = c .before .before .before .before .before .before in
+    let k = known g in
+    let h = g .before .before .before .before .holder .ensures in
     (k .page-high, omega (arith, k .frame-low, h), omega (arith, k .frame-high, h), omega (arith, k .notes))
 
 same-length-3 : tie.Need-same-length-3
