@@ -1,0 +1,102 @@
+//! What a call answers: refusals with document 01's numbers, and results.
+
+use std::fmt;
+
+/// Why a call is refused. The value is the number in the table of refusals.
+#[derive(Clone, Copy, Debug, PartialEq, Eq)]
+#[repr(u8)]
+pub enum Refusal {
+    Volume = 1,
+    Lent = 2,
+    PageRange = 3,
+    FrameRange = 4,
+    SlotRange = 5,
+    ChangeRule = 6,
+    Blank = 7,
+    NotInFrame = 8,
+    NotBlankOrInFrame = 9,
+    FrameDirty = 10,
+    PendingFull = 11,
+    LogFull = 12,
+    NoteOwed = 13,
+    NotesFull = 14,
+    NotDurable = 15,
+    SlotInIndex = 16,
+    LogBroken = 17,
+    NotesBroken = 18,
+    ChainBroken = 19,
+}
+
+impl Refusal {
+    pub fn number(self) -> u8 {
+        self as u8
+    }
+}
+
+/// How a page's own image compares with the index.
+#[derive(Clone, Copy, Debug, PartialEq, Eq)]
+pub enum Class {
+    Good,
+    Behind,
+    Stale,
+    Failed,
+}
+
+/// Where the replay starts.
+#[derive(Clone, Copy, Debug, PartialEq, Eq)]
+pub enum Start {
+    Own,
+    Backup,
+    Format,
+}
+
+/// How a page was rebuilt.
+#[derive(Clone, Copy, Debug, PartialEq, Eq)]
+pub struct Rebuild {
+    pub class: Class,
+    pub start: Start,
+    pub replayed: usize,
+}
+
+#[derive(Clone, Copy, Debug, PartialEq, Eq)]
+pub enum Answer {
+    Done,
+    /// Force, Write or Note had nothing to store.
+    Nothing,
+    Rebuilt(Rebuild),
+    Refused(Refusal),
+}
+
+impl Answer {
+    pub fn is_refused(&self) -> bool {
+        matches!(self, Answer::Refused(_))
+    }
+}
+
+impl fmt::Display for Rebuild {
+    fn fmt(&self, out: &mut fmt::Formatter) -> fmt::Result {
+        let class = match self.class {
+            Class::Good => "GOOD",
+            Class::Behind => "BEHIND",
+            Class::Stale => "STALE",
+            Class::Failed => "FAILED",
+        };
+        let start = match self.start {
+            Start::Own => "OWN",
+            Start::Backup => "BACKUP",
+            Start::Format => "FORMAT",
+        };
+        write!(out, "{class} {start} {}", self.replayed)
+    }
+}
+
+impl fmt::Display for Answer {
+    fn fmt(&self, out: &mut fmt::Formatter) -> fmt::Result {
+        match self {
+            Answer::Done => write!(out, "OK"),
+            Answer::Nothing => write!(out, "NOTHING"),
+            Answer::Rebuilt(rebuild) => rebuild.fmt(out),
+            Answer::Refused(refusal) => write!(out, "REFUSED {}", refusal.number()),
+        }
+    }
+}

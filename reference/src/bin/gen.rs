@@ -1,0 +1,33 @@
+//! Writes one script: `gen --seed N --kind history|arbitrary|mixed --cells N`.
+
+use reference::arbitrary::arbitrary_script;
+use reference::args::value;
+use reference::history::history_script;
+use reference::mixed::mixed_script;
+use reference::rng::Rng;
+use std::io::{self, Write};
+use std::process::ExitCode;
+
+fn main() -> io::Result<ExitCode> {
+    let mut rng = Rng::new(value("--seed", 1));
+    let cells = value("--cells", 4_000);
+    let kind: String = value("--kind", "history".into());
+    let script = match kind.as_str() {
+        "history" => history_script(&mut rng, cells),
+        "arbitrary" => arbitrary_script(&mut rng, cells),
+        "mixed" => {
+            let (script, missing) = mixed_script(&mut rng, cells);
+            if !missing.is_empty() {
+                eprintln!("not reached: {missing:?}");
+                return Ok(ExitCode::FAILURE);
+            }
+            script
+        }
+        _ => {
+            eprintln!("--kind is history, arbitrary or mixed");
+            return Ok(ExitCode::from(2));
+        }
+    };
+    io::stdout().lock().write_all(&script.concat())?;
+    Ok(ExitCode::SUCCESS)
+}

@@ -1,0 +1,106 @@
+//! Document 01's plain book: what a history keeps of each page. Written apart from the
+//! records and images of the store, so that it can contradict them.
+
+use crate::cell::Call;
+use crate::record::{Change, Payload, PAYLOAD_LEN};
+use std::collections::VecDeque;
+
+const BODY_LEN: usize = 244;
+
+/// A change of a page.
+#[derive(Clone, Copy, Debug, PartialEq, Eq)]
+pub struct Entry {
+    pub page: u16,
+    pub change: Change,
+    pub payload: Payload,
+}
+
+/// A page's number and body.
+#[derive(Clone, Debug, PartialEq, Eq)]
+pub struct Replay {
+    pub number: u32,
+    pub body: Vec<u8>,
+}
+
+#[derive(Clone, Debug, Default)]
+pub struct Book {
+    pub waiting: VecDeque<Entry>,
+    pub kept: Vec<Entry>,
+}
+
+impl Book {
+    /// A call that gave an answer.
+    pub fn call(&mut self, call: &Call, refused: bool) {
+        if refused {
+            return;
+        }
+        match *call {
+            Call::Begin { page, fill, .. } => self.waiting.push_back(Entry {
+                page,
+                change: Change::Format { fill },
+                payload: [0; PAYLOAD_LEN],
+            }),
+            Call::Change { page, change, payload } => {
+                self.waiting.push_back(Entry { page, change, payload })
+            }
+            Call::Force => self.keep_first(),
+            Call::Restart => self.waiting.clear(),
+            _ => {}
+        }
+    }
+
+    /// A cut. `within` is the call it fell in, if any; `left_new` whether its item is stored.
+    pub fn cut(&mut self, within: Option<&Call>, left_new: bool) {
+        if within == Some(&Call::Force) && left_new {
+            self.keep_first();
+        }
+        self.waiting.clear();
+    }
+
+    fn keep_first(&mut self) {
+        self.kept.extend(self.waiting.pop_front());
+    }
+
+    /// The page's replay from kept; None if it is blank.
+    pub fn replay(&self, page: u16) -> Option<Replay> {
+        replay(self.kept.iter(), page)
+    }
+
+    /// The same with the changes that still wait, as a frame should hold it.
+    pub fn replay_with_waiting(&self, page: u16) -> Option<Replay> {
+        replay(self.kept.iter().chain(&self.waiting), page)
+    }
+
+    /// Places in kept of the page's changes.
+    pub fn places(&self, page: u16) -> Vec<u32> {
+        (1u32..).zip(&self.kept).filter(|(_, entry)| entry.page == page).map(|(at, _)| at).collect()
+    }
+}
+
+fn replay<'a>(entries: impl Iterator<Item = &'a Entry>, page: u16) -> Option<Replay> {
+    let mut result = None;
+    for (number, entry) in (1u32..).zip(entries) {
+        if entry.page == page {
+            let body = result.map_or(vec![0; BODY_LEN], |replay: Replay| replay.body);
+            result = Some(Replay { number, body: changed(body, entry) });
+        }
+    }
+    result
+}
+
+fn changed(mut body: Vec<u8>, entry: &Entry) -> Vec<u8> {
+    match entry.change {
+        Change::Format { fill } => vec![fill; BODY_LEN],
+        Change::Put { offset, length } => {
+            let (start, count) = (usize::from(offset), usize::from(length));
+            body.splice(start..start + count, entry.payload[..count].iter().copied());
+            body
+        }
+        Change::Slide { offset, length } => {
+            let (start, count) = (usize::from(offset), usize::from(length));
+            body.splice(start..start, entry.payload[..count].iter().copied());
+            body.truncate(BODY_LEN);
+            body
+        }
+    }
+}

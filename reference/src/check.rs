@@ -1,0 +1,209 @@
+//! Runs histories through the store and the book and looks for a contradiction.
+
+use crate::answer::{Answer, Class, Rebuild, Refusal, Start};
+use crate::book::{Book, Replay};
+use crate::bytes::{all_zero, is_sealed, u16_at, u32_at};
+use crate::calls::inspect;
+use crate::cell::Call;
+use crate::geometry::{frame_count, frame_place};
+use crate::history::{choose_geometry, Style};
+use crate::image::{BODY, CHECKSUM};
+use crate::restart::recover;
+use crate::rng::Rng;
+use crate::script::Script;
+use crate::state::{IndexEntry, State};
+use crate::world::{Event, Outcome, World};
+
+/// Inspecting all pages is put off in large geometries: one event in so much work.
+const WORK_PER_EVENT: usize = 2_000;
+
+pub struct Checker {
+    pub world: World,
+    pub book: Book,
+    events: Vec<Event>,
+}
+
+/// Runs the history of a seed; an error tells the contradiction and the events before it.
+pub fn check_history(seed: u64) -> Result<Counts, String> {
+    let mut rng = Rng::new(seed);
+    let geometry = choose_geometry(&mut rng);
+    let style = Style::choose(&mut rng);
+    let world = World::make(Script::default(), geometry, rng.byte());
+    let mut checker = Checker { world, book: Book::default(), events: Vec::new() };
+    let rest = 1 + geometry.pages * (geometry.records + geometry.notes) / WORK_PER_EVENT;
+    for at in 0..rng.between(20, 400) {
+        let event = style.next(&checker.world, &mut rng);
+        checker.step(event, at % rest == 0)?;
+    }
+    checker.inspect_all().map_err(|text| checker.report(&text))?;
+    Ok(Counts { events: checker.events.len(), kept: checker.book.kept.len() })
+}
+
+/// How much a history held.
+#[derive(Default)]
+pub struct Counts {
+    pub events: usize,
+    pub kept: usize,
+}
+
+impl Checker {
+    fn step(&mut self, event: Event, inspect_all: bool) -> Result<(), String> {
+        let waiting_before = self.book.waiting.len();
+        self.events.push(event.clone());
+        let outcome = self.world.apply(&event);
+        self.feed(&event, &outcome);
+        self.check_answer(&event, &outcome, waiting_before)
+            .and_then(|()| self.check_live())
+            .and_then(|()| if inspect_all { self.inspect_all() } else { Ok(()) })
+            .map_err(|text| self.report(&text))
+    }
+
+    fn feed(&mut self, event: &Event, outcome: &Outcome) {
+        match event {
+            Event::Call(call) => {
+                let refused = outcome.answer.is_some_and(|answer| answer.is_refused());
+                self.book.call(call, refused);
+            }
+            Event::Cut { within, .. } => self.book.cut(within.as_ref(), outcome.left_new),
+            Event::Lend { .. } | Event::Damage { .. } => {}
+        }
+    }
+
+    /// Answers that no history may give, and the replay that a Load must give.
+    fn check_answer(&self, event: &Event, outcome: &Outcome, waiting: usize) -> Result<(), String> {
+        let (Event::Call(call), Some(answer)) = (event, outcome.answer) else {
+            return Ok(());
+        };
+        let memory_fits = frame_count(self.world.script.driver.memory_len).is_some();
+        let broken = match answer {
+            Answer::Refused(Refusal::Lent) => *call != Call::Restart || memory_fits,
+            Answer::Refused(refusal) => matches!(refusal.number(), 1 | 17..=19),
+            _ => false,
+        };
+        ensure(!broken, || format!("a history made {call:?} answer {answer}"))?;
+        if *call == Call::Force {
+            let nothing = answer == Answer::Nothing;
+            ensure(nothing == (waiting == 0), || format!("{answer} with {waiting} waiting"))?;
+        }
+        match (call, answer) {
+            (Call::Load { page, frame }, Answer::Rebuilt(rebuild)) => {
+                let driver = &self.world.script.driver;
+                let image = &driver.memory[frame_place((*frame).into())];
+                same(image, self.book.replay(*page), "Load", *page)?;
+                self.check_rebuild(*page, &rebuild, image)?;
+                let dirty = driver.state.frame((*frame).into()).dirty;
+                ensure(dirty == (rebuild.class != Class::Good), || format!("{answer}: {dirty}"))
+            }
+            _ => Ok(()),
+        }
+    }
+
+    /// A sound state with the book's counts; frames that hold kept and waiting changes.
+    fn check_live(&self) -> Result<(), String> {
+        if !self.world.live {
+            return Ok(());
+        }
+        let driver = &self.world.script.driver;
+        let state = &driver.state;
+        let sound = state.is_sound(&self.world.geometry, self.world.frames());
+        ensure(sound, || format!("a history came to an unsound state: {state:?}"))?;
+        let counts = (self.book.kept.len(), self.book.waiting.len());
+        ensure((state.durable as usize, state.pending as usize) == counts, || {
+            format!("durable {} pending {}, book {counts:?}", state.durable, state.pending)
+        })?;
+        self.check_index(state)?;
+        for (at, frame) in state.frames.iter().enumerate().filter(|(_, frame)| frame.page != 0) {
+            let image = &driver.memory[frame_place(at + 1)];
+            same(image, self.book.replay_with_waiting(frame.page), "frame", frame.page)?;
+            ensure(all_zero(&image[CHECKSUM]), || "checksum bytes in a frame".into())?;
+        }
+        Ok(())
+    }
+
+    /// The index is what the volume gives, but for pending records.
+    fn check_index(&self, state: &State) -> Result<(), String> {
+        let noted = self.noted()?;
+        let durable_part = |state: &State| {
+            let entries = state.index.map(|entry| IndexEntry { newest: 0, ..entry });
+            (state.durable, state.notes, entries)
+        };
+        ensure(durable_part(state) == durable_part(&noted), || {
+            format!("the volume gives {noted:?}, the state is {state:?}")
+        })
+    }
+
+    /// Inspect for every page: 7 exactly if blank, else the replay's number and body.
+    fn inspect_all(&self) -> Result<(), String> {
+        for page in 1..=self.world.geometry.pages as u16 {
+            let mut buffer = [0xA5; 256];
+            let answer = inspect(self.world.volume(), page, &mut buffer);
+            match (answer, self.book.replay(page)) {
+                (Answer::Refused(Refusal::Blank), None) => {
+                    ensure(buffer == [0xA5; 256], || "a refused Inspect wrote".into())?
+                }
+                (Answer::Rebuilt(rebuild), replay @ Some(_)) => {
+                    same(&buffer, replay, "Inspect", page)?;
+                    ensure(is_sealed(&buffer), || "Inspect set no checksum".into())?;
+                    self.check_rebuild(page, &rebuild, &buffer)?;
+                }
+                (answer, replay) => {
+                    let number = replay.map(|replay| replay.number);
+                    return Err(format!("Inspect of page {page}: {answer}, book {number:?}"));
+                }
+            }
+        }
+        Ok(())
+    }
+
+    /// Class Good and the count replayed, told from the book, the own image and the notes.
+    fn check_rebuild(&self, page: u16, rebuild: &Rebuild, image: &[u8]) -> Result<(), String> {
+        let own = &self.world.volume()[self.world.geometry.page(page.into())];
+        let good = own[..252] == image[..252] && is_sealed(own);
+        ensure(good == (rebuild.class == Class::Good), || format!("page {page}: {rebuild}"))?;
+        let places = self.book.places(page);
+        let after = |number: u32| places.iter().filter(|&&place| place > number).count();
+        let is_format = |&&place: &&u32| self.book.kept[place as usize - 1].change.is_format();
+        let last_format = places.iter().rev().find(is_format).copied().unwrap_or(1);
+        let noted = self.noted()?.entry(page).backup_lsn;
+        let expected = match rebuild.start {
+            Start::Own => after(u32_at(own, 4)),
+            Start::Backup => after(noted),
+            Start::Format => after(last_format) + 1,
+        };
+        ensure(rebuild.replayed == expected, || format!("page {page}: {rebuild}, {places:?}"))
+    }
+
+    /// What a Restart would give now.
+    fn noted(&self) -> Result<State, String> {
+        recover(self.world.volume(), &self.world.geometry)
+            .map_err(|refusal| format!("a history's volume breaks the restart rule: {refusal:?}"))
+    }
+
+    fn report(&self, text: &str) -> String {
+        let events: Vec<String> =
+            self.events.iter().enumerate().map(|(at, event)| format!("{at:4} {event:?}")).collect();
+        format!("{text}\n{:?}\n{}", self.world.geometry, events.join("\n"))
+    }
+}
+
+/// Whether bytes 4 to 251 of an image are the replay's, and the page number is right.
+fn same(image: &[u8], replay: Option<Replay>, what: &str, page: u16) -> Result<(), String> {
+    let Some(replay) = replay else {
+        return Err(format!("{what} of page {page}, which the book calls blank"));
+    };
+    ensure(u16_at(image, 0) == page && u16_at(image, 2) == 0, || {
+        format!("{what} of page {page}: first bytes {:?}", &image[..4])
+    })?;
+    ensure(u32_at(image, 4) == replay.number, || {
+        format!("{what} of page {page}: number {}, book {}", u32_at(image, 4), replay.number)
+    })?;
+    ensure(image[BODY] == replay.body, || format!("{what} of page {page}: body differs"))
+}
+
+fn ensure(holds: bool, text: impl FnOnce() -> String) -> Result<(), String> {
+    if holds {
+        Ok(())
+    } else {
+        Err(text())
+    }
+}

@@ -1,0 +1,153 @@
+//! Counting the answers of a script: refusals, classes and starts.
+
+use crate::answer::{Answer, Refusal};
+use crate::cell::{decode, Call, Cell, Op};
+use crate::driver::Driver;
+use crate::fault::Fault;
+use crate::geometry::{frame_count, Geometry};
+use crate::restart::recover;
+use crate::sound::clause_names;
+use crate::state::State;
+use crate::walk::rebuild;
+use std::collections::{BTreeMap, BTreeSet};
+
+/// Names of the calls, by op number less 1.
+pub const CALLS: [&str; 10] =
+    ["make", "restart", "begin", "load", "change", "force", "write", "backup", "note", "inspect"];
+
+/// The refusals that each call can give.
+const REFUSALS: [&[u8]; 10] = [
+    &[1],
+    &[1, 2, 17, 18],
+    &[1, 2, 3, 4, 9, 10, 11, 12],
+    &[1, 2, 3, 4, 7, 9, 10, 19],
+    &[1, 2, 3, 6, 8, 11, 12],
+    &[1, 2],
+    &[1, 2, 3, 8, 13, 14, 15],
+    &[1, 2, 3, 5, 8, 13, 14, 15, 16],
+    &[1, 2],
+    &[1, 2, 3, 7, 17, 18],
+];
+
+/// The class and start pairs there are: Good is always own, Failed never.
+const REBUILDS: [&str; 9] = [
+    "GOOD OWN",
+    "BEHIND OWN",
+    "BEHIND BACKUP",
+    "BEHIND FORMAT",
+    "STALE OWN",
+    "STALE BACKUP",
+    "STALE FORMAT",
+    "FAILED BACKUP",
+    "FAILED FORMAT",
+];
+
+/// Stands for the call where a hit is the cause of a refusal.
+const CAUSE: &str = "cause";
+
+/// A call's name and an answer without its count, or `CAUSE` and a cause.
+pub type Hit = (&'static str, String);
+
+/// An answer as it is counted: a rebuild without the count replayed.
+pub fn label(answer: &str) -> String {
+    let words: Vec<&str> = answer.split(' ').collect();
+    match words[..] {
+        [class, start, _] => format!("{class} {start}"),
+        _ => answer.to_string(),
+    }
+}
+
+/// Every call with every answer that it can give.
+pub fn targets() -> BTreeSet<Hit> {
+    let mut all = BTreeSet::new();
+    for (&name, refusals) in CALLS.iter().zip(REFUSALS) {
+        all.extend(refusals.iter().map(|number| (name, format!("REFUSED {number}"))));
+        match name {
+            "load" | "inspect" => {
+                all.extend(REBUILDS.iter().map(|rebuild| (name, rebuild.to_string())));
+            }
+            _ => _ = all.insert((name, "OK".into())),
+        }
+        if matches!(name, "force" | "write" | "note") {
+            all.insert((name, "NOTHING".into()));
+        }
+    }
+    all
+}
+
+/// Every cause of a refusal that is looked for.
+pub fn causes() -> BTreeSet<Hit> {
+    let faults = Fault::ALL.iter().map(|fault| format!("{fault:?}"));
+    let clauses = clause_names().map(String::from);
+    faults.chain(clauses).map(|cause| (CAUSE, cause)).collect()
+}
+
+/// The call of a cell, if it is one.
+pub fn call_name(cell: &Cell) -> Option<&'static str> {
+    match decode(cell) {
+        Op::Call(call) => Some(name_of(&call)),
+        _ => None,
+    }
+}
+
+fn name_of(call: &Call) -> &'static str {
+    CALLS[usize::from(call.code()) - 1]
+}
+
+/// What the calls of a script answer, and the causes of their refusals.
+pub fn hits(cells: &[Cell]) -> BTreeSet<Hit> {
+    let mut driver = Driver::default();
+    let mut all = BTreeSet::new();
+    for cell in cells {
+        let Op::Call(call) = decode(cell) else {
+            driver.run(&decode(cell));
+            continue;
+        };
+        let state = driver.state;
+        let answer = driver.call(&call);
+        all.insert((name_of(&call), label(&answer.to_string())));
+        if let Answer::Refused(refusal) = answer {
+            all.extend(cause(&driver, &state, &call, refusal).map(|cause| (CAUSE, cause)));
+        }
+    }
+    all
+}
+
+/// What is behind a refusal by volume, state, log, notes or chain. An unsound state counts
+/// if it breaks one clause only.
+fn cause(driver: &Driver, state: &State, call: &Call, refusal: Refusal) -> Option<String> {
+    let named = |fault: Fault| format!("{fault:?}");
+    let geometry = match Geometry::read(driver.volume()) {
+        Ok(geometry) => geometry,
+        Err(fault) => return (!matches!(call, Call::Make { .. })).then(|| named(fault)),
+    };
+    match (refusal, call) {
+        (Refusal::Lent, Call::Restart | Call::Inspect { .. }) => None,
+        (Refusal::Lent, _) => {
+            let broken = state.broken_clauses(&geometry, frame_count(driver.memory_len)?);
+            (broken.len() == 1).then(|| broken[0].to_string())
+        }
+        (Refusal::LogBroken | Refusal::NotesBroken, _) => {
+            recover(driver.volume(), &geometry).err().map(named)
+        }
+        (Refusal::ChainBroken, Call::Load { page, .. }) => {
+            rebuild(driver.volume(), &geometry, *page, state.entry(*page)).err().map(named)
+        }
+        _ => None,
+    }
+}
+
+/// Counts of each answer, each class and each start in a driver's output.
+pub fn count_output(output: &str) -> BTreeMap<String, usize> {
+    let mut counts = BTreeMap::new();
+    for line in output.lines() {
+        let answer = label(line.split(" v=").next().unwrap_or(line));
+        *counts.entry(answer.clone()).or_default() += 1;
+        if let Some((class, start)) = answer.split_once(' ').filter(|(word, _)| *word != "REFUSED")
+        {
+            *counts.entry(format!("class {class}")).or_default() += 1;
+            *counts.entry(format!("start {start}")).or_default() += 1;
+        }
+    }
+    counts
+}

@@ -1,0 +1,117 @@
+//! Damage and torn writes, as far as document 01 allows them.
+
+use crate::bytes::{is_sealed, seal, u16_at};
+use crate::geometry::IMAGE_LEN;
+use crate::image::set_image_lsn;
+use crate::restart::recover;
+use crate::rng::Rng;
+use crate::state::State;
+use crate::world::{Event, Place, World};
+
+/// Tries of a random spoiling before zeros, which never pass, are taken.
+const TRIES: usize = 8;
+
+/// A page or slot image replaced by one that does not pass, or by one stored there earlier.
+pub fn choose_damage(world: &World, rng: &mut Rng) -> Event {
+    let place = choose_place(world, rng);
+    let noted = recover(world.volume(), &world.geometry).unwrap_or(State::zero());
+    let earlier: Vec<&Vec<u8>> =
+        world.stored.iter().filter(|(at, _)| *at == place).map(|(_, image)| image).collect();
+    let bytes = match earlier.is_empty() || rng.chance(400) {
+        true => failing_image(world, &noted, place, rng),
+        false => rng.pick(&earlier).clone(),
+    };
+    Event::Damage { place, bytes }
+}
+
+/// Any place, or often one in which an image was stored.
+fn choose_place(world: &World, rng: &mut Rng) -> Place {
+    let geometry = &world.geometry;
+    if !world.stored.is_empty() && rng.chance(500) {
+        return world.stored[rng.below(world.stored.len())].0;
+    }
+    match geometry.slots != 0 && rng.chance(400) {
+        true => Place::Slot(rng.between(1, geometry.slots) as u16),
+        false => Place::Page(rng.between(1, geometry.pages) as u16),
+    }
+}
+
+fn failing_image(world: &World, noted: &State, place: Place, rng: &mut Rng) -> Vec<u8> {
+    for _ in 0..TRIES {
+        let bytes = spoiled(world, noted, place, rng);
+        if !passes_in(world, noted, place, &bytes) {
+            return bytes;
+        }
+    }
+    vec![0; IMAGE_LEN]
+}
+
+/// Whether an image passes in a place, the index being what the volume's notes give. Told
+/// apart from the store's own test, which it is to contradict.
+fn passes_in(world: &World, noted: &State, place: Place, image: &[u8]) -> bool {
+    let page = u16_at(image, 0);
+    let in_range = (1..=world.geometry.pages).contains(&usize::from(page));
+    let page_right = match place {
+        Place::Page(own) => page == own,
+        Place::Slot(slot) => {
+            let owner = noted.index.iter().position(|entry| u16::from(entry.backup_slot) == slot);
+            owner.map_or(in_range, |at| usize::from(page) == at + 1)
+        }
+    };
+    is_sealed(image) && page_right && image[2..4] == [0, 0]
+}
+
+/// The place's image with something wrong; a sealed image is among the choices.
+fn spoiled(world: &World, noted: &State, place: Place, rng: &mut Rng) -> Vec<u8> {
+    let mut bytes = world.volume()[world.place(place)].to_vec();
+    match rng.below(6) {
+        0 => bytes.fill(0),
+        1 => rng.fill(&mut bytes),
+        2 => {
+            let at = rng.below(IMAGE_LEN);
+            bytes[at] ^= rng.byte() | 1;
+        }
+        3 => {
+            bytes[2 + rng.below(2)] = rng.byte() | 1;
+            seal(&mut bytes);
+        }
+        4 => {
+            bytes[0] = rng.pick(&[0, world.geometry.pages as u8 + 1, bytes[0].wrapping_add(1)]);
+            seal(&mut bytes);
+        }
+        // A forged image of any page, at a number near those given.
+        _ => {
+            rng.fill(&mut bytes);
+            bytes[..8].fill(0);
+            bytes[0] = rng.between(1, world.geometry.pages) as u8;
+            set_image_lsn(&mut bytes, rng.between(1, noted.durable as usize + 2) as u32);
+            seal(&mut bytes);
+        }
+    }
+    bytes
+}
+
+/// Bytes that a torn write leaves: they fail their checksum.
+pub fn torn(old: &[u8], new: &[u8], rng: &mut Rng) -> Vec<u8> {
+    let mut bytes = new.to_vec();
+    match rng.below(4) {
+        0 => {
+            let kept = rng.below(new.len());
+            bytes[kept..].copy_from_slice(&old[kept..]);
+        }
+        1 => {
+            let kept = rng.below(new.len());
+            bytes[..kept].copy_from_slice(&old[..kept]);
+        }
+        2 => rng.fill(&mut bytes),
+        _ => bytes.fill(0),
+    }
+    if is_sealed(&bytes) {
+        let at = rng.below(bytes.len());
+        bytes[at] ^= 1;
+    }
+    if is_sealed(&bytes) {
+        bytes.fill(0);
+    }
+    bytes
+}

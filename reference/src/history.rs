@@ -1,0 +1,165 @@
+//! Generator of histories: calls, cuts, torn writes, damage and live restarts.
+
+use crate::answer::Answer;
+use crate::cell::{Call, Cell, MAX_CELLS};
+use crate::choose::{Chooser, Kind};
+use crate::damage::{choose_damage, torn};
+use crate::geometry::{memory_len_for, Geometry, MAX_FRAMES};
+use crate::rng::Rng;
+use crate::script::Script;
+use crate::world::{Event, Left, World};
+
+/// Tries for a call that does something.
+const TRIES: usize = 6;
+
+/// How often, per mille, and by which weights a history does things.
+pub struct Style {
+    cut: usize,
+    damage: usize,
+    silly: usize,
+    bad_memory: usize,
+    weights: Vec<(Kind, usize)>,
+}
+
+impl Style {
+    pub fn choose(rng: &mut Rng) -> Style {
+        Style {
+            cut: rng.pick(&[0, 5, 20, 60]),
+            damage: rng.pick(&[0, 20, 60, 120]),
+            silly: rng.pick(&[0, 20, 100]),
+            bad_memory: 100,
+            weights: vec![
+                (Kind::Begin, rng.pick(&[6, 15])),
+                (Kind::Load, rng.pick(&[8, 20])),
+                (Kind::Change, rng.pick(&[10, 25])),
+                (Kind::Force, rng.pick(&[1, 12, 25, 40])),
+                (Kind::Write, rng.pick(&[3, 15])),
+                (Kind::Backup, rng.pick(&[1, 6, 12])),
+                (Kind::Note, rng.pick(&[3, 20])),
+                (Kind::Restart, rng.pick(&[0, 1, 3])),
+            ],
+        }
+    }
+
+    /// The next event of a history that has come to `world`.
+    pub fn next(&self, world: &World, rng: &mut Rng) -> Event {
+        if rng.chance(self.damage) {
+            return choose_damage(world, rng);
+        }
+        if !world.live {
+            return self.revive(world, rng);
+        }
+        let call = self.call(world, rng);
+        match rng.chance(self.cut) {
+            true => cut(world, call, rng),
+            false => Event::Call(call),
+        }
+    }
+
+    /// Towards a Restart, with any memory lent to it.
+    fn revive(&self, world: &World, rng: &mut Rng) -> Event {
+        if rng.chance(self.cut) {
+            return Event::Cut { within: None, left: Left::Old };
+        }
+        if rng.chance(if world.frames() == 0 { 700 } else { 500 }) {
+            let memory_len = match rng.chance(self.bad_memory) {
+                true => rng.pick(&[0, 1_024, 1_279, 1_281, memory_len_for(MAX_FRAMES + 1)]),
+                false => memory_len_for(frames(rng)),
+            };
+            return Event::Lend { memory_len, byte: rng.byte() };
+        }
+        Event::Call(Call::Restart)
+    }
+
+    /// A call; one that does nothing is mostly given up for another.
+    fn call(&self, world: &World, rng: &mut Rng) -> Call {
+        let chooser = chooser(world);
+        for _ in 0..TRIES {
+            let kind = rng.weighted(&self.weights);
+            if rng.chance(self.silly) {
+                return chooser.silly(kind, rng);
+            }
+            let call = chooser.sensible(kind, rng);
+            let idle = matches!(
+                world.script.driver.trial().call(&call),
+                Answer::Refused(_) | Answer::Nothing
+            );
+            if !idle || rng.chance(150) {
+                return call;
+            }
+        }
+        chooser.sensible(rng.weighted(&self.weights), rng)
+    }
+}
+
+/// A cut between calls or within this one.
+fn cut(world: &World, call: Call, rng: &mut Rng) -> Event {
+    if rng.chance(150) {
+        return Event::Cut { within: None, left: Left::Old };
+    }
+    let left = match (rng.below(3), world.item_of(&call), world.item_after(&call)) {
+        (0, Some(_), _) => Left::New,
+        (1, Some(item), Some(new)) => Left::Torn(torn(&world.volume()[item], &new, rng)),
+        _ => Left::Old,
+    };
+    Event::Cut { within: Some(call), left }
+}
+
+pub fn chooser(world: &World) -> Chooser<'_> {
+    Chooser { state: &world.script.driver.state, geometry: &world.geometry, frames: world.frames() }
+}
+
+fn frames(rng: &mut Rng) -> usize {
+    match rng.below(6) {
+        0 => rng.between(1, MAX_FRAMES),
+        _ => rng.between(1, 4),
+    }
+}
+
+/// Mostly a small geometry, sometimes any, rarely the full one.
+pub fn choose_geometry(rng: &mut Rng) -> Geometry {
+    let counts = match rng.below(40) {
+        0 => [64, 128, 1024, 1024],
+        1..=3 => {
+            [rng.between(1, 64), rng.between(0, 128), rng.between(1, 1024), rng.between(0, 1024)]
+        }
+        4..=9 => [rng.between(1, 3), rng.between(0, 2), rng.between(1, 6), rng.between(0, 3)],
+        10..=15 => [rng.between(1, 5), rng.between(0, 5), rng.between(8, 40), rng.between(0, 15)],
+        _ => [rng.between(1, 5), rng.between(1, 5), rng.between(20, 200), rng.between(10, 100)],
+    };
+    Geometry::new(counts.map(|count| count as u32)).expect("the counts are in range")
+}
+
+/// A script of one history or several, with inspections in between.
+pub fn history_script(rng: &mut Rng, cells: usize) -> Vec<Cell> {
+    let cells = cells.min(MAX_CELLS);
+    let mut script = Script::default();
+    while script.len() < cells {
+        let geometry = choose_geometry(rng);
+        let end = cells.min(script.len() + rng.between(60, 600));
+        script = one_history(script, geometry, end, rng);
+    }
+    script.cells.truncate(cells);
+    script.cells
+}
+
+/// Adds one history up to cell `end`, and the inspection of all its pages within that.
+pub fn one_history(script: Script, geometry: Geometry, end: usize, rng: &mut Rng) -> Script {
+    let style = Style::choose(rng);
+    let mut world = World::make(script, geometry, rng.byte());
+    while world.script.len() + geometry.pages < end {
+        let event = style.next(&world, rng);
+        world.apply(&event);
+        if rng.chance(60) {
+            let call = match rng.chance(150) {
+                true => chooser(&world).silly(Kind::Inspect, rng),
+                false => Call::Inspect { page: rng.between(1, geometry.pages) as u16 },
+            };
+            world.script.call(call);
+        }
+    }
+    for page in 1..=geometry.pages as u16 {
+        world.script.call(Call::Inspect { page });
+    }
+    world.script
+}

@@ -1,0 +1,82 @@
+//! Search for one compact script in which every call gives every answer it can give, with
+//! every cause of a refusal.
+
+use crate::arbitrary::one_bench;
+use crate::cell::{Cell, MAX_CELLS};
+use crate::coverage::{causes, hits, targets, Hit};
+use crate::geometry::Geometry;
+use crate::history::{choose_geometry, one_history};
+use crate::rng::Rng;
+use crate::script::Script;
+use std::collections::BTreeSet;
+
+/// Cells of a candidate piece.
+const PIECE: usize = 110;
+/// How many new answers a piece must bring to be taken, and for how many tries.
+const ROUNDS: [(usize, usize); 6] =
+    [(25, 100), (15, 100), (8, 200), (4, 400), (2, 800), (1, 6_000)];
+
+/// The script, and the answers that it does not reach.
+pub fn mixed_script(rng: &mut Rng, cells: usize) -> (Vec<Cell>, BTreeSet<Hit>) {
+    let most = cells.min(MAX_CELLS);
+    let mut missing: BTreeSet<Hit> = targets().union(&causes()).cloned().collect();
+    let mut all = full_size_piece(rng);
+    remove(&mut missing, &all);
+    for (gain, tries) in ROUNDS {
+        for _ in 0..tries {
+            if missing.is_empty() {
+                break;
+            }
+            let piece = piece(rng);
+            if hits(&piece).intersection(&missing).count() < gain {
+                continue;
+            }
+            let piece = shortest_with_same_hits(piece, &missing);
+            if all.len() + piece.len() <= most {
+                remove(&mut missing, &piece);
+                all.extend(piece);
+            }
+        }
+    }
+    (all, missing)
+}
+
+fn remove(missing: &mut BTreeSet<Hit>, piece: &[Cell]) {
+    hits(piece).iter().for_each(|hit| _ = missing.remove(hit));
+}
+
+/// A piece that stands by itself: it brings the driver to zero first.
+fn piece(rng: &mut Rng) -> Vec<Cell> {
+    let geometry = loop {
+        let geometry = choose_geometry(rng);
+        if geometry.pages <= 8 {
+            break geometry;
+        }
+    };
+    let script = match rng.chance(400) {
+        true => one_history(Script::default(), geometry, PIECE, rng),
+        false => one_bench(Script::default(), geometry, PIECE, rng),
+    };
+    script.cells
+}
+
+/// A piece of the largest geometry, 131,092 bytes.
+fn full_size_piece(rng: &mut Rng) -> Vec<Cell> {
+    let geometry = Geometry::new([64, 128, 1024, 1024]).expect("the counts are in range");
+    one_history(Script::default(), geometry, 2 * PIECE, rng).cells
+}
+
+/// Drops the cells after the last one that reaches something missing.
+fn shortest_with_same_hits(mut piece: Vec<Cell>, missing: &BTreeSet<Hit>) -> Vec<Cell> {
+    let wanted: BTreeSet<Hit> = hits(&piece).intersection(missing).cloned().collect();
+    let (mut low, mut high) = (0, piece.len());
+    while low < high {
+        let middle = (low + high) / 2;
+        match wanted.is_subset(&hits(&piece[..middle])) {
+            true => high = middle,
+            false => low = middle + 1,
+        }
+    }
+    piece.truncate(high);
+    piece
+}

@@ -1,0 +1,89 @@
+//! Reading a page from disk: its class, the chain walk and the replay.
+
+use crate::answer::{Class, Rebuild, Start};
+use crate::bytes::is_sealed;
+use crate::fault::{require, Fault};
+use crate::geometry::Geometry;
+use crate::image::{as_frame, blank_image, image_lsn, passes, Image};
+use crate::record::Record;
+use crate::state::IndexEntry;
+
+/// The class of a page's own image, as the index sees it.
+pub fn classify(own: &[u8], page: u16, entry: &IndexEntry) -> Class {
+    let lsn = image_lsn(own);
+    if !passes(own, page) || lsn > entry.newest_durable {
+        Class::Failed
+    } else if lsn == entry.newest_durable {
+        Class::Good
+    } else if lsn >= entry.written {
+        Class::Behind
+    } else {
+        Class::Stale
+    }
+}
+
+/// Rebuilds `page` up to its newest durable record, checksum bytes zero.
+/// A fault if a record that the walk reads is broken.
+pub fn rebuild(
+    volume: &[u8],
+    geometry: &Geometry,
+    page: u16,
+    entry: &IndexEntry,
+) -> Result<(Rebuild, Image), Fault> {
+    let own = &volume[geometry.page(page.into())];
+    let mut number = entry.newest_durable;
+    let mut chain = Vec::new();
+    let (start, mut image) = loop {
+        if passes(own, page) && image_lsn(own) == number {
+            break (Start::Own, as_frame(own));
+        }
+        if let Some(backup) = backup_at(volume, geometry, page, entry, number) {
+            break (Start::Backup, as_frame(backup));
+        }
+        let record = chain_record(volume, geometry, page, number)?;
+        chain.push(record);
+        if record.change.is_format() {
+            break (Start::Format, blank_image(page));
+        }
+        number = record.previous;
+    };
+    for record in chain.iter().rev() {
+        record.apply(&mut image);
+    }
+    let class = classify(own, page, entry);
+    Ok((Rebuild { class, start, replayed: chain.len() }, image))
+}
+
+/// The backup, if the index notes exactly `number` and its image passes with it.
+fn backup_at<'a>(
+    volume: &'a [u8],
+    geometry: &Geometry,
+    page: u16,
+    entry: &IndexEntry,
+    number: u32,
+) -> Option<&'a [u8]> {
+    if entry.backup_slot == 0 || entry.backup_lsn != number {
+        return None;
+    }
+    let backup = &volume[geometry.slot(entry.backup_slot.into())];
+    (passes(backup, page) && image_lsn(backup) == number).then_some(backup)
+}
+
+/// Record `number` of `page`'s chain.
+fn chain_record(
+    volume: &[u8],
+    geometry: &Geometry,
+    page: u16,
+    number: u32,
+) -> Result<Record, Fault> {
+    // A sound state and records read before give a number from 1 to L.
+    require((1..=geometry.records).contains(&(number as usize)), Fault::ChainNumber)?;
+    let bytes = &volume[geometry.record(number as usize)];
+    require(is_sealed(bytes), Fault::ChainChecksum)?;
+    let record = Record::decode(bytes).ok_or(Fault::ChainLayout)?;
+    require(record.number == number, Fault::ChainNumber)?;
+    require(record.page == page, Fault::ChainPage)?;
+    require(record.previous < number, Fault::ChainPrevious)?;
+    require(record.previous != 0 || record.change.is_format(), Fault::ChainEnd)?;
+    Ok(record)
+}

@@ -1,0 +1,168 @@
+//! A history under way: its events and what they do to volume, memory and state.
+
+use crate::answer::Answer;
+use crate::cell::{Call, Op};
+use crate::geometry::{frame_count, Geometry};
+use crate::script::Script;
+use std::ops::Range;
+
+/// A place that holds a page image on disk.
+#[derive(Clone, Copy, Debug, PartialEq, Eq)]
+pub enum Place {
+    Page(u16),
+    Slot(u16),
+}
+
+/// How a cut leaves the item that the call stores.
+#[derive(Clone, Debug)]
+pub enum Left {
+    Old,
+    New,
+    /// A torn write: bytes that fail their checksum.
+    Torn(Vec<u8>),
+}
+
+#[derive(Clone, Debug)]
+pub enum Event {
+    /// Another memory is lent; only after Make, a cut or a refused Restart.
+    Lend {
+        memory_len: usize,
+        byte: u8,
+    },
+    Call(Call),
+    Cut {
+        within: Option<Call>,
+        left: Left,
+    },
+    Damage {
+        place: Place,
+        bytes: Vec<u8>,
+    },
+}
+
+/// What an event came to.
+#[derive(Clone, Copy, Debug, Default)]
+pub struct Outcome {
+    pub answer: Option<Answer>,
+    /// For a cut: whether the call's item counts as stored.
+    pub left_new: bool,
+}
+
+pub struct World {
+    pub script: Script,
+    pub geometry: Geometry,
+    /// Whether a Restart that was not refused gave the present state.
+    pub live: bool,
+    /// Every image that a Write or Backup has stored, with its place.
+    pub stored: Vec<(Place, Vec<u8>)>,
+}
+
+impl World {
+    /// A made volume, in a script that continues. `byte` lies in the volume before.
+    pub fn make(mut script: Script, geometry: Geometry, byte: u8) -> World {
+        script.reset();
+        script.emit(Op::Fill { target: 0, byte });
+        script.sizes(geometry.volume_len(), 1_280, 256);
+        script.call(Call::Make { counts: geometry.counts() });
+        World { script, geometry, live: false, stored: Vec::new() }
+    }
+
+    pub fn volume(&self) -> &[u8] {
+        self.script.driver.volume()
+    }
+
+    /// Frames of the memory that is lent now; 0 if its length is wrong.
+    pub fn frames(&self) -> usize {
+        frame_count(self.script.driver.memory_len).unwrap_or(0)
+    }
+
+    pub fn place(&self, place: Place) -> Range<usize> {
+        match place {
+            Place::Page(page) => self.geometry.page(page.into()),
+            Place::Slot(slot) => self.geometry.slot(slot.into()),
+        }
+    }
+
+    pub fn apply(&mut self, event: &Event) -> Outcome {
+        match event {
+            Event::Lend { memory_len, byte } => {
+                self.script.resize_memory(*memory_len);
+                self.script.emit(Op::Fill { target: 1, byte: *byte });
+                Outcome::default()
+            }
+            Event::Call(call) => {
+                let answer = self.complete(call);
+                if *call == Call::Restart {
+                    self.live = !answer.is_refused();
+                }
+                Outcome { answer: Some(answer), left_new: false }
+            }
+            Event::Cut { within, left } => {
+                let left_new = within.is_some_and(|call| self.leave(&call, left));
+                self.script.emit(Op::Lose);
+                self.live = false;
+                Outcome { answer: None, left_new }
+            }
+            Event::Damage { place, bytes } => {
+                self.script.poke(self.place(*place), bytes);
+                Outcome::default()
+            }
+        }
+    }
+
+    /// Runs a call and keeps the image that it stores.
+    fn complete(&mut self, call: &Call) -> Answer {
+        let answer = self.script.call(*call);
+        let place = match *call {
+            Call::Write { page } => Place::Page(page),
+            Call::Backup { page: _, slot } => Place::Slot(slot),
+            _ => return answer,
+        };
+        if answer == Answer::Done {
+            let image = self.volume()[self.place(place)].to_vec();
+            self.stored.push((place, image));
+        }
+        answer
+    }
+
+    /// Leaves the item of a call that is cut; true if it counts as stored.
+    fn leave(&mut self, call: &Call, left: &Left) -> bool {
+        let Some(item) = self.item_of(call) else {
+            return false;
+        };
+        match left {
+            Left::Old => false,
+            Left::New => {
+                self.complete(call);
+                true
+            }
+            Left::Torn(bytes) => {
+                self.script.poke(item, bytes);
+                false
+            }
+        }
+    }
+
+    /// Bytes of the item that the call would store now; None if it would store none.
+    pub fn item_of(&self, call: &Call) -> Option<Range<usize>> {
+        let state = &self.script.driver.state;
+        if self.script.driver.trial().call(call) != Answer::Done {
+            return None;
+        }
+        match *call {
+            Call::Force => Some(self.geometry.record(state.durable as usize + 1)),
+            Call::Write { page } => Some(self.geometry.page(page.into())),
+            Call::Backup { page: _, slot } => Some(self.geometry.slot(slot.into())),
+            Call::Note => Some(self.geometry.note(state.notes as usize + 1)),
+            _ => None,
+        }
+    }
+
+    /// The bytes that the call would leave in its item.
+    pub fn item_after(&self, call: &Call) -> Option<Vec<u8>> {
+        let item = self.item_of(call)?;
+        let mut trial = self.script.driver.trial();
+        trial.call(call);
+        Some(trial.volume[item].to_vec())
+    }
+}

@@ -1,0 +1,55 @@
+//! Generators and the book, briefly: determinism, cell limits, no contradiction, no panic.
+
+use reference::arbitrary::arbitrary_script;
+use reference::check::check_history;
+use reference::coverage::{causes, hits, targets};
+use reference::driver::drive;
+use reference::history::history_script;
+use reference::rng::Rng;
+use std::collections::BTreeSet;
+
+#[test]
+fn histories_keep_to_the_book() {
+    for seed in 0..25 {
+        if let Err(text) = check_history(seed) {
+            panic!("seed {seed}: {text}");
+        }
+    }
+}
+
+#[test]
+fn a_seed_gives_one_script() {
+    let history = |seed| history_script(&mut Rng::new(seed), 300);
+    let arbitrary = |seed| arbitrary_script(&mut Rng::new(seed), 300);
+    assert_eq!(history(4), history(4));
+    assert_eq!(arbitrary(4), arbitrary(4));
+    assert_ne!(history(4), history(5));
+    assert_eq!((history(4).len(), arbitrary(4).len()), (300, 300));
+}
+
+#[test]
+fn scripts_give_only_answers_that_the_table_knows() {
+    let mut reached = BTreeSet::new();
+    for seed in 0..6 {
+        reached.extend(hits(&arbitrary_script(&mut Rng::new(seed), 1_000)));
+        reached.extend(hits(&history_script(&mut Rng::new(seed), 1_000)));
+    }
+    let known: BTreeSet<_> = targets().union(&causes()).cloned().collect();
+    assert!(reached.is_subset(&known), "{:?}", reached.difference(&known));
+}
+
+#[test]
+fn random_cells_never_panic() {
+    let mut rng = Rng::new(11);
+    for _ in 0..20 {
+        let mut script = vec![0; 64 * 300];
+        rng.fill(&mut script);
+        for cell in script.chunks_mut(64) {
+            cell[0] = rng.between(0, 17) as u8;
+            for at in [3, 5, 13, 14, 15, 61, 62, 63] {
+                cell[at] = if rng.chance(800) { 0 } else { cell[at] };
+            }
+        }
+        drive(&script, &mut Vec::new()).unwrap();
+    }
+}
