@@ -1,0 +1,134 @@
+-- What the definition of Load says in each of its cases, and what the code needs to know once it walks.
+use mathlib.Core.Path.{_≡_, refl, sym, ap, _∙_}
+use mathlib.Core.Bool.{Bool, true, false, not, cond}
+use mathlib.Core.List.{List, [], _∷_}
+use Prim.Native.Nat.{ℕ, _+_, _-_, _*_, _≤_}
+use native.Mathlib.Omega.{arith}
+use lib.Dec.{eqb}
+use lib.ListN.{length, take, drop, getD}
+use borrow.Author.Tests.{eq-eqb, ne-eqb, eqb-false, not-false}
+use borrow.Rule.Slice.PartMut.{putMid}
+use Rattle.laws.proofs.Tests.{none-at, within-bounds}
+use Rattle.laws.proofs.Parts.{put-splice, part-lent, part-length}
+use Rattle.laws.proofs.Places.{valid-facts}
+use Rattle.laws.proofs.WellFormed.{ready, frame-within}
+use Rattle.state.proofs.Facts.{formed-page}
+use Rattle.load.specs.Rows.{loadTail, earlyRows}
+use Rattle.load.proofs.Rows.{early-refuses, walk-decides}
+use Rattle.model.specs.Tests.{Row, firstOf}
+use Rattle.model.specs.Bytes.{splice}
+use Rattle.model.specs.Geometry.{geometryOf}
+use Rattle.model.specs.Index.{entryOf}
+use Rattle.model.specs.Repair.{viewOf, walkOf, isBroken, classIn, repairOf, rebuilt}
+use Rattle.model.specs.State.{frameCount, frameAt}
+use Rattle.model.specs.Refusals.{chainBroken, loadRows}
+use Rattle.model.specs.Calls.{withFrame, withFrames, isGood, loadOf, replyOf}
+use Rattle.model.specs.declared.geometry.Geometry.{Geometry}
+use Rattle.model.specs.declared.state.Entry.{Entry}
+use Rattle.model.specs.declared.state.State.{State}
+use Rattle.model.specs.declared.answer.Answer.the-variants.{Refused, Repaired}
+use Rattle.model.specs.declared.answer.Repair.{Repair}
+use Rattle.model.specs.declared.answer.Reply.{Reply}
+use Rattle.repair.specs.Chain.{Ready, chainOf}
+use Rattle.repair.specs.declared.Chain.{Chain}
+
+-- ---- the frame's bytes as they are lent
+
+pub lent-length : (m : List ℕ) (at frame : ℕ) → at ≡ frameAt frame → frameAt frame + 256 ≤ length m → length (take (at + 256 - at) (drop at m)) ≡ 256
+lent-length m at frame ea h = ap length (part-lent m at 256 (at + 256) refl) ∙ part-length m at 256 (omega arith)
+
+pub put-back : (m x y : List ℕ) (at frame : ℕ) → at ≡ frameAt frame → length x ≡ 256 → x ≡ y → putMid at (at + 256 - at) m x ≡ splice m (frameAt frame) y
+put-back m x y at frame ea l ex =
+    let k : at + 256 - at ≡ 256 = omega arith in
+    put-splice m at (at + 256 - at) x (l ∙ sym k) ∙ ap (splice m at) ex ∙ ap (λ (i : ℕ). splice m i y) ea
+
+module _ (v m : List ℕ) (s : State) (page frame : ℕ) where
+  refuses : (n : ℕ) → n ≡ firstOf (loadRows v m s page frame) → (n ≡ 0 → ⊥)
+      → (_≡_ {A = Reply} (record { answer = Refused n; state = s }) (replyOf (loadOf v m s page frame))) × (m ≡ loadOf v m s page frame .memory)
+  unfolding loadOf
+  refuses n e ne =
+      rw (ne-eqb (firstOf (loadRows v m s page frame)) 0 (λ z. ne (e ∙ z))) (ap (λ (k : ℕ). record { answer = Refused k; state = s }) e, refl)
+
+  -- a row before the walk holds
+  pub refused : (n : ℕ) → n ≡ firstOf (earlyRows v m s page frame) → (n ≡ 0 → ⊥)
+      → (_≡_ {A = Reply} (record { answer = Refused n; state = s }) (replyOf (loadOf v m s page frame))) × (m ≡ loadOf v m s page frame .memory)
+  refused n e ne = refuses n (early-refuses v m s page frame n e ne) ne
+
+  -- what is known where none does
+  pub record Open (g : Geometry) (e : Entry) : Type 0 where
+    pub none : firstOf (earlyRows v m s page frame) ≡ 0
+    pub geometry : g ≡ geometryOf v
+    pub entry : e ≡ entryOf (s .index) page
+    pub ready : Ready v g e page
+    pub page-high : page ≤ 64
+    pub frame-low : 1 ≤ frame
+    pub frame-high : frame ≤ 16
+    pub room : frameAt frame + 256 ≤ length m
+
+  pub opened : (g : Geometry) (e : Entry) → g ≡ geometryOf v → e ≡ entryOf (s .index) page → firstOf (earlyRows v m s page frame) ≡ 0 → Open g e
+  unfolding earlyRows
+  opened g e eg ee h =
+      let rows = loadTail (geometryOf v) (frameCount (length m)) s page frame in
+      let k = ready v m s rows h in
+      let f = valid-facts v (k .volume) in
+      let at : (i : ℕ) → getD rows i (false, 0) .0 ≡ false =
+      none-at rows (eqb-false 3 0 refl, (eqb-false 4 0 refl, (eqb-false 7 0 refl, (eqb-false 9 0 refl, (eqb-false 10 0 refl, tt))))) (k .rest) in
+      let p = within-bounds (geometryOf v .pages) page (not-false _ (at 0)) in
+      let w = within-bounds (frameCount (length m)) frame (not-false _ (at 1)) in
+      let high : page ≤ 64 = omega (arith, p .1, f .p-high) in
+      let q = formed-page (geometryOf v) (frameCount (length m)) s (k .state) page (p .0) (p .1) high in
+      record {
+        none = h;
+        geometry = eg;
+        entry = ee;
+        ready = record {
+          valid = k .volume;
+          geometry = eg;
+          low = p .0;
+          high = rw eg (p .1);
+          durable = rw (ee, eg) (omega (arith, q .counted, k .state .room));
+          slot = rw (ee, eg) (q .slot);
+        };
+        page-high = high;
+        frame-low = w .0;
+        frame-high = omega (arith, w .1, k .memory .high);
+        room = frame-within m (k .memory) frame (w .0) (w .1);
+      }
+
+  module _ (g : Geometry) (e : Entry) (o : Open g e) where
+    -- what is made of the geometry and the entry at hand is made of the volume's and the state's
+    same : {A : Type 0} (f : Geometry → Entry → A) → f g e ≡ f (geometryOf v) (entryOf (s .index) page)
+    same f = ap (λ (k : Geometry). f k e) (o .geometry) ∙ ap (f (geometryOf v)) (o .entry)
+
+    decides : (c : Chain) (b : Bool) → c ≡ chainOf g page (viewOf g v e page) → b ≡ isBroken (c .stop) → firstOf (loadRows v m s page frame) ≡ cond b 19 0
+    unfolding chainOf
+    decides c b ec eb =
+        let q : b ≡ chainBroken (geometryOf v) v s page =
+        eb ∙ ap (λ (x : Chain). isBroken (x .stop)) ec ∙ same (λ k x. isBroken (walkOf k page (viewOf k v x page) .stop)) in
+        walk-decides v m s page frame (o .none) ∙ rw q
+
+    -- the walk breaks
+    pub broken : (c : Chain) (b : Bool) → c ≡ chainOf g page (viewOf g v e page) → b ≡ isBroken (c .stop) → b ≡ true
+        → (_≡_ {A = Reply} (record { answer = Refused 19; state = s }) (replyOf (loadOf v m s page frame))) × (m ≡ loadOf v m s page frame .memory)
+    broken c b ec eb t = refuses 19 (sym (decides c b ec eb ∙ rw t)) (eqb-false 19 0 refl)
+
+    -- it does not
+    pub done : (c : Chain) (b clean : Bool) (r : Repair) (w : List ℕ) (t : State) → c ≡ chainOf g page (viewOf g v e page)
+        → b ≡ isBroken (c .stop)
+        → b ≡ false
+        → r ≡ repairOf g page (viewOf g v e page)
+        → w ≡ splice m (frameAt frame) (rebuilt g page (viewOf g v e page))
+        → clean ≡ isGood (r .class)
+        → t ≡ withFrames s (withFrame s frame page (not clean)) (s .note)
+        → (_≡_ {A = Reply} (record { answer = Repaired r; state = t }) (replyOf (loadOf v m s page frame))) × (w ≡ loadOf v m s page frame .memory)
+    unfolding loadOf repairOf
+    done c b clean r w t ec eb f er ew eq et =
+        let z : firstOf (loadRows v m s page frame) ≡ 0 = decides c b ec eb ∙ rw f in
+        let r′ : r ≡ repairOf (geometryOf v) page (viewOf (geometryOf v) v (entryOf (s .index) page) page) = er ∙ same (λ k x. repairOf k page (viewOf k v x page)) in
+        let q : clean ≡ isGood (classIn (geometryOf v) page (viewOf (geometryOf v) v (entryOf (s .index) page) page)) = eq ∙ ap (λ (x : Repair). isGood (x .class)) r′ in
+        rw (eq-eqb (firstOf (loadRows v m s page frame)) 0 z) (
+          ap (λ (x : Repair). record { answer = Repaired x; state = t }) r′
+              ∙ ap (λ (x : State). record { answer = Repaired (repairOf (geometryOf v) page (viewOf (geometryOf v) v (entryOf (s .index) page) page)); state = x })
+              (et ∙ ap (λ (x : Bool). withFrames s (withFrame s frame page (not x)) (s .note)) q),
+          ew ∙ same (λ k x. splice m (frameAt frame) (rebuilt k page (viewOf k v x page))),
+        )

@@ -1,0 +1,71 @@
+-- Load's refusals: the code's tests come to the rows before the walk, and these with the walk's come to the table.
+use mathlib.Core.Path.{_≡_, refl, sym, _∙_}
+use mathlib.Core.Bool.{Bool, true, false, not, cond}
+use mathlib.Core.List.{List, [], _∷_, _++_}
+use Prim.Native.Nat.{ℕ}
+use lib.Dec.{eqb}
+use lib.ListN.{length}
+use borrow.Author.Tests.{eqb-false, eq-eqb, ne-eqb}
+use Rattle.laws.proofs.Tests.{Numbered, when-true, when-false}
+use Rattle.state.proofs.Fits.{refusal-then}
+use Rattle.load.specs.Rows.{loadTail, earlyRows}
+use Rattle.model.specs.Tests.{Row, firstOf, within}
+use Rattle.model.specs.Geometry.{geometryOf}
+use Rattle.model.specs.State.{frameCount, frameOf, held, blank}
+use Rattle.model.specs.Refusals.{chainBroken, stateRows, loadRows}
+use Rattle.model.specs.declared.geometry.Geometry.{Geometry}
+use Rattle.model.specs.declared.state.Frame.{Frame}
+use Rattle.model.specs.declared.state.State.{State}
+
+-- the tests of the rows of Load's own
+pub own-is : (g : Geometry) (count : ℕ) (s : State) (page frame : ℕ) (none in-frame : Bool) (f : Frame) (b c d e k : ℕ)
+    → none ≡ blank s page
+    → in-frame ≡ held s page
+    → f ≡ frameOf s frame
+    → b ≡ cond (f .dirty) 10 0
+    → c ≡ cond in-frame 9 b
+    → d ≡ cond none 7 c
+    → e ≡ cond (not (within count frame)) 4 d
+    → k ≡ cond (not (within (g .pages) page)) 3 e
+    → k ≡ firstOf (loadTail g count s page frame)
+own-is g count s page frame none in-frame f b c d e k en eh ef eb ec ed ee ek = rw (ek, ee, ed, ec, eb, ef, eh, en)
+
+-- the rows 1 and 2, then those
+pub early-is : (v m : List ℕ) (s : State) (n : ℕ) (g : Geometry) (size count page frame rest r : ℕ) → n ≡ firstOf (stateRows v m s [])
+    → g ≡ geometryOf v
+    → count ≡ frameCount size
+    → rest ≡ firstOf (loadTail g count s page frame)
+    → r ≡ cond (not (eqb n 0)) n rest
+    → length m ≡ size
+    → r ≡ firstOf (earlyRows v m s page frame)
+unfolding earlyRows
+early-is v m s n g size count page frame rest r e eg ec er ek en =
+    ek ∙ refusal-then v m s (loadTail (geometryOf v) (frameCount (length m)) s page frame) n rest e (er ∙ rw (ec, eg, ← en))
+
+-- one more row behind a table
+picked : (t u : Bool) (k n j r : ℕ) → (k ≡ 0 → ⊥) → j ≡ cond (eqb r 0) (cond u n 0) r → cond t k j ≡ cond (eqb (cond t k r) 0) (cond u n 0) (cond t k r)
+picked true u k n j r ne e = rw (ne-eqb k 0 ne)
+picked false u k n j r ne e = e
+
+first-last : (l : List Row) (u : Bool) (n : ℕ) → Numbered l → firstOf (l ++ (u, n) ∷ []) ≡ cond (eqb (firstOf l) 0) (cond u n 0) (firstOf l)
+first-last [] u n ne = refl
+first-last (r ∷ l) u n ne = picked (r .0) u (r .1) n _ (firstOf l) (ne .0) (first-last l u n (ne .1))
+
+module _ (v m : List ℕ) (s : State) (page frame : ℕ) where
+  pub early-numbered : Numbered (earlyRows v m s page frame)
+  unfolding earlyRows
+  early-numbered =
+      (eqb-false 1 0 refl, (eqb-false 2 0 refl, (eqb-false 2 0 refl, (eqb-false 3 0 refl, (eqb-false 4 0 refl, (eqb-false 7 0 refl, (eqb-false 9 0 refl, (eqb-false 10 0 refl, tt))))))))
+
+  whole : firstOf (loadRows v m s page frame)
+      ≡ cond (eqb (firstOf (earlyRows v m s page frame)) 0) (cond (chainBroken (geometryOf v) v s page) 19 0) (firstOf (earlyRows v m s page frame))
+  unfolding loadRows earlyRows
+  whole = first-last (earlyRows v m s page frame) (chainBroken (geometryOf v) v s page) 19 early-numbered
+
+  -- a row before the walk refuses
+  pub early-refuses : (n : ℕ) → n ≡ firstOf (earlyRows v m s page frame) → (n ≡ 0 → ⊥) → n ≡ firstOf (loadRows v m s page frame)
+  early-refuses n e ne = e ∙ sym (whole ∙ when-false _ _ (ne-eqb _ _ (λ z. ne (e ∙ z))))
+
+  -- only the walk may refuse
+  pub walk-decides : firstOf (earlyRows v m s page frame) ≡ 0 → firstOf (loadRows v m s page frame) ≡ cond (chainBroken (geometryOf v) v s page) 19 0
+  walk-decides e = whole ∙ when-true _ _ (eq-eqb _ _ e)

@@ -1,0 +1,81 @@
+-- `load::load` is its definition: the laws of Outcomes.antt say what each case is.
+use mathlib.Core.Path.{_≡_, refl, sym, _∙_}
+use denote.Ref.{now}
+use Rattle.load.proofs.Outcomes.{refused, Open, opened, broken, done}
+use borrow.Author.Needs.{needs}
+use Rattle.load.proofs.load.Statement.{statement}
+use Rattle.load.proofs.load.Tie as tie
+
+-- past the rows before the walk: what that tells
+known : (c : tie.After-entry) → let s = c .before .before .before .before .before .before in Open (now (s .args .v)) (now (s .args .m)) (s .args .s) (s .args .page) (s .args .frame) (c .before .geometry .result) (c .entry .result)
+known c =
+    let i = c .before .before in
+    let s = i .before .before .before .before in
+    opened _ _ _ _ _ _ _ (c .before .geometry .ensures) (c .entry .ensures) (sym (i .before .refusal .ensures (now (s .args .m)) refl) ∙ i .if1 .left)
+
+refusal-requires : tie.Need-refusal-requires
+refusal-requires c κs = search needs
+
+returns : tie.Need-returns
+returns c =
+    let s = c .before .before .before .before in
+    refused (now (s .args .v)) (now (s .args .m)) (s .args .s) (s .args .page) (s .args .frame) _ (c .before .refusal .ensures (now (s .args .m)) refl) (c .if1 .taken)
+
+geometry-requires : tie.Need-geometry-requires
+geometry-requires c κs = search needs
+
+entry-requires : tie.Need-entry-requires
+entry-requires c κs = search needs
+
+walk-requires : tie.Need-walk-requires
+walk-requires c κs = known c .ready
+
+broken-requires : tie.Need-broken-requires
+broken-requires c κs = search needs
+
+returns-2 : tie.Need-returns-2
+returns-2 c =
+    let w = c .before .before in
+    broken _ _ _ _ _ _ _ (known (w .before)) _ _ (w .walk .ensures) (c .before .broken .ensures) (c .if2 .taken)
+
+restore-requires : tie.Need-restore-requires
+restore-requires c κs =
+    let w = c .before .before .before in
+    let k = known (w .before) in
+    (k .ready, (w .walk .ensures, k .room))
+
+clean-requires : tie.Need-clean-requires
+clean-requires c κs = search needs
+
+loaded-requires : tie.Need-loaded-requires
+loaded-requires c κs =
+    let k = known (c .before .before .before .before .before .before .before .before) in
+    (k .page-high, k .frame-low, k .frame-high)
+
+same-length : tie.Need-same-length
+same-length c = search needs
+
+returns-3 : tie.Need-returns-3
+returns-3 c =
+    let r = c .before .before .before .before in
+    let i = r .before .before in
+    let w = i .before .before in
+    done _ _ _ _ _ _ _ (known (w .before)) _ _ _ _ _ _ (w .walk .ensures) (i .before .broken .ensures) (i .if2 .left) (r .restore .ensures .0)
+    (r .restore .ensures .1) (c .before .clean .ensures) (c .loaded .ensures)
+
+pub load-spec : {M : Type 1} → statement M
+load-spec =
+    tie.close
+    (tie.spec
+    refusal-requires
+    returns
+    geometry-requires
+    entry-requires
+    walk-requires
+    broken-requires
+    returns-2
+    restore-requires
+    clean-requires
+    loaded-requires
+    same-length
+    returns-3)

@@ -1,0 +1,58 @@
+-- `load::restore` leaves the rebuilt page in the frame, and nothing else changed.
+use mathlib.Core.Path.{_∙_}
+use denote.Ref.{now}
+use Rattle.load.proofs.Outcomes.{lent-length, put-back}
+use borrow.Author.Needs.{needs}
+use Rattle.load.proofs.restore.Statement.{statement}
+use Rattle.load.proofs.restore.Tie as tie
+
+frameat-requires : tie.Need-frameat-requires
+frameat-requires c κs = search needs
+
+add-end : tie.Need-add-end
+add-end c = search needs
+
+sub-rebuild : tie.Need-sub-rebuild
+sub-rebuild c = search needs
+
+part-rebuild-start : tie.Need-part-rebuild-start
+part-rebuild-start c = search needs
+
+part-rebuild-end : tie.Need-part-rebuild-end
+part-rebuild-end c = search needs
+
+rebuild-requires : tie.Need-rebuild-requires
+rebuild-requires c κs =
+    let b = c .before .before .before .before in
+    let h = b .pre in
+    (h .0, (h .1 .0, lent-length (now (b .args .m)) _ _ (c .before .frameat .ensures) (h .1 .1)))
+
+answer-requires : tie.Need-answer-requires
+answer-requires c κs = search needs
+
+same-length : tie.Need-same-length
+same-length c = search needs
+
+returns : tie.Need-returns
+returns c =
+    let r = c .before .before .before in
+    let f = r .before .before in
+    let b = f .before .before .before in (
+      c .answer .ensures,
+      put-back (now (b .args .m)) _ _ _ _ (f .frameat .ensures)
+          (r .rebuild .kept .1 .1 .1 .1 .1 .0 ∙ lent-length (now (b .args .m)) _ _ (f .frameat .ensures) (b .pre .1 .1)) (r .rebuild .ensures),
+    )
+
+pub restore-spec : {M : Type 1} → statement M
+restore-spec =
+    tie.close
+    (tie.spec
+    frameat-requires
+    add-end
+    sub-rebuild
+    part-rebuild-start
+    part-rebuild-end
+    rebuild-requires
+    answer-requires
+    same-length
+    returns)

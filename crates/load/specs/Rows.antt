@@ -1,0 +1,19 @@
+-- Load's rows before the walk: those of its own, and with those of every call on the state.
+use Prim.Native.Nat.{ℕ}
+use mathlib.Core.Bool.{not}
+use mathlib.Core.List.{List, [], _∷_}
+use lib.ListN.{length}
+use Rattle.model.specs.Tests.{Row, within}
+use Rattle.model.specs.Geometry.{geometryOf}
+use Rattle.model.specs.State.{frameCount, held, blank}
+use Rattle.model.specs.Refusals.{frameBlocked, stateRows}
+use Rattle.model.specs.declared.geometry.Geometry.{Geometry}
+use Rattle.model.specs.declared.state.State.{State}
+
+-- of a geometry and a number of frames
+abbrev pub loadTail : Geometry → ℕ → State → ℕ → ℕ → List Row
+loadTail g frames s page frame =
+    (not (within (g .pages) page), 3) ∷ (not (within frames frame), 4) ∷ (blank s page, 7) ∷ (held s page, 9) ∷ (frameBlocked s frame, 10) ∷ []
+
+unfoldable pub earlyRows : List ℕ → List ℕ → State → ℕ → ℕ → List Row
+earlyRows v m s page frame = stateRows v m s (loadTail (geometryOf v) (frameCount (length m)) s page frame)
