@@ -1,10 +1,9 @@
 -- What the definition of Load says in each of its cases, and what the code needs to know once it walks.
 use mathlib.Core.Path.{_≡_, refl, sym, ap, _∙_}
 use mathlib.Core.Bool.{Bool, true, false, not, cond}
-use mathlib.Core.List.{List, [], _∷_}
-use Prim.Native.Nat.{ℕ, _+_, _-_, _*_, _≤_}
+use mathlib.Core.List.{List}
+use Prim.Native.Nat.{ℕ, _+_, _-_, _≤_}
 use native.Mathlib.Omega.{arith}
-use lib.Dec.{eqb}
 use lib.ListN.{length, take, drop, getD}
 use borrow.Author.Tests.{eq-eqb, ne-eqb, eqb-false, not-false}
 use borrow.Rule.Slice.PartMut.{putMid}
@@ -15,7 +14,7 @@ use Rattle.laws.proofs.WellFormed.{ready, frame-within}
 use Rattle.state.proofs.Facts.{formed-page}
 use Rattle.load.specs.Rows.{loadTail, earlyRows}
 use Rattle.load.proofs.Rows.{early-refuses, walk-decides}
-use Rattle.model.specs.Tests.{Row, firstOf}
+use Rattle.model.specs.Tests.{firstOf}
 use Rattle.model.specs.Bytes.{splice}
 use Rattle.model.specs.Geometry.{geometryOf}
 use Rattle.model.specs.Index.{entryOf}

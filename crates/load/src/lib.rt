@@ -1,7 +1,7 @@
 // Load: brings a page into a frame, repaired.
 ghost use mathlib.Core.Path.{_≡_};
 ghost use mathlib.Core.List.{List};
-ghost use Prim.Native.Nat.{ℕ, _+_, _-_, _≤_};
+ghost use Prim.Native.Nat.{ℕ, _+_, _≤_};
 ghost use lib.ListN.{length};
 ghost use Rattle.load.specs.Rows.{loadTail, earlyRows};
 ghost use Rattle.model.specs.Tests.{firstOf};

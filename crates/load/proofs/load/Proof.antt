@@ -1,5 +1,5 @@
 -- `load::load` is its definition: the laws of Outcomes.antt say what each case is.
-use mathlib.Core.Path.{_≡_, refl, sym, _∙_}
+use mathlib.Core.Path.{refl, sym, _∙_}
 use denote.Ref.{now}
 use Rattle.load.proofs.Outcomes.{refused, Open, opened, broken, done}
 use borrow.Author.Needs.{needs}

@@ -1,0 +1,59 @@
+-- `restart::restart` is its definition: the laws of Outcomes.antt say what each case is.
+use mathlib.Core.Path.{_≡_, sym, _∙_}
+use denote.Ref.{now}
+use Rattle.restart.proofs.Outcomes.{refusal-is, refused, done}
+use Rattle.model.specs.Tests.{firstOf}
+use Rattle.model.specs.Refusals.{restartRows}
+use borrow.Author.Needs.{needs}
+use Rattle.restart.proofs.restart.Statement.{statement}
+use Rattle.restart.proofs.restart.Tie as tie
+
+-- the refusal's number is the table's
+number : (c : tie.After-refusal) → let s = c .before .before .before .before .before in c .refusal .result ≡ firstOf (restartRows (now (s .args .v)) (now (s .args .m)))
+number c =
+    let s = c .before .before .before .before .before in
+    refusal-is (now (s .args .v)) (now (s .args .m)) _ _ _ (c .before .before .scan .ensures) (c .before .memory .ensures) (c .refusal .ensures)
+
+scan-requires : tie.Need-scan-requires
+scan-requires c κs = search needs
+
+memory-requires : tie.Need-memory-requires
+memory-requires c κs = search needs
+
+refusal-requires : tie.Need-refusal-requires
+refusal-requires c κs = search needs
+
+zero-requires : tie.Need-zero-requires
+zero-requires c κs = search needs
+
+returns : tie.Need-returns
+returns c = refused _ _ _ _ (number (c .before .before)) (c .before .if1 .taken) (c .zero .ensures)
+
+fill-requires : tie.Need-fill-requires
+fill-requires c κs = search needs
+
+resumed-requires : tie.Need-resumed-requires
+resumed-requires c κs = search needs
+
+same-length : tie.Need-same-length
+same-length c = search needs
+
+returns-2 : tie.Need-returns-2
+returns-2 c =
+    let f = c .before .before .before in
+    let r = f .before .before .before in
+    done _ _ _ _ _ (r .before .before .scan .ensures) (sym (number r) ∙ f .before .before .if1 .left) (c .resumed .ensures) (f .fill .ensures)
+
+pub restart-spec : {M : Type 1} → statement M
+restart-spec =
+    tie.close
+    (tie.spec
+    scan-requires
+    memory-requires
+    refusal-requires
+    zero-requires
+    returns
+    fill-requires
+    resumed-requires
+    same-length
+    returns-2)

@@ -1,0 +1,63 @@
+// Restart: gives the state that a volume's log and notes hold, and zeroes the memory.
+ghost use mathlib.Core.Path.{_≡_};
+ghost use mathlib.Core.Bool.{cond, not};
+ghost use lib.Dec.{eqb};
+ghost use Rattle.restart.specs.Resumed.{resumedState};
+ghost use Rattle.model.specs.Calls.{replyOf, restartOf};
+use codec::part;
+use index::Scanned;
+use model::answer::Answer;
+use model::answer::Reply;
+use model::state::Frame;
+use model::state::PendingNote;
+use model::state::State;
+use state::next;
+use state::rows;
+use volume::memory;
+
+// The refusal: row 1, then 2, then the scan's 17 or 18.
+fn refusal(scan: u32, memory: bool) -> u32
+    ensures { λ r. ⌜ r ≡ cond (eqb scan 1) 1 (cond (not memory) 2 scan) ⌝ }
+{
+    rows::first(scan == 1, 1, rows::first(!memory, 2, scan))
+}
+
+// The state that a scan gives, with no frame in use.
+fn resumed(scan: Scanned) -> State
+    ensures { λ r. ⌜ r ≡ resumedState scan ⌝ }
+{
+    let frames = [Frame {
+        page: 0,
+        dirty: false,
+    }; 16];
+    let index = scan.index;
+    State {
+        durable: scan.durable,
+        pending: 0,
+        notes: scan.notes,
+        note: PendingNote::Absent,
+        frames,
+        index,
+    }
+}
+
+// Restarts from a volume. Rules out, for example: records of before the restart left in the memory; a durable count that is the notes';
+// a refusal that gives a state, or zeroes the memory.
+pub fn restart(v: &[u8], m: &mut [u8]) -> Reply
+    ensures reply { λ r. ⌜ r ≡ replyOf (restartOf (now (v .entry)) (now (m .entry))) ⌝ }
+    ensures memory { λ _. ⌜ now (m .exit) ≡ restartOf (now (v .entry)) (now (m .entry)) .memory ⌝ }
+{
+    let scanned = index::scan(v);
+    let no = refusal(scanned.refusal, memory::memory(m.len()));
+    if no != 0 {
+        return Reply {
+            answer: Answer::Refused(no),
+            state: next::zero(),
+        };
+    }
+    part::fill(m, 0);
+    Reply {
+        answer: Answer::Done,
+        state: resumed(scanned),
+    }
+}
