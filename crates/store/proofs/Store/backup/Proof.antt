@@ -1,0 +1,21 @@
+-- `store::Store::backup` meets its contract: the call's own.
+use mathlib.Core.Path.{_∙_, ap}
+use borrow.Author.Needs.{needs}
+use Rattle.store.specs.Store.{wrapped}
+use Rattle.store.proofs.Store.backup.Statement.{statement}
+use Rattle.store.proofs.Store.backup.Tie as tie
+
+backup-requires : tie.Need-backup-requires
+backup-requires c κs = search needs
+
+wrap-requires : tie.Need-wrap-requires
+wrap-requires c κs = search needs
+
+same-length : tie.Need-same-length
+same-length c = search needs
+
+returns : tie.Need-returns
+returns c = let e = c .before .before .before .backup .ensures in (c .wrap .ensures ∙ ap wrapped (e .0), e .1)
+
+pub backup-spec : {M : Type 1} → statement M
+backup-spec = tie.close (tie.spec backup-requires wrap-requires same-length returns)
