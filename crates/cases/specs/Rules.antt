@@ -54,14 +54,14 @@ logRows =
 abbrev noteWith : ℕ → ℕ → ℕ → ℕ → ℕ → List ℕ
 noteWith k p kind slot lsn = noteBytes (record { number = k; page = p; kind = kind; slot = slot; lsn = lsn })
 
--- whether these notes keep the rule beside the log of K6
+-- the items of one or two notes, and whether they keep the rule in a volume
 abbrev noted : List (List ℕ) → List StoredItem
 noted [] = []
 noted (n ∷ []) = oneItem (noteAt 1) n ∷ []
 noted (n ∷ (k ∷ ns)) = oneItem (noteAt 1) n ∷ oneItem (noteAt 2) k ∷ []
 
-abbrev notesKeep : List (List ℕ) → ℕ
-notesKeep ns = let v = whole (noted ns) in bit (validNotes (geometryOf v) v)
+abbrev notesKeepIn : List ℕ → List (List ℕ) → ℕ
+notesKeepIn v ns = let x = storedIn v (noted ns) in bit (validNotes (geometryOf x) x)
 
 -- the log of K6 with two slots and two notes
 abbrev twoSlots : List ℕ → List ℕ → List ℕ
@@ -71,6 +71,9 @@ twoSlots n k =
 
 abbrev noteRows : List Row
 noteRows =
+    let log = whole [] in
+    let notesKeep = notesKeepIn log in
+    let holding = storedIn log in
     row "notes: one that obeys"
     (map notesKeep ((writtenNote 1 1 3 ∷ []) ∷ (writtenNote 1 2 2 ∷ []) ∷ (backupNote 1 1 1 1 ∷ []) ∷ (writtenNote 1 1 3 ∷ writtenNote 2 1 3 ∷ []) ∷ []))
     (1 ∷ 1 ∷ 1 ∷ 1 ∷ [])
@@ -94,12 +97,12 @@ noteRows =
     ∷ row "restart: refused 17, 18, and 1, 2 before them"
     (let badLog = oneItem (recordAt 3) (put 4 1 1) in
     let badNotes = oneItem (noteAt 1) (writtenNote 2 1 3) in
-    numbers (restartOf (whole (badLog ∷ badNotes ∷ [])) (memory 1) .answer) ++ (numbers (restartOf (whole (badNotes ∷ [])) (memory 1) .answer)
-    ++ (numbers (restartOf (whole (badLog ∷ [])) (memory 17) .answer) ++ (numbers (restartOf (set (whole (badLog ∷ [])) 0 0) (memory 0) .answer)
-    ++ inspected (whole (badNotes ∷ [])) 1))))
+    numbers (restartOf (holding (badLog ∷ badNotes ∷ [])) (memory 1) .answer) ++ (numbers (restartOf (holding (badNotes ∷ [])) (memory 1) .answer)
+    ++ (numbers (restartOf (holding (badLog ∷ [])) (memory 17) .answer) ++ (numbers (restartOf (set (holding (badLog ∷ [])) 0 0) (memory 0) .answer)
+    ++ inspected (holding (badNotes ∷ [])) 1))))
     (refused 17 ++ (refused 18 ++ (refused 2 ++ (refused 1 ++ (refused 18 ++ replicate 10 0xAA)))))
     ∷ row "index: what log and notes give"
-    (let v = whole (noted (writtenNote 1 1 3 ∷ backupNote 2 1 1 1 ∷ [])) in
+    (let v = holding (noted (writtenNote 1 1 3 ∷ backupNote 2 1 1 1 ∷ [])) in
     let index = indexOf (geometryOf v) v in
     length index ∷ (entryNumbers (entryOf index 1) ++ (entryNumbers (entryOf index 2) ++ (entryNumbers (entryOf index 3) ++ bits (slotUsed 1 index ∷ slotUsed 2 index ∷ [])))))
     (64 ∷ 3 ∷ 3 ∷ 3 ∷ 1 ∷ 1 ∷ 2 ∷ 2 ∷ 0 ∷ 0 ∷ 0 ∷ 0 ∷ 0 ∷ 0 ∷ 0 ∷ 0 ∷ 1 ∷ 0 ∷ [])
@@ -112,32 +115,35 @@ abbrev classAt : ℕ → ℕ
 classAt n = classNumber (classOf true n 5 3)
 
 -- whether the walk for page 1 breaks at these bytes for record 3, its own image failing and the index naming 3
-abbrev breaks : List ℕ → ℕ
-breaks r =
-    let v = smallVolume (oneItem (recordAt 1) record1 ∷ oneItem (recordAt 2) record2 ∷ oneItem (recordAt 3) r ∷ []) in
+abbrev breaksIn : List ℕ → List ℕ → ℕ
+breaksIn two r =
+    let v = storedIn two (oneItem (recordAt 3) r ∷ []) in
     let g = geometryOf v in
     bit (isBroken (walkOf g 1 (viewOf g v (record { last = 3; durable = 3; written = 0; slot = 0; backup = 0 }) 1) .stop))
 
 abbrev walkRows : List Row
 walkRows =
+    let two = smallVolume (oneItem (recordAt 1) record1 ∷ oneItem (recordAt 2) record2 ∷ []) in
+    let breaks = breaksIn two in
+    let holding = storedIn (whole []) in
     row "class: at 2, 3, 4, 5, 6, and failing" (classAt 2 ∷ classAt 3 ∷ classAt 4 ∷ classAt 5 ∷ classAt 6 ∷ classNumber (classOf false 5 5 3) ∷ []) (3 ∷ 2 ∷ 2 ∷ 1 ∷ 4 ∷ 4 ∷ [])
     ∷ row "walk: an image at 0 or off the chain starts nothing"
-    (take 4 (inspected (whole (own 0 body1 ∷ [])) 1) ++ take 4 (inspected (whole (own 2 body1 ∷ [])) 1))
+    (take 4 (inspected (holding (own 0 body1 ∷ [])) 1) ++ take 4 (inspected (holding (own 2 body1 ∷ [])) 1))
     (fromFormat Behind 2 ++ fromFormat Behind 2)
     ∷ row "walk: own image before backup"
-    (take 4 (inspected (whole (own 3 body3 ∷ oneItem (slotAt 1) (image 1 3 body3) ∷ oneItem (noteAt 1) (backupNote 1 1 1 3) ∷ [])) 1))
+    (take 4 (inspected (holding (own 3 body3 ∷ oneItem (slotAt 1) (image 1 3 body3) ∷ oneItem (noteAt 1) (backupNote 1 1 1 3) ∷ [])) 1))
     (fromOwn Good 0)
     ∷ row "walk: a backup before an older own image"
-    (take 4 (inspected (whole (own 1 body1 ∷ oneItem (slotAt 1) (image 1 3 body3) ∷ oneItem (noteAt 1) (backupNote 1 1 1 3) ∷ [])) 1))
+    (take 4 (inspected (holding (own 1 body1 ∷ oneItem (slotAt 1) (image 1 3 body3) ∷ oneItem (noteAt 1) (backupNote 1 1 1 3) ∷ [])) 1))
     (fromBackup Behind 0)
     ∷ row "walk: a backup at another number than noted"
-    (inspected (whole (ownFails ∷ oneItem (slotAt 1) (image 1 3 body3) ∷ oneItem (noteAt 1) (backupNote 1 1 1 1) ∷ [])) 1)
+    (inspected (holding (ownFails ∷ oneItem (slotAt 1) (image 1 3 body3) ∷ oneItem (noteAt 1) (backupNote 1 1 1 1) ∷ [])) 1)
     (fromFormat Failed 2 ++ at3)
     ∷ row "walk: another page's image in the slot"
-    (take 4 (inspected (whole (ownFails ∷ oneItem (slotAt 1) (image 2 3 body3) ∷ oneItem (noteAt 1) (backupNote 1 1 1 3) ∷ [])) 1))
+    (take 4 (inspected (holding (ownFails ∷ oneItem (slotAt 1) (image 2 3 body3) ∷ oneItem (noteAt 1) (backupNote 1 1 1 3) ∷ [])) 1))
     (fromFormat Failed 2)
-    ∷ row "walk: a backup that is not noted" (take 4 (inspected (whole (ownFails ∷ oneItem (slotAt 1) (image 1 3 body3) ∷ [])) 1)) (fromFormat Failed 2)
-    ∷ row "inspect: the check is set" (bits (validImage small 1 (inspectOf (whole (ownFails ∷ [])) 1 (replicate 256 0) .buffer) ∷ [])) (1 ∷ [])
+    ∷ row "walk: a backup that is not noted" (take 4 (inspected (holding (ownFails ∷ oneItem (slotAt 1) (image 1 3 body3) ∷ [])) 1)) (fromFormat Failed 2)
+    ∷ row "inspect: the check is set" (bits (validImage small 1 (inspectOf (holding (ownFails ∷ [])) 1 (replicate 256 0) .buffer) ∷ [])) (1 ∷ [])
     ∷ row "walk: records that break it"
     (map breaks (record3 ∷ broken record3 ∷ put 4 1 1 ∷ put 3 1 2 ∷ seal 60 (set record3 15 1) ∷ put 3 3 1 ∷ put 3 4 1 ∷ put 3 0 1 ∷ encodeChange 3 3 1 (Format 1) [] ∷ []))
     (0 ∷ 1 ∷ 1 ∷ 1 ∷ 1 ∷ 1 ∷ 1 ∷ 1 ∷ 1 ∷ [])
