@@ -115,9 +115,14 @@ def write_probe(to, rows, names):
 
 
 def check(crate, to):
-    run = subprocess.run(["rt", "check", crate], cwd=to, capture_output=True, text=True)
-    out = run.stdout + run.stderr
-    return run.returncode, re.findall(r"^(\S+?):\d+:\d+: error: (.*(?:\n  .*)*)", out, re.M), out
+    """Exit status, errors (file and text) and output of the check; one that ends with neither a verdict nor an error is run again."""
+    for _ in range(2):
+        run = subprocess.run(["rt", "check", crate], cwd=to, capture_output=True, text=True)
+        out = run.stdout + run.stderr
+        errors = re.findall(r"^(\S+?):\d+:\d+: error: (.*(?:\n  .*)*)", out, re.M)
+        if run.returncode == 0 or errors:
+            break
+    return run.returncode, errors, out
 
 
 def try_cases(to, rows, names):
@@ -132,7 +137,7 @@ def try_cases(to, rows, names):
         elif "step limit" not in text:
             return None, f"{path}: {text}"
     if status not in (0, 1) or (status == 1 and not errors):
-        return None, out[-400:]
+        return None, f"exit status {status} {out[-400:]}"
     return caught, ""
 
 
@@ -146,7 +151,7 @@ def try_history(to):
             proof = Path(path)
             return [f"{proof.parts[proof.parts.index('proofs') - 1]}: {proof.stem} {text.split(':')[0]}"], ""
         return None, f"{path}: {text}"
-    return None, out[-400:]
+    return None, f"exit status {status} {out[-400:]}"
 
 
 def apply(to, edit):

@@ -101,8 +101,10 @@ layoutRows =
     ∷ row "record: its bytes" (take 22 (encodeChange 0x0605 0x0403 2 (Slide 0x0201 3) (9 ∷ 8 ∷ 7 ∷ 6 ∷ 5 ∷ [])))
     (5 ∷ 6 ∷ 0 ∷ 0 ∷ 3 ∷ 4 ∷ 0 ∷ 0 ∷ 2 ∷ 0 ∷ 3 ∷ 3 ∷ 1 ∷ 2 ∷ 0 ∷ 0 ∷ 9 ∷ 8 ∷ 7 ∷ 0 ∷ 0 ∷ 0 ∷ [])
     ∷ row "record: a format's" (let r = encodeChange 1 0 1 (Format 9) (7 ∷ []) in length r ∷ (part r 10 7 ++ bits (sealed 60 r ∷ []))) (64 ∷ 1 ∷ 0 ∷ 0 ∷ 0 ∷ 9 ∷ 0 ∷ 0 ∷ 1 ∷ [])
-    ∷ row "record: read back and replayed" (take 3 (applyRecord (encodeChange 3 1 1 (Put 1 2) (5 ∷ 6 ∷ [])) (replicate 244 7)) ++ take 2 (applyRecord (encodeChange 3 1 1 (Slide 0 1) (5 ∷ [])) (replicate 244 7)))
-    (7 ∷ 5 ∷ 6 ∷ 5 ∷ 7 ∷ [])
+    ∷ row "record: read back and replayed"
+    (let b = 10 ∷ 11 ∷ 12 ∷ replicate 241 7 in
+    take 4 (applyRecord (encodeChange 3 1 1 (Put 1 2) (5 ∷ 6 ∷ [])) b) ++ take 4 (applyRecord (encodeChange 3 1 1 (Slide 1 2) (5 ∷ 6 ∷ [])) b))
+    (10 ∷ 5 ∷ 6 ∷ 7 ∷ 10 ∷ 5 ∷ 6 ∷ 11 ∷ [])
     ∷ row "record: its layout"
     (bits
     (recordLayout (odd 2 1 0 0 0 (tail 43 (5 ∷ []))) ∷ recordLayout (odd 1 0 0 5 0 (tail 44 [])) ∷ recordLayout (odd 4 1 0 0 0 (tail 43 (5 ∷ [])))

@@ -87,7 +87,7 @@ noteRows =
     (map notesKeep
     ((writtenNote 1 1 3 ∷ writtenNote 2 1 1 ∷ []) ∷ (backupNote 1 1 1 3 ∷ writtenNote 2 1 1 ∷ []) ∷ (writtenNote 1 1 3 ∷ backupNote 2 1 1 1 ∷ []) ∷ []))
     (0 ∷ 1 ∷ 1 ∷ [])
-    ∷ row "notes: a backup's slot" (map notesKeep ((backupNote 1 1 0 1 ∷ []) ∷ (backupNote 1 1 2 1 ∷ []) ∷ (backupNote 1 1 1 1 ∷ backupNote 2 2 1 2 ∷ []) ∷ (backupNote 1 1 1 1 ∷ backupNote 2 1 1 3 ∷ []) ∷ [])) (0 ∷ 0 ∷ 0 ∷ 0 ∷ [])
+    ∷ row "notes: a backup's slot" (map notesKeep ((backupNote 1 1 0 1 ∷ []) ∷ (backupNote 1 1 2 1 ∷ []) ∷ (backupNote 1 1 1 1 ∷ backupNote 2 2 1 2 ∷ []) ∷ (backupNote 1 1 1 1 ∷ backupNote 2 1 1 3 ∷ []) ∷ (backupNote 1 2 1 2 ∷ backupNote 2 1 1 1 ∷ []) ∷ [])) (0 ∷ 0 ∷ 0 ∷ 0 ∷ 0 ∷ [])
     ∷ row "notes: a backup not below the last"
     (map (λ n. let v = twoSlots (backupNote 1 1 1 3) n in bit (validNotes (geometryOf v) v)) (backupNote 2 1 2 1 ∷ backupNote 2 1 2 3 ∷ []))
     (0 ∷ 1 ∷ [])

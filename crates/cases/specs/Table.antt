@@ -42,7 +42,7 @@ abbrev pub own : ℕ → List ℕ → StoredItem
 own lsn body = oneItem (pageAt 1) (image 1 lsn body)
 
 abbrev pub ownFails : StoredItem
-ownFails = oneItem (pageAt 1) (broken (image 1 3 body3))
+ownFails = oneItem (pageAt 1) (broken (image 1 3 (replicate 244 0xEE)))
 
 -- bytes 4 to 13 of the buffer: page 1 at 1, at 3, or as it was lent
 abbrev pub at1 : List ℕ
