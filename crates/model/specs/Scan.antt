@@ -43,14 +43,17 @@ unfoldable pub logIndex : Geometry → List ℕ → ℕ → List Entry
 logIndex g v zero = emptyIndex
 logIndex g v (suc n) = enterRecord (logIndex g v n) (logRecord g v (suc n) .page) (suc n)
 
+-- the chain rule of one page, for a record and the number of the page's last earlier one (0: none): it names that one, and only a format is first
+abbrev pub linked : ℕ → LogRecord → Bool
+linked last e = eqb (e .prev) last && firstIsFormat e
+
 -- record n, after records that gave the index, "obeys the layout, has its slot's number and a page in range, and names the page's
 -- last earlier record; a page's first is a format"
 unfoldable pub recordFits : Geometry → List ℕ → List Entry → ℕ → Bool
 recordFits g v index n =
     let e = logRecord g v n in
     all
-    (recordLayout (item g v (logSlot g n)) ∷ eqb (e .lsn) n ∷ within (g .pages) (e .page) ∷ eqb (e .prev) (entryOf index (e .page) .last)
-    ∷ firstIsFormat e ∷ [])
+    (recordLayout (item g v (logSlot g n)) ∷ eqb (e .lsn) n ∷ within (g .pages) (e .page) ∷ linked (entryOf index (e .page) .last) e ∷ [])
 
 -- the log keeps the restart rule (refusal 17 is that it does not)
 unfoldable pub validLog : Geometry → List ℕ → Bool
