@@ -26,7 +26,7 @@ use Rattle.model.specs.State.{frameCount, frameBytes, pendingBytes, holder, hel
 use Rattle.model.specs.Refusals.{stateRows, pageDirty, frameBlocked, notDurable, chainBroken, makeRows, restartRows, beginRows, loadRows, changeRows, forceRows, writeRows, backupRows, noteRows, inspectRows}
 use Rattle.model.specs.Index.{slotUsed}
 use Rattle.model.specs.Calls.{StoredItem, nothing, oneItem, Outcome, volumeAfter, unchanged, decided, beginOf, loadOf, changeCall, forceOf, writeOf, backupOf, noteCall, noteStored, restartOf, makeOf, inspectOf, refusalOf, Call, begin, load, change, force, write, backup, note, rowsOf, outcomeOf, Made, Inspected}
-use Rattle.model.specs.Demand1.{Decides, ByTable, Within, OneItem, Keeps, Arrays, Demand1}
+use Rattle.model.specs.Demand1.{Decides, ByTable, DiffersAt, AtMostOneItem, Keeps, Arrays, Demand1}
 use Rattle.model.specs.declared.geometry.Geometry.{Geometry}
 use Rattle.model.specs.declared.state.State.{State}
 use Rattle.model.specs.declared.state.PendingNote.{PendingNote}
@@ -100,7 +100,7 @@ module _ (rows : List Row) (m : List ℕ) (s : State) (done : Outcome) (accepted
 
 -- one item stored in its place
 stored-within : (v : List ℕ) → validVolume v ≡ true → (at : Place) (xs : List ℕ) → In (geometryOf v) at → length xs ≡ width at
-    → OneItem v (volumeAfter v (oneItem at xs))
+    → AtMostOneItem v (volumeAfter v (oneItem at xs))
 unfolding volumeAfter store
 stored-within v ok at xs h e =
     let g = geometryOf v in
@@ -114,7 +114,7 @@ stored-within v ok at xs h e =
       },
     )
 
-none-stored : (v : List ℕ) → OneItem v (volumeAfter v nothing)
+none-stored : (v : List ℕ) → AtMostOneItem v (volumeAfter v nothing)
 unfolding volumeAfter
 none-stored v = inl refl
 
@@ -124,10 +124,10 @@ record KeepsBy (rows : List Row) (v m : List ℕ) (s : State) (o : Outcome) : Ty
   state : refusalOf (o .answer) ≢ 0 → o .state ≡ s
   memory : refusalOf (o .answer) ≢ 0 → o .memory ≡ m
   volume : refusalOf (o .answer) ≢ 0 → volumeAfter v (o .stored) ≡ v
-  oneItem : OneItem v (volumeAfter v (o .stored))
+  oneItem : AtMostOneItem v (volumeAfter v (o .stored))
 
 keeps-by : (rows : List Row) (v m : List ℕ) (s : State) (done : Outcome) → Numbered rows → refusalOf (done .answer) ≡ 0
-    → (firstOf rows ≡ 0 → OneItem v (volumeAfter v (done .stored))) → KeepsBy rows v m s (decided rows m s done)
+    → (firstOf rows ≡ 0 → AtMostOneItem v (volumeAfter v (done .stored))) → KeepsBy rows v m s (decided rows m s done)
 unfolding volumeAfter
 keeps-by rows v m s done h a one =
     let same : refusalOf (decided rows m s done .answer) ≢ 0 → decided rows m s done ≡ unchanged (Refused (firstOf rows)) m s = refused-is rows m s done a in
@@ -136,7 +136,7 @@ keeps-by rows v m s done h a one =
       state = λ r. ap (λ (o : Outcome). o .state) (same r);
       memory = λ r. ap (λ (o : Outcome). o .memory) (same r);
       volume = λ r. ap (λ (o : Outcome). volumeAfter v (o .stored)) (same r);
-      oneItem = stores rows m s done a (λ x. OneItem v (volumeAfter v x)) (inl refl) one;
+      oneItem = stores rows m s done a (λ x. AtMostOneItem v (volumeAfter v x)) (inl refl) one;
     }
 
 -- ---- the calls that store nothing
@@ -181,7 +181,7 @@ force-keeps v m s =
     (λ h.
     let r = ready v m s [] h in
     let w = r .state in
-    either (eqb (s .pending) 0) _ _ (λ o. OneItem v (volumeAfter v (o .stored))) (λ _. none-stored v)
+    either (eqb (s .pending) 0) _ _ (λ o. AtMostOneItem v (volumeAfter v (o .stored))) (λ _. none-stored v)
     (λ f.
     let ne : s .pending ≢ 0 = eqb-false _ _ f in
     stored-within v (r .volume) (recordAt (s .durable + 1)) (pendingBytes m (s .durable + 1)) (omega arith, omega (arith, w .room))
@@ -209,7 +209,7 @@ write-keeps v m s page a =
     let r = ready v m s rest h in
     let none = none-at rest own (r .rest) in
     let w = within-bounds (g .pages) page (not-false _ (none 0)) in
-    either (pageDirty s page) _ _ (λ o. OneItem v (volumeAfter v (o .stored)))
+    either (pageDirty s page) _ _ (λ o. AtMostOneItem v (volumeAfter v (o .stored)))
     (λ _. stored-within v (r .volume) (pageAt page) _ w (image-length v m s rest r a page (w .0) (not-false _ (none 1))))
     (λ _. none-stored v))
 
@@ -234,7 +234,7 @@ note-stored-accepts v m s Absent = refl
 note-stored-accepts v m s (Present n) = refl
 
 note-stored-one : (v m : List ℕ) (s : State) → validVolume v ≡ true → (n : PendingNote) → pendingNoteFits (geometryOf v) (s .notes) (s .durable) n ≡ true
-    → OneItem v (volumeAfter v (noteStored v m s n .stored))
+    → AtMostOneItem v (volumeAfter v (noteStored v m s n .stored))
 note-stored-one v m s ok Absent h = none-stored v
 note-stored-one v m s ok (Present n) h =
     let f = formed-note (geometryOf v) (s .notes) (s .durable) n h in

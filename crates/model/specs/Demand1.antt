@@ -28,13 +28,14 @@ pub record ByTable (rows : List Row) (n : ℕ) : Type 0 where
   pub only : (k : ℕ) → Decides rows k → n ≡ k
   pub numbered : (k : ℕ) → Decides rows k → k ≢ 0
 
--- two volumes are the same, or of one length and the same outside the place of one item
-pub record Within (v w : List ℕ) (at : Place) : Type 0 where
+-- two volumes have one length and differ at most within the place of one item
+pub record DiffersAt (v w : List ℕ) (at : Place) : Type 0 where
   pub size : length w ≡ length v
   pub outside : (i : ℕ) → (i < start (geometryOf v) at) ⊎ (start (geometryOf v) at + width at ≤ i) → getD w i 0 ≡ getD v i 0
 
-abbrev pub OneItem : List ℕ → List ℕ → Type 0
-OneItem v w = (w ≡ v) ⊎ ((at : Place) × Within v w at)
+-- the same volume, or one item stored
+abbrev pub AtMostOneItem : List ℕ → List ℕ → Type 0
+AtMostOneItem v w = (w ≡ v) ⊎ ((at : Place) × DiffersAt v w at)
 
 -- of a call on the state
 pub record Keeps (c : Call) (v m : List ℕ) (s : State) : Type 0 where
@@ -42,7 +43,7 @@ pub record Keeps (c : Call) (v m : List ℕ) (s : State) : Type 0 where
   pub state : refusalOf (outcomeOf c v m s .answer) ≢ 0 → outcomeOf c v m s .state ≡ s
   pub memory : refusalOf (outcomeOf c v m s .answer) ≢ 0 → outcomeOf c v m s .memory ≡ m
   pub volume : refusalOf (outcomeOf c v m s .answer) ≢ 0 → volumeAfter v (outcomeOf c v m s .stored) ≡ v
-  pub oneItem : OneItem v (volumeAfter v (outcomeOf c v m s .stored))
+  pub oneItem : AtMostOneItem v (volumeAfter v (outcomeOf c v m s .stored))
 
 -- the state's arrays have their declared lengths, as every value of the code's type has
 pub record Arrays (s : State) : Type 0 where
