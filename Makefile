@@ -42,3 +42,9 @@ c-test:
 	@mkdir -p target/c
 	@gcc -Wall -Wextra -Werror -std=c11 -O2 -Iinclude tests/c/inspect_test.c target/staticlib/libinspect.a -o target/c/inspect_test
 	@./target/c/inspect_test
+
+# make reference-test     the second implementation: its tests, and its own histories against its own plain book
+.PHONY: reference-test
+reference-test:
+	@cd reference && cargo test -q --release --offline
+	@cd reference && cargo build -q --release --offline && ./target/release/checkbook --seed 1 --count 200
