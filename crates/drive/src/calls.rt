@@ -1,0 +1,75 @@
+// The cells that call the store, ops 1 to 10: each call gets the lent parts of the buffers.
+use crate::cell;
+use crate::desk;
+use crate::desk::Desk;
+use crate::desk::Turn;
+use codec::field;
+use store::Outcome;
+use store::Store;
+
+// Make and Inspect, which take no state.
+pub fn plain(d: Desk, c: &[u8], volume: &mut [u8], lent: &mut [u8]) -> Turn {
+    let n = desk::least(d.volume, volume.len());
+    if cell::op(c) == 1 {
+        desk::told(d, make(c, &mut volume[0..n]))
+    } else {
+        let k = desk::least(d.lent, lent.len());
+        desk::told(
+            d,
+            Store::inspect(&volume[0..n], cell::page(c), &mut lent[0..k]),
+        )
+    }
+}
+
+fn make(c: &[u8], v: &mut [u8]) -> model::answer::Answer {
+    Store::make(
+        v,
+        field::u32at(c, 16),
+        field::u32at(c, 20),
+        field::u32at(c, 24),
+        field::u32at(c, 28),
+    )
+}
+
+// Begin, Load and Change, which write to the memory.
+fn working(s: Store, c: &[u8], v: &[u8], m: &mut [u8]) -> Outcome {
+    let page = cell::page(c);
+    match cell::op(c) {
+        3 => s.begin(v, m, page, cell::place(c), cell::fill(c)),
+        4 => s.load(v, m, page, cell::place(c)),
+        _ => s.change(v, m, page, cell::change(c), cell::payload(c)),
+    }
+}
+
+// Force, Write, Backup and Note, which write to the volume.
+fn storing(s: Store, c: &[u8], v: &mut [u8], m: &[u8]) -> Outcome {
+    match cell::op(c) {
+        6 => s.force(v, m),
+        7 => s.write(v, m, cell::page(c)),
+        8 => s.backup(v, m, cell::page(c), cell::place(c)),
+        _ => s.note(v, m),
+    }
+}
+
+fn call(s: Store, c: &[u8], v: &mut [u8], m: &mut [u8]) -> Outcome {
+    let op = cell::op(c);
+    if op == 2 {
+        Store::restart(v, m)
+    } else if op <= 5 {
+        working(s, c, v, m)
+    } else {
+        storing(s, c, v, m)
+    }
+}
+
+// The calls that take or give a state. A change of no kind is skipped.
+pub fn stateful(d: Desk, c: &[u8], volume: &mut [u8], memory: &mut [u8]) -> Turn {
+    let kind = cell::kind(c);
+    if (cell::op(c) == 5) & !((1 <= kind) & (kind <= 3)) {
+        return desk::skipped(d);
+    }
+    let n = desk::least(d.volume, volume.len());
+    let k = desk::least(d.memory, memory.len());
+    let s = d.store;
+    desk::came(d, call(s, c, &mut volume[0..n], &mut memory[0..k]))
+}

@@ -1,0 +1,59 @@
+// The fields of a script's cell of 64 bytes. What they are for depends on its op.
+use codec::field;
+use model::change::Change;
+
+pub fn op(c: &[u8]) -> u8 {
+    field::byte(c, 0)
+}
+
+// The kind of a change, or the byte of a fill.
+pub fn kind(c: &[u8]) -> u8 {
+    field::byte(c, 1)
+}
+
+pub fn page(c: &[u8]) -> u32 {
+    field::u16at(c, 2) as u32
+}
+
+// A frame or a backup slot.
+pub fn place(c: &[u8]) -> u32 {
+    field::u16at(c, 4) as u32
+}
+
+// The length of a change, or the count of bytes that a poke writes.
+pub fn length(c: &[u8]) -> u8 {
+    field::byte(c, 8)
+}
+
+pub fn fill(c: &[u8]) -> u8 {
+    field::byte(c, 9)
+}
+
+pub fn first(c: &[u8]) -> u32 {
+    field::u32at(c, 12)
+}
+
+pub fn second(c: &[u8]) -> u32 {
+    field::u32at(c, 60)
+}
+
+// The change, for kinds 1 to 3.
+pub fn change(c: &[u8]) -> Change {
+    let offset = field::u16at(c, 6);
+    let length = length(c);
+    match kind(c) {
+        1 => Change::Format { fill: fill(c) },
+        2 => Change::Put { offset, length },
+        _ => Change::Slide { offset, length },
+    }
+}
+
+pub fn payload(c: &[u8]) -> [u8; 44] {
+    let mut bytes = [0u8; 44];
+    let mut i: usize = 0;
+    while i < 44 {
+        bytes[i] = field::byte(c, 16 + i);
+        i += 1;
+    }
+    bytes
+}

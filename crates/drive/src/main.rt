@@ -1,0 +1,82 @@
+// Drives the store by a script of cells on standard input, at most 4,096, and prints a line for each: what the call answered, and hashes of all
+// that it may have changed. It holds the proved store against an independent implementation, so nothing is proved of it but that it is safe and ends.
+mod calls;
+mod cell;
+mod desk;
+mod hash;
+mod numbers;
+mod print;
+mod setup;
+
+use crate::desk::Desk;
+use crate::desk::Said;
+use crate::desk::Turn;
+use libc::STDIN_FILENO;
+use model::answer::Answer;
+
+fn turn(d: Desk, c: &[u8], volume: &mut [u8], memory: &mut [u8], lent: &mut [u8]) -> Turn {
+    let op = cell::op(c);
+    if (op == 1) | (op == 10) {
+        calls::plain(d, c, volume, lent)
+    } else if (2 <= op) & (op <= 9) {
+        calls::stateful(d, c, volume, memory)
+    } else {
+        setup::turn(d, c, volume, memory, lent)
+    }
+}
+
+// The hash of a buffer's lent part.
+fn lent_hash(buffer: &[u8], size: usize) -> u32 {
+    let n = desk::least(size, buffer.len());
+    hash::bytes(&buffer[0..n])
+}
+
+fn line(a: Answer, d: Desk, volume: &[u8], memory: &[u8], lent: &[u8]) {
+    let store = d.store;
+    let s = store.state;
+    print::answer(a);
+    print::hashes(
+        lent_hash(volume, d.volume),
+        lent_hash(memory, d.memory),
+        lent_hash(lent, d.lent),
+        hash::state(s),
+    );
+}
+
+fn report(said: Said, d: Desk, volume: &[u8], memory: &[u8], lent: &[u8]) {
+    match said {
+        Said::Skip => print::skip(),
+        Said::Told(a) => line(a, d, volume, memory, lent),
+    }
+}
+
+// Does what a cell says and prints its line.
+fn step(d: Desk, c: &[u8], volume: &mut [u8], memory: &mut [u8], lent: &mut [u8]) -> Desk {
+    let t = turn(d, c, volume, memory, lent);
+    let said = t.said;
+    let next = t.desk;
+    report(said, next, volume, memory, lent);
+    next
+}
+
+fn main() {
+    let mut volume = [0u8; 131200];
+    let mut memory = [0u8; 5376];
+    let mut lent = [0u8; 512];
+    let store = desk::empty();
+    let mut d = Desk {
+        store,
+        volume: 0,
+        memory: 1280,
+        lent: 256,
+    };
+    let mut left: u32 = 4096;
+    while 0 < left {
+        let mut cell = [0u8; 64];
+        if io::read_full(STDIN_FILENO, &mut cell) < 64 {
+            return;
+        }
+        d = step(d, &cell, &mut volume, &mut memory, &mut lent);
+        left -= 1;
+    }
+}
