@@ -71,7 +71,7 @@ module _ (v m : List ℕ) (s : State) (page : ℕ) where
   module _ (g : Geometry) (f lsn k : ℕ) (t : State) (w : List ℕ) (eg : g ≡ geometryOf v) (ef : f ≡ holder s page) (el : lsn ≡ imageLsn (frameBytes m f))
       (ew : w ≡ splice v k (sealImage g (frameBytes m f))) where
     image-is : sealImage g (frameBytes m f) ≡ sealImage (geometryOf v) (frameBytes m (holder s page))
-    image-is = ap (λ (i : ℕ). sealImage g (frameBytes m i)) ef
+    image-is = ap (λ (i : ℕ). sealImage g (frameBytes m i)) ef ∙ ap (λ (h : Geometry). sealImage h (frameBytes m (holder s page))) eg
 
     pub write-done : firstOf (writeRows v m s page) ≡ 0 → pageDirty s page ≡ true → k ≡ start g (pageAt page)
         → t ≡ withFrames s (withFrame s f page false) (nextNote s page 1 0 lsn)
