@@ -48,3 +48,22 @@ c-test:
 reference-test:
 	@cd reference && cargo test -q --release --offline
 	@cd reference && cargo build -q --release --offline && ./target/release/checkbook --seed 1 --count 200
+
+# make fuzz               random scripts through the proved store and the second implementation; FUZZ_SECONDS=60, FUZZ_SEED=number (default: the clock)
+# make against            the C function against the second implementation's inspection, on volumes of every kind
+# make bench              times of the proved code and the second implementation on the same inputs
+.PHONY: fuzz against bench
+FUZZ_SECONDS ?= 60
+fuzz:
+	@python3 tools/fuzz.py --seconds $(FUZZ_SECONDS) $(if $(FUZZ_SEED),--seed $(FUZZ_SEED))
+
+AGAINST = cd reference/against && cargo run --release --offline --quiet --target-dir ../target --bin
+
+against:
+	@rt staticlib inspect >/dev/null || rt staticlib inspect
+	@$(AGAINST) against_inspect
+
+bench:
+	@rt staticlib inspect >/dev/null || rt staticlib inspect
+	@rt staticlib measure >/dev/null || rt staticlib measure
+	@$(AGAINST) bench

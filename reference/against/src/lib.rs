@@ -1,0 +1,4 @@
+//! Safe wrappers of the proved functions, and the volumes on which they are tried.
+
+pub mod full;
+pub mod proved;

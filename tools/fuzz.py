@@ -1,0 +1,216 @@
+#!/usr/bin/env python3
+"""Holds the proved store against the second implementation on random scripts.
+
+    tools/fuzz.py [--seconds N] [--seed N]
+
+A script is a list of cells of 64 bytes, each a call with its arguments, or a change of the volume, the memory, the state
+or a length behind the store's back. Both drivers print a line for each cell: the answer, and a hash of the volume,
+the memory, the lent buffer and the state. The lines must be the same. At the first difference the script is saved under
+target/fuzz/ and the run ends with status 1. It also does if a run of a minute or more leaves a kind of answer out.
+"""
+import argparse
+import collections
+import itertools
+import os
+import re
+import struct
+import subprocess
+import sys
+import time
+
+ROOT = os.path.dirname(os.path.dirname(os.path.abspath(__file__)))
+REFERENCE = os.path.join(ROOT, "reference", "target", "release")
+DRIVERS = {"proved": os.path.join(ROOT, "target", "bin", "drive"), "reference": os.path.join(REFERENCE, "drive")}
+SAVED = os.path.join(ROOT, "target", "fuzz")
+
+CELL = 64
+CELLS = 2000  # of a history or an arbitrary script
+CELLS_MIXED = 4096  # at most; a mixed script is as long as it takes to reach every answer
+BEFORE = 4  # cells shown before the one that differs
+COVERED_FROM = 60  # seconds of a run that has to reach every answer
+
+EXPECTED = [f"REFUSED {n}" for n in range(1, 20)] + ["NOTHING", "OK"]
+EXPECTED += ["GOOD", "BEHIND", "STALE", "FAILED"] + ["OWN", "BACKUP", "FORMAT"]
+
+
+# ---- cells
+
+def decode(cell):
+    """What a cell asks for, in words."""
+    op, kind, page, other, offset, length, fill = struct.unpack_from("<BBHHHBB", cell)
+    a, = struct.unpack_from("<I", cell, 12)
+    b, = struct.unpack_from("<I", cell, 60)
+    payload = cell[16:60]
+    counts = struct.unpack_from("<4I", cell, 16)
+    change = {1: f"format fill {fill}", 2: f"put {length} bytes at {offset}", 3: f"slide {length} bytes at {offset}"}
+    poke = f"{min(length, 44)} bytes at {a}: {payload[:min(length, 44)].hex()}"
+    words = {
+        1: "make P {} B {} L {} N {}".format(*counts),
+        2: "restart",
+        3: f"begin page {page} frame {other} fill {fill}",
+        4: f"load page {page} frame {other}",
+        5: f"change page {page}: {change.get(kind, f'unknown kind {kind}')}, payload {payload.hex()}",
+        6: "force",
+        7: f"write page {page}",
+        8: f"backup page {page} slot {other}",
+        9: "note",
+        10: f"inspect page {page}",
+        11: f"sizes volume {a} memory {b} buffer {counts[0]}",
+        12: f"poke the volume, {poke}",
+        13: f"poke the memory, {poke}",
+        14: f"set number {a} of the state to {b}",
+        15: "lose memory and state",
+        16: f"fill buffer {a} with {kind}",
+    }
+    return words.get(op, f"unknown op {op}")
+
+
+# ---- running
+
+def build():
+    """Builds the second implementation, and the proved driver where there is none."""
+    subprocess.run(["cargo", "build", "--release", "--offline", "--quiet"], cwd=os.path.join(ROOT, "reference"), check=True)
+    if not os.path.exists(DRIVERS["proved"]):
+        subprocess.run(["rt", "check", "drive"], cwd=ROOT, check=True)
+
+
+def generator(kind, seed, path):
+    """Starts to write a script to a file."""
+    cells = CELLS_MIXED if kind == "mixed" else CELLS
+    command = [os.path.join(REFERENCE, "gen"), "--seed", str(seed), "--kind", kind, "--cells", str(cells)]
+    with open(path, "wb") as script:
+        return subprocess.Popen(command, stdout=script)
+
+
+def drive(path):
+    """The lines that each driver prints for a script, the two run side by side."""
+    running = {}
+    for name, program in DRIVERS.items():
+        with open(path, "rb") as script, open(output(name), "wb") as lines:
+            running[name] = subprocess.Popen([program], stdin=script, stdout=lines)
+    return lines_of("proved", running), lines_of("reference", running)
+
+
+def output(name):
+    return os.path.join(SAVED, f"{name}.out")
+
+
+def lines_of(name, running):
+    status = running[name].wait()
+    with open(output(name), encoding="ascii", errors="replace") as text:
+        lines = text.read().splitlines()
+    return lines if status == 0 else lines + [f"(the program ended with status {status})"]
+
+
+def show_difference(path, kind, seed, proved, reference):
+    at = next(i for i, (x, y) in enumerate(itertools.zip_longest(proved, reference)) if x != y)
+    kept = os.path.join(SAVED, f"{kind}-{seed}.script")
+    os.replace(path, kept)
+    with open(kept, "rb") as script:
+        script = script.read()
+    cells = [script[i:i + CELL] for i in range(0, len(script) - CELL + 1, CELL)]
+    print(f"DIFFERENT: kind {kind}, seed {seed}, cell {at + 1} of {len(cells)}; the script is {os.path.relpath(kept, ROOT)}")
+    for i in range(max(0, at - BEFORE), min(at, len(cells))):
+        print(f"  {i + 1}: {decode(cells[i])}\n      {'both':10}{reference[i]}")
+    print(f"  {at + 1}: {decode(cells[at]) if at < len(cells) else '(no such cell)'}")
+    for name, lines in (("proved", proved), ("reference", reference)):
+        print(f"      {name:10}{lines[at] if at < len(lines) else '(no line)'}")
+
+
+def count(lines, reached):
+    for line in lines:
+        answer = line.split(" v=")[0]
+        words = answer.split(" ")
+        if re.fullmatch(r"[A-Z]+ [A-Z]+ \d+", answer):
+            reached[words[0]] += 1
+            reached[words[1]] += 1
+        else:
+            reached[answer] += 1
+
+
+class Run:
+    """A run over scripts with running seeds. Mixed scripts take long to find: one is made beside the others."""
+
+    def __init__(self, seed):
+        self.seeds = itertools.count(seed)
+        self.scripts = collections.Counter()
+        self.cells = 0
+        self.reached = collections.Counter()
+        self.mixed = None
+        self.start_mixed()
+
+    def path(self, kind):
+        return os.path.join(SAVED, f"{kind}.script")
+
+    def start_mixed(self):
+        self.mixed_seed = next(self.seeds)
+        self.mixed = generator("mixed", self.mixed_seed, self.path("mixed"))
+
+    def script(self, kind, seed):
+        """Plays one script; False at a difference."""
+        proved, reference = drive(self.path(kind))
+        if proved != reference:
+            show_difference(self.path(kind), kind, seed, proved, reference)
+            return False
+        self.scripts[kind] += 1
+        self.cells += len(proved)
+        count(proved, self.reached)
+        return True
+
+    def play_mixed(self):
+        """Plays the mixed script once it is written. One that reaches less than everything is none: the generator says so."""
+        if self.mixed.wait() == 0 and not self.script("mixed", self.mixed_seed):
+            return False
+        self.start_mixed()
+        return True
+
+    def play(self, kind):
+        seed = next(self.seeds)
+        if generator(kind, seed, self.path(kind)).wait() != 0:
+            raise SystemExit(f"the generator failed: kind {kind}, seed {seed}")
+        return self.script(kind, seed)
+
+    def until(self, end):
+        for kind in itertools.cycle(["history", "arbitrary"]):
+            if time.monotonic() >= end:
+                break
+            if not self.play(kind):
+                return False
+            if self.mixed.poll() is not None and not self.play_mixed():
+                return False
+        # A short run plays a mixed script too.
+        return self.scripts["mixed"] > 0 or self.play_mixed()
+
+    def stop(self):
+        if self.mixed.poll() is None:
+            self.mixed.kill()
+        self.mixed.wait()
+
+
+def main():
+    parser = argparse.ArgumentParser(description=__doc__.split("\n")[0])
+    parser.add_argument("--seconds", type=float, default=60)
+    parser.add_argument("--seed", type=int, default=None)
+    options = parser.parse_args()
+    seed = int(time.time()) if options.seed is None else options.seed
+    build()
+    os.makedirs(SAVED, exist_ok=True)
+    print(f"fuzz: seed {seed}, {options.seconds:g} s", flush=True)
+    run = Run(seed)
+    try:
+        same = run.until(time.monotonic() + options.seconds)
+    finally:
+        run.stop()
+    if not same:
+        return 1
+    kinds = ", ".join(f"{number} {kind}" for kind, number in sorted(run.scripts.items()))
+    print(f"{sum(run.scripts.values())} scripts ({kinds}), {run.cells} cells, every line the same")
+    print("reached: " + ", ".join(f"{name} {run.reached[name]}" for name in EXPECTED))
+    missing = [name for name in EXPECTED if not run.reached[name]]
+    if missing:
+        print("not reached: " + ", ".join(missing))
+    return 1 if missing and options.seconds >= COVERED_FROM else 0
+
+
+if __name__ == "__main__":
+    sys.exit(main())
