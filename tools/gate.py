@@ -12,6 +12,9 @@ CHECKS = [
     ("layout of the sources (rt fmt --check)", ["rt", "fmt", "--check"]),
     ("the program on the sample volume", ["make", "--no-print-directory", "demo-check"]),
     ("the C function: cases, refusals, full volumes", ["make", "--no-print-directory", "c-test"]),
+    ("the second implementation: tests and plain book", ["make", "--no-print-directory", "reference-test"]),
+    ("the C function against the second implementation", ["make", "--no-print-directory", "against"]),
+    ("scripts through both implementations, 20 seconds", ["make", "--no-print-directory", "fuzz", "FUZZ_SECONDS=20", "FUZZ_SEED=1"]),
 ]
 
 
