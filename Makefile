@@ -60,10 +60,10 @@ fuzz:
 AGAINST = cd reference/against && cargo run --release --offline --quiet --target-dir ../target --bin
 
 against:
-	@rt staticlib inspect >/dev/null || rt staticlib inspect
+	@rt staticlib inspect >/dev/null 2>&1 || rt staticlib inspect
 	@$(AGAINST) against_inspect
 
 bench:
-	@rt staticlib inspect >/dev/null || rt staticlib inspect
-	@rt staticlib measure >/dev/null || rt staticlib measure
+	@rt staticlib inspect >/dev/null 2>&1 || rt staticlib inspect
+	@rt staticlib measure >/dev/null 2>&1 || rt staticlib measure
 	@$(AGAINST) bench

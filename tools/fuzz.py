@@ -10,6 +10,7 @@ target/fuzz/ and the run ends with status 1. It also does if a run of a minute o
 """
 import argparse
 import collections
+import glob
 import itertools
 import os
 import re
@@ -67,10 +68,18 @@ def decode(cell):
 
 # ---- running
 
+def stale(program):
+    """The program is missing, or a source of the repository is newer."""
+    if not os.path.exists(program):
+        return True
+    sources = glob.glob(os.path.join(ROOT, "crates", "*", "src", "**", "*.rt"), recursive=True)
+    return max(map(os.path.getmtime, sources)) > os.path.getmtime(program)
+
+
 def build():
-    """Builds the second implementation, and the proved driver where there is none."""
+    """Builds the second implementation, and the proved driver where it is not up to date."""
     subprocess.run(["cargo", "build", "--release", "--offline", "--quiet"], cwd=os.path.join(ROOT, "reference"), check=True)
-    if not os.path.exists(DRIVERS["proved"]):
+    if stale(DRIVERS["proved"]):
         subprocess.run(["rt", "check", "drive"], cwd=ROOT, check=True)
 
 

@@ -12,7 +12,7 @@ use reference::rng::Rng;
 use std::hint::black_box;
 use std::time::{Duration, Instant};
 
-/// Rounds that are run and not counted.
+/// Rounds that are run and not counted. A round is short, so that the best one ran undisturbed.
 const WARM_UP: usize = 3;
 /// Pages of the volume on which the cycles run: one cycle for each.
 const CYCLE_PAGES: u32 = 64;
@@ -20,7 +20,7 @@ const CYCLE_PAGES: u32 = 64;
 const PAGE: u16 = 3;
 
 fn main() {
-    let rounds: usize = value("--rounds", 40);
+    let rounds: usize = value("--rounds", 1500);
     println!("load average at the start: {}", load());
     println!(
         "{:44} {:>10} {:>12} {:>6}",
@@ -74,7 +74,7 @@ fn timed(runs: u32, mut run: impl FnMut()) -> Duration {
 
 /// (a) The checksum of an image's 252 bytes, which stay in the cache.
 fn checksums(rounds: usize) {
-    const RUNS: u32 = 20_000;
+    const RUNS: u32 = 1_000;
     let mut part = [0; 252];
     Rng::new(1).fill(&mut part);
     assert_eq!(proved::checksum(&part), checksum(&part));
@@ -90,7 +90,7 @@ fn checksums(rounds: usize) {
 /// (b) Inspection of a page with a chain of 16, log and notes full. The buffer is not cleared
 /// between calls.
 fn inspections(records: u32, rounds: usize) -> f64 {
-    const RUNS: u32 = 20;
+    const RUNS: u32 = 4;
     let volume = full::volume(&full::geometry(records));
     let (mut ours, mut other) = ([0; 256], [0; 256]);
     assert_eq!(proved::inspect(&volume, PAGE.into(), &mut ours), 0);
@@ -125,7 +125,7 @@ fn cycles(rounds: usize) {
     };
     let (mut refused, mut refused_too) = (0, 0);
     let times = best(
-        5 * rounds,
+        rounds,
         CYCLE_PAGES,
         || {
             fresh(ours);
