@@ -1,27 +1,15 @@
 // The cells that call the store, ops 1 to 10: each call gets the lent parts of the buffers.
+use crate::bench;
+use crate::bench::Bench;
+use crate::bench::Turn;
 use crate::cell;
-use crate::desk;
-use crate::desk::Desk;
-use crate::desk::Turn;
 use codec::field;
+use model::answer::Answer;
 use store::Outcome;
 use store::Store;
 
-// Make and Inspect, which take no state.
-pub fn plain(d: Desk, c: &[u8], volume: &mut [u8], lent: &mut [u8]) -> Turn {
-    let n = desk::least(d.volume, volume.len());
-    if cell::op(c) == 1 {
-        desk::told(d, make(c, &mut volume[0..n]))
-    } else {
-        let k = desk::least(d.lent, lent.len());
-        desk::told(
-            d,
-            Store::inspect(&volume[0..n], cell::page(c), &mut lent[0..k]),
-        )
-    }
-}
-
-fn make(c: &[u8], v: &mut [u8]) -> model::answer::Answer {
+// Make, with the cell's four counts.
+fn make(c: &[u8], v: &mut [u8]) -> Answer {
     Store::make(
         v,
         field::u32at(c, 16),
@@ -29,6 +17,20 @@ fn make(c: &[u8], v: &mut [u8]) -> model::answer::Answer {
         field::u32at(c, 24),
         field::u32at(c, 28),
     )
+}
+
+// Make and Inspect, which take no state.
+pub fn plain(b: Bench, c: &[u8], volume: &mut [u8], lent: &mut [u8]) -> Turn {
+    let n = bench::least(b.volume, volume.len());
+    if cell::op(c) == 1 {
+        bench::told(b, make(c, &mut volume[0..n]))
+    } else {
+        let k = bench::least(b.lent, lent.len());
+        bench::told(
+            b,
+            Store::inspect(&volume[0..n], cell::page(c), &mut lent[0..k]),
+        )
+    }
 }
 
 // Begin, Load and Change, which write to the memory.
@@ -63,13 +65,13 @@ fn call(s: Store, c: &[u8], v: &mut [u8], m: &mut [u8]) -> Outcome {
 }
 
 // The calls that take or give a state. A change of no kind is skipped.
-pub fn stateful(d: Desk, c: &[u8], volume: &mut [u8], memory: &mut [u8]) -> Turn {
+pub fn stateful(b: Bench, c: &[u8], volume: &mut [u8], memory: &mut [u8]) -> Turn {
     let kind = cell::kind(c);
     if (cell::op(c) == 5) & !((1 <= kind) & (kind <= 3)) {
-        return desk::skipped(d);
+        return bench::skipped(b);
     }
-    let n = desk::least(d.volume, volume.len());
-    let k = desk::least(d.memory, memory.len());
-    let s = d.store;
-    desk::came(d, call(s, c, &mut volume[0..n], &mut memory[0..k]))
+    let n = bench::least(b.volume, volume.len());
+    let k = bench::least(b.memory, memory.len());
+    let s = b.store;
+    bench::came(b, call(s, c, &mut volume[0..n], &mut memory[0..k]))
 }

@@ -1,60 +1,61 @@
 // Drives the store by a script of cells on standard input, at most 4,096, and prints a line for each: what the call answered, and hashes of all
 // that it may have changed. It holds the proved store against an independent implementation, so nothing is proved of it but that it is safe and ends.
+mod bench;
 mod calls;
 mod cell;
-mod desk;
 mod hash;
 mod numbers;
 mod print;
 mod setup;
 
-use crate::desk::Desk;
-use crate::desk::Said;
-use crate::desk::Turn;
+use crate::bench::Bench;
+use crate::bench::Said;
+use crate::bench::Turn;
 use libc::STDIN_FILENO;
 use model::answer::Answer;
 
-fn turn(d: Desk, c: &[u8], volume: &mut [u8], memory: &mut [u8], lent: &mut [u8]) -> Turn {
+// Does what a cell says.
+fn turn(b: Bench, c: &[u8], volume: &mut [u8], memory: &mut [u8], lent: &mut [u8]) -> Turn {
     let op = cell::op(c);
     if (op == 1) | (op == 10) {
-        calls::plain(d, c, volume, lent)
+        calls::plain(b, c, volume, lent)
     } else if (2 <= op) & (op <= 9) {
-        calls::stateful(d, c, volume, memory)
+        calls::stateful(b, c, volume, memory)
     } else {
-        setup::turn(d, c, volume, memory, lent)
+        setup::turn(b, c, volume, memory, lent)
     }
 }
 
 // The hash of a buffer's lent part.
 fn lent_hash(buffer: &[u8], size: usize) -> u32 {
-    let n = desk::least(size, buffer.len());
+    let n = bench::least(size, buffer.len());
     hash::bytes(&buffer[0..n])
 }
 
-fn line(a: Answer, d: Desk, volume: &[u8], memory: &[u8], lent: &[u8]) {
-    let store = d.store;
+fn line(a: Answer, b: Bench, volume: &[u8], memory: &[u8], lent: &[u8]) {
+    let store = b.store;
     let s = store.state;
     print::answer(a);
     print::hashes(
-        lent_hash(volume, d.volume),
-        lent_hash(memory, d.memory),
-        lent_hash(lent, d.lent),
+        lent_hash(volume, b.volume),
+        lent_hash(memory, b.memory),
+        lent_hash(lent, b.lent),
         hash::state(s),
     );
 }
 
-fn report(said: Said, d: Desk, volume: &[u8], memory: &[u8], lent: &[u8]) {
+fn report(said: Said, b: Bench, volume: &[u8], memory: &[u8], lent: &[u8]) {
     match said {
         Said::Skip => print::skip(),
-        Said::Told(a) => line(a, d, volume, memory, lent),
+        Said::Told(a) => line(a, b, volume, memory, lent),
     }
 }
 
-// Does what a cell says and prints its line.
-fn step(d: Desk, c: &[u8], volume: &mut [u8], memory: &mut [u8], lent: &mut [u8]) -> Desk {
-    let t = turn(d, c, volume, memory, lent);
+// One cell: done, and its line printed.
+fn step(b: Bench, c: &[u8], volume: &mut [u8], memory: &mut [u8], lent: &mut [u8]) -> Bench {
+    let t = turn(b, c, volume, memory, lent);
     let said = t.said;
-    let next = t.desk;
+    let next = t.bench;
     report(said, next, volume, memory, lent);
     next
 }
@@ -63,8 +64,8 @@ fn main() {
     let mut volume = [0u8; 131200];
     let mut memory = [0u8; 5376];
     let mut lent = [0u8; 512];
-    let store = desk::empty();
-    let mut d = Desk {
+    let store = bench::empty();
+    let mut b = Bench {
         store,
         volume: 0,
         memory: 1280,
@@ -76,7 +77,7 @@ fn main() {
         if io::read_full(STDIN_FILENO, &mut cell) < 64 {
             return;
         }
-        d = step(d, &cell, &mut volume, &mut memory, &mut lent);
+        b = step(b, &cell, &mut volume, &mut memory, &mut lent);
         left -= 1;
     }
 }

@@ -1,20 +1,21 @@
 // The cells that set up what calls work on, ops 11 to 16: sizes, bytes and numbers of any kind.
+use crate::bench;
+use crate::bench::Bench;
+use crate::bench::Turn;
 use crate::cell;
-use crate::desk;
-use crate::desk::Desk;
-use crate::desk::Turn;
 use crate::numbers;
 use codec::field;
 use codec::part;
 use store::Store;
 
-fn sizes(d: Desk, c: &[u8]) -> Desk {
-    let store = d.store;
-    Desk {
+// How much of each buffer is lent, at most all of it.
+fn sizes(b: Bench, c: &[u8], volume: &[u8], memory: &[u8], lent: &[u8]) -> Bench {
+    let store = b.store;
+    Bench {
         store,
-        volume: desk::least(cell::first(c) as usize, 131200),
-        memory: desk::least(cell::second(c) as usize, 5376),
-        lent: desk::least(field::u32at(c, 16) as usize, 512),
+        volume: bench::least(cell::first(c) as usize, volume.len()),
+        memory: bench::least(cell::second(c) as usize, memory.len()),
+        lent: bench::least(field::u32at(c, 16) as usize, lent.len()),
     }
 }
 
@@ -28,7 +29,7 @@ fn put(buffer: &mut [u8], at: usize, x: u8) {
 // Writes payload bytes anywhere in a buffer; what falls outside is dropped.
 fn poke(c: &[u8], buffer: &mut [u8]) {
     let at = cell::first(c) as usize;
-    let n = desk::least(cell::length(c) as usize, 44);
+    let n = bench::least(cell::length(c) as usize, 44);
     let mut i: usize = 0;
     while i < n {
         put(buffer, at + i, field::byte(c, 16 + i));
@@ -37,55 +38,55 @@ fn poke(c: &[u8], buffer: &mut [u8]) {
 }
 
 // Sets a number of the state.
-fn set(d: Desk, c: &[u8]) -> Turn {
-    let store = d.store;
+fn set(b: Bench, c: &[u8]) -> Turn {
+    let store = b.store;
     let s = store.state;
     let at = cell::first(c);
     let x = cell::second(c);
     if !numbers::settable(s, at, x) {
-        return desk::skipped(d);
+        return bench::skipped(b);
     }
     let state = numbers::set(s, at, x);
-    desk::done(desk::with_store(d, Store { state }))
+    bench::done(bench::with_store(b, Store { state }))
 }
 
 // Fills a whole buffer.
-fn fill(d: Desk, c: &[u8], volume: &mut [u8], memory: &mut [u8], lent: &mut [u8]) -> Turn {
-    let b = cell::kind(c);
+fn fill(b: Bench, c: &[u8], volume: &mut [u8], memory: &mut [u8], lent: &mut [u8]) -> Turn {
+    let x = cell::kind(c);
     match cell::first(c) {
         0 => {
-            part::fill(volume, b);
-            desk::done(d)
+            part::fill(volume, x);
+            bench::done(b)
         }
         1 => {
-            part::fill(memory, b);
-            desk::done(d)
+            part::fill(memory, x);
+            bench::done(b)
         }
         2 => {
-            part::fill(lent, b);
-            desk::done(d)
+            part::fill(lent, x);
+            bench::done(b)
         }
-        _ => desk::skipped(d),
+        _ => bench::skipped(b),
     }
 }
 
-pub fn turn(d: Desk, c: &[u8], volume: &mut [u8], memory: &mut [u8], lent: &mut [u8]) -> Turn {
+pub fn turn(b: Bench, c: &[u8], volume: &mut [u8], memory: &mut [u8], lent: &mut [u8]) -> Turn {
     match cell::op(c) {
-        11 => desk::done(sizes(d, c)),
+        11 => bench::done(sizes(b, c, volume, memory, lent)),
         12 => {
             poke(c, volume);
-            desk::done(d)
+            bench::done(b)
         }
         13 => {
             poke(c, memory);
-            desk::done(d)
+            bench::done(b)
         }
-        14 => set(d, c),
+        14 => set(b, c),
         15 => {
             part::fill(memory, 0);
-            desk::done(desk::with_store(d, desk::empty()))
+            bench::done(bench::with_store(b, bench::empty()))
         }
-        16 => fill(d, c, volume, memory, lent),
-        _ => desk::skipped(d),
+        16 => fill(b, c, volume, memory, lent),
+        _ => bench::skipped(b),
     }
 }

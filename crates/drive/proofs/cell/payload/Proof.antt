@@ -5,9 +5,6 @@ use lib.ListN.{length}
 use borrow.Author.Needs.{needs}
 use Rattle.drive.proofs.cell.payload.Statement.{statement}
 use Rattle.drive.proofs.cell.payload.Tie as tie
-use Rattle.drive.proofs.cell.payload.Reads as reads
-use Rattle.drive.proofs.cell.payload.Lts as lts
-use Rattle.codec.proofs.field.byte.Reads as byte-reads
 
 abbrev Inv-loop : tie.InvT-loop
 Inv-loop c bytes₀ i₀ bytes i = (i ≤ 44) × (length bytes ≡ 44)
@@ -15,35 +12,27 @@ Inv-loop c bytes₀ i₀ bytes i = (i ≤ 44) × (length bytes ≡ 44)
 abbrev μ-loop : tie.MeasureT-loop
 μ-loop c bytes₀ i₀ bytes i = 44 - i
 
--- src/cell.rt:54:5
 loop-holds : tie.Need-loop-holds Inv-loop μ-loop
 loop-holds c = search needs
 
--- src/cell.rt:55:35
 add-byte : tie.Need-add-byte Inv-loop μ-loop
 add-byte c = search needs
 
--- src/cell.rt:55:20
 byte-requires : tie.Need-byte-requires Inv-loop μ-loop
 byte-requires c κs = search needs
 
--- src/cell.rt:55:9
 array-write-bytes : tie.Need-array-write-bytes Inv-loop μ-loop
 array-write-bytes c = search needs
 
--- src/cell.rt:56:9
 add-i : tie.Need-add-i Inv-loop μ-loop
 add-i c = search needs
 
--- src/cell.rt:54:5
 loop-less : tie.Need-loop-less Inv-loop μ-loop
 loop-less c = search needs
 
--- src/cell.rt:54:5
 loop-again : tie.Need-loop-again Inv-loop μ-loop
 loop-again c = search needs
 
--- src/cell.rt:51:1
 returns : tie.Need-returns Inv-loop μ-loop
 returns c = search needs
 

@@ -4,9 +4,6 @@ use lib.ListN.{length}
 use borrow.Author.Needs.{needs}
 use Rattle.drive.proofs.hash.bytes.Statement.{statement}
 use Rattle.drive.proofs.hash.bytes.Tie as tie
-use Rattle.drive.proofs.hash.bytes.Reads as reads
-use Rattle.drive.proofs.hash.bytes.Lts as lts
-use Rattle.drive.proofs.hash.byte.Reads as byte-reads
 
 abbrev Inv-loop : tie.InvT-loop
 Inv-loop s h₀ i₀ h i = i ≤ length s
@@ -14,31 +11,24 @@ Inv-loop s h₀ i₀ h i = i ≤ length s
 abbrev μ-loop : tie.MeasureT-loop
 μ-loop s h₀ i₀ h i = length s - i
 
--- src/hash.rt:18:5
 loop-holds : tie.Need-loop-holds Inv-loop μ-loop
 loop-holds c = search needs
 
--- src/hash.rt:19:21
 shared-slice-read-byte : tie.Need-shared-slice-read-byte Inv-loop μ-loop
 shared-slice-read-byte c = search needs
 
--- src/hash.rt:19:9
 byte-requires : tie.Need-byte-requires Inv-loop μ-loop
 byte-requires c κs = search needs
 
--- src/hash.rt:20:9
 add-i : tie.Need-add-i Inv-loop μ-loop
 add-i c = search needs
 
--- src/hash.rt:18:5
 loop-less : tie.Need-loop-less Inv-loop μ-loop
 loop-less c = search needs
 
--- src/hash.rt:18:5
 loop-again : tie.Need-loop-again Inv-loop μ-loop
 loop-again c = search needs
 
--- src/hash.rt:15:1
 returns : tie.Need-returns Inv-loop μ-loop
 returns c = search needs
 

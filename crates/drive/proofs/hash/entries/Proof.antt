@@ -3,9 +3,6 @@ use Prim.Native.Nat.{_≤_, _-_}
 use borrow.Author.Needs.{needs}
 use Rattle.drive.proofs.hash.entries.Statement.{statement}
 use Rattle.drive.proofs.hash.entries.Tie as tie
-use Rattle.drive.proofs.hash.entries.Reads as reads
-use Rattle.drive.proofs.hash.entries.Lts as lts
-use Rattle.drive.proofs.hash.entry.Reads as entry-reads
 
 abbrev Inv-loop : tie.InvT-loop
 Inv-loop h0 index h₀ i₀ h i = i ≤ 64
@@ -13,35 +10,27 @@ Inv-loop h0 index h₀ i₀ h i = i ≤ 64
 abbrev μ-loop : tie.MeasureT-loop
 μ-loop h0 index h₀ i₀ h i = 64 - i
 
--- src/hash.rt:54:5
 loop-holds : tie.Need-loop-holds Inv-loop μ-loop
 loop-holds c = search needs
 
--- src/hash.rt:55:17
 mul-e : tie.Need-mul-e Inv-loop μ-loop
 mul-e c = search needs
 
--- src/hash.rt:55:17
 array-copy-out-e : tie.Need-array-copy-out-e Inv-loop μ-loop
 array-copy-out-e c = search needs
 
--- src/hash.rt:56:9
 entry-requires : tie.Need-entry-requires Inv-loop μ-loop
 entry-requires c κs = search needs
 
--- src/hash.rt:57:9
 add-i : tie.Need-add-i Inv-loop μ-loop
 add-i c = search needs
 
--- src/hash.rt:54:5
 loop-less : tie.Need-loop-less Inv-loop μ-loop
 loop-less c = search needs
 
--- src/hash.rt:54:5
 loop-again : tie.Need-loop-again Inv-loop μ-loop
 loop-again c = search needs
 
--- src/hash.rt:51:1
 returns : tie.Need-returns Inv-loop μ-loop
 returns c = search needs
 

@@ -3,9 +3,6 @@ use Prim.Native.Nat.{_≤_, _-_}
 use borrow.Author.Needs.{needs}
 use Rattle.drive.proofs.hash.frames.Statement.{statement}
 use Rattle.drive.proofs.hash.frames.Tie as tie
-use Rattle.drive.proofs.hash.frames.Reads as reads
-use Rattle.drive.proofs.hash.frames.Lts as lts
-use Rattle.drive.proofs.hash.frame.Reads as frame-reads
 
 abbrev Inv-loop : tie.InvT-loop
 Inv-loop h0 table h₀ i₀ h i = i ≤ 16
@@ -13,35 +10,27 @@ Inv-loop h0 table h₀ i₀ h i = i ≤ 16
 abbrev μ-loop : tie.MeasureT-loop
 μ-loop h0 table h₀ i₀ h i = 16 - i
 
--- src/hash.rt:38:5
 loop-holds : tie.Need-loop-holds Inv-loop μ-loop
 loop-holds c = search needs
 
--- src/hash.rt:39:17
 mul-f : tie.Need-mul-f Inv-loop μ-loop
 mul-f c = search needs
 
--- src/hash.rt:39:17
 array-copy-out-f : tie.Need-array-copy-out-f Inv-loop μ-loop
 array-copy-out-f c = search needs
 
--- src/hash.rt:40:9
 frame-requires : tie.Need-frame-requires Inv-loop μ-loop
 frame-requires c κs = search needs
 
--- src/hash.rt:41:9
 add-i : tie.Need-add-i Inv-loop μ-loop
 add-i c = search needs
 
--- src/hash.rt:38:5
 loop-less : tie.Need-loop-less Inv-loop μ-loop
 loop-less c = search needs
 
--- src/hash.rt:38:5
 loop-again : tie.Need-loop-again Inv-loop μ-loop
 loop-again c = search needs
 
--- src/hash.rt:35:1
 returns : tie.Need-returns Inv-loop μ-loop
 returns c = search needs
 
