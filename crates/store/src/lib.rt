@@ -69,7 +69,7 @@ impl Store {
     }
 
     // Changes a page that a frame holds. Ruled out: a record that names the page's last durable record and skips its pending ones; a slide that
-    // drops the bytes behind it.
+    // overwrites the bytes it should move up.
     pub fn change(
         self,
         v: &[u8],
