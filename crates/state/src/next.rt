@@ -2,9 +2,9 @@
 ghost use mathlib.Core.Path.{_≡_};
 ghost use mathlib.Core.Bool.{true, false};
 ghost use Prim.Native.Nat.{_+_, _-_, _≤_, _<_};
-ghost use Rattle.model.specs.Index.{withNote};
 ghost use Rattle.model.specs.State.{zeroState};
 ghost use Rattle.model.specs.Calls.{withFrame, withFrames, nextNote, appendedState, forcedState, notedState};
+use index::rows;
 use model::item::Note;
 use model::state::Entry;
 use model::state::Frame;
@@ -137,39 +137,14 @@ pub fn backedup(s: State, page: u32, slot: u32, lsn: u32) -> State
     }
 }
 
-// An entry with a note entered.
-fn entered(e: Entry, n: Note) -> Entry
-    ensures { λ r. ⌜ r ≡ withNote e n ⌝ }
-{
-    if n.kind == 1 {
-        Entry {
-            last: e.last,
-            durable: e.durable,
-            written: n.lsn,
-            slot: e.slot,
-            backup: e.backup,
-        }
-    } else {
-        Entry {
-            last: e.last,
-            durable: e.durable,
-            written: e.written,
-            slot: n.slot,
-            backup: n.lsn,
-        }
-    }
-}
-
 // The note is stored, and entered in the index.
 pub fn noted(s: State, n: Note) -> State
     requires { ⌜ (1 ≤ n .page) × (n .page ≤ 64) × (s .notes < 4294967295) ⌝ }
     ensures { λ r. ⌜ r ≡ notedState s n ⌝ }
 {
-    let i = (n.page - 1) as usize;
     let frames = s.frames;
-    let mut index = s.index;
-    let e = index[i];
-    index[i] = entered(e, n);
+    let before = s.index;
+    let index = rows::enter(before, n);
     State {
         durable: s.durable,
         pending: s.pending,
