@@ -67,3 +67,11 @@ bench:
 	@rt staticlib inspect >/dev/null 2>&1 || rt staticlib inspect
 	@rt staticlib measure >/dev/null 2>&1 || rt staticlib measure
 	@$(AGAINST) bench
+
+# make checklist          the four checks that support staff are taught, played with the store's calls
+.PHONY: checklist
+checklist:
+	@echo "Proving and building the program (a few minutes the first time):"
+	@rt check checklist
+	@echo
+	@./target/bin/checklist

@@ -1,0 +1,47 @@
+// The four checks that support staff are taught, played with the store's own calls. Only the damage is this program's: it plays the disk and
+// the plug. The calls are proved; the program shows them at work, and compares each page's text before and after.
+
+mod both;
+mod disk;
+mod lost;
+mod plug;
+mod print;
+mod steps;
+mod text;
+mod thread;
+
+use print::number;
+use print::one;
+use print::say;
+
+// What an answer means.
+fn legend() {
+    say(
+        b"Inspect and Load answer what the page's image on disk is worth, where the repair starts, and how many log records\n",
+    );
+    say(b"it replays. The image is\n");
+    say(b"  GOOD    the newest\n");
+    say(b"  BEHIND  whole; newer changes stand in the log: no fault\n");
+    say(
+        b"  STALE   whole, but older than a write that was confirmed and noted: the disk lost that write\n",
+    );
+    say(b"  FAILED  torn, spoiled or never written, or its number is past the end of the log\n");
+    say(b"and the repair starts from\n");
+    say(b"  OWN     the page's own image\n");
+    say(b"  BACKUP  its backup\n");
+    say(b"  FORMAT  its first log record, so from the log alone\n");
+}
+
+fn main() {
+    say(
+        b"The four checks, played with the store's own calls. Only the damage is done by this program, in place of the disk.\n\n",
+    );
+    legend();
+    let passed = one(lost::check())
+        + one(plug::check())
+        + one(both::check())
+        + one(thread::check());
+    say(b"\n");
+    number(passed);
+    say(b" of 4 checks passed\n");
+}
