@@ -51,23 +51,23 @@ computed w t =
     let m = fresh h in
     let a = taleOf h in
     let told = same (joined (a .answers)) (saysAnswers w) in
-    let kept = same (changes (a .log .durable)) (changes (w .kept)) in
+    let durable = same (changes (a .log .durable)) (changes (w .durable)) in
     let seen = same (pagesOf w (a .machine .volume)) (joined (w .shows)) in
     let replay = allReplay (w .pages) (a .machine .volume) (a .log .durable) in
     let t1 = right (eqb (makes h) 0) (agrees w a) t in
-    let t2 = right (a .ok) (told && (kept && (seen && replay))) t1 in
-    let t3 = right told (kept && (seen && replay)) t2 in
-    let t4 = right kept (seen && replay) t3 in
+    let t2 = right (a .ok) (told && (durable && (seen && replay))) t1 in
+    let t3 = right told (durable && (seen && replay)) t2 in
+    let t4 = right durable (seen && replay) t3 in
     record {
       legal =
           record {
             make = eqb→eq (makes h) 0 (left (eqb (makes h) 0) (agrees w a) t);
-            events = sym (ok m emptyLog (h .events)) ∙ holds (a .ok) (left (a .ok) (told && (kept && (seen && replay))) t1);
+            events = sym (ok m emptyLog (h .events)) ∙ holds (a .ok) (left (a .ok) (told && (durable && (seen && replay))) t1);
           };
-      answers = sym (ap joined (answered m emptyLog (h .events))) ∙ equal (joined (a .answers)) (saysAnswers w) (left told (kept && (seen && replay)) t2);
-      kept =
+      answers = sym (ap joined (answered m emptyLog (h .events))) ∙ equal (joined (a .answers)) (saysAnswers w) (left told (durable && (seen && replay)) t2);
+      durable =
           sym (ap (λ b. changes (b .durable)) (log m emptyLog (h .events)))
-          ∙ equal (changes (a .log .durable)) (changes (w .kept)) (left kept (seen && replay) t3);
+          ∙ equal (changes (a .log .durable)) (changes (w .durable)) (left durable (seen && replay) t3);
       pages =
           sym (ap (λ x. pagesOf w (x .volume)) (machine m emptyLog (h .events)))
           ∙ equal (pagesOf w (a .machine .volume)) (joined (w .shows)) (left seen replay t4);

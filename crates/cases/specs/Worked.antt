@@ -14,7 +14,7 @@ use Rattle.model.specs.Item.{imageLsn, imageBody}
 use Rattle.model.specs.Calls.{StoredItem, Call, makeOf, inspectOf, restartOf, outcomeOf, volumeAfter, refusalOf}
 use Rattle.model.specs.AbstractLog.{Logged, AbstractLog, emptyLog, lastPlace, replay, forget, stepCall}
 use Rattle.model.specs.History.{Power, off, on, Machine, Event, restart, perform, crash, crashIn, damage, lent, step, allowed, stepLog}
-use Rattle.model.specs.Claim.{History, Legal, fresh, reached, keptOf}
+use Rattle.model.specs.Claim.{History, Legal, fresh, reached, durableOf}
 use Rattle.model.specs.declared.answer.Answer.{Answer}
 use Rattle.model.specs.declared.answer.Answer.the-variants.{Refused, Nothing, Done, Repaired}
 use Rattle.cases.specs.Rows.{same}
@@ -38,7 +38,7 @@ pub record Worked : Type 0 where
   pub records : ℕ
   pub notes : ℕ
   pub events : List Told
-  pub kept : List Logged
+  pub durable : List Logged
   pub shows : List (List ℕ)
 
 -- a history with these counts, whose Make found other bytes than zeros
@@ -143,15 +143,15 @@ pagesSeen (suc n) p v = pageSeen v p ∷ pagesSeen n (suc p) v
 
 -- demand 2 of page p of a volume: 7 where it is blank, else the replay's number and body, all of it
 abbrev pub replays : List ℕ → List Logged → ℕ → Bool
-replays v kept p =
+replays v durable p =
     let i = inspectOf v p buffer in
-    let n = lastPlace p kept in
+    let n = lastPlace p durable in
     cond (eqb n 0) (eqb (refusalOf (i .answer)) 7)
-    (eqb (refusalOf (i .answer)) 0 && same (part (i .buffer) 4 248) (bytesOf 4 n ++ replay p kept))
+    (eqb (refusalOf (i .answer)) 0 && same (part (i .buffer) 4 248) (bytesOf 4 n ++ replay p durable))
 
 abbrev pub allReplay : ℕ → List ℕ → List Logged → Bool
-allReplay zero v kept = true
-allReplay (suc n) v kept = replays v kept (suc n) && allReplay n v kept
+allReplay zero v durable = true
+allReplay (suc n) v durable = replays v durable (suc n) && allReplay n v durable
 
 -- ---- the test and the statement
 
@@ -173,7 +173,7 @@ pagesOf w v = joined (pagesSeen (w .pages) 1 v)
 -- what is made of a history, beside what the worked one says
 abbrev pub agrees : Worked → Tale → Bool
 agrees w t =
-    t .ok && (same (joined (t .answers)) (saysAnswers w) && (same (changes (t .log .durable)) (changes (w .kept))
+    t .ok && (same (joined (t .answers)) (saysAnswers w) && (same (changes (t .log .durable)) (changes (w .durable))
     && (same (pagesOf w (t .machine .volume)) (joined (w .shows)) && allReplay (w .pages) (t .machine .volume) (t .log .durable))))
 
 abbrev pub computes : Worked → Bool
@@ -186,9 +186,9 @@ allCompute (w ∷ ws) = computes w && allCompute ws
 pub record Computed (w : Worked) : Type 0 where
   pub legal : Legal (historyOf w)
   pub answers : answers (historyOf w) ≡ saysAnswers w
-  pub kept : changes (keptOf (historyOf w)) ≡ changes (w .kept)
+  pub durable : changes (durableOf (historyOf w)) ≡ changes (w .durable)
   pub pages : pagesOf w (reached (historyOf w) .volume) ≡ joined (w .shows)
-  pub replay : allReplay (w .pages) (reached (historyOf w) .volume) (keptOf (historyOf w)) ≡ true
+  pub replay : allReplay (w .pages) (reached (historyOf w) .volume) (durableOf (historyOf w)) ≡ true
 
 abbrev pub AllComputed : List Worked → Type 0
 AllComputed [] = Unit

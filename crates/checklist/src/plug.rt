@@ -91,11 +91,11 @@ fn example(trial: &mut Volume, m: &mut Memory, old: &Volume, new: &Volume, store
 }
 
 // What all the cuts left.
-fn summary(kept: u32, not: u32, refused: u32, other: u32) -> bool {
+fn summary(whole: u32, not: u32, refused: u32, other: u32) -> bool {
     say(
         b"  The plug is pulled after each byte, from none of the 64 to all: 65 cuts.\n    The line is kept: ",
     );
-    number(kept);
+    number(whole);
     say(b". It is not kept: ");
     number(not);
     say(b". Refused: ");
@@ -103,7 +103,7 @@ fn summary(kept: u32, not: u32, refused: u32, other: u32) -> bool {
     say(b". Any other text: ");
     number(other);
     say(b".\n");
-    (0 < not) & ((0 < kept) & ((refused == 0) & (other == 0)))
+    (0 < not) & ((0 < whole) & ((refused == 0) & (other == 0)))
 }
 
 // Counts each outcome; without and with are what Inspect gives before and after the Force.
@@ -116,10 +116,10 @@ fn tally(
     trial: &mut Volume,
 ) -> bool {
     let not = count(old, new, m, without, with, trial, 0);
-    let kept = count(old, new, m, without, with, trial, 1);
+    let whole = count(old, new, m, without, with, trial, 1);
     let refused = count(old, new, m, without, with, trial, 2);
     let other = count(old, new, m, without, with, trial, 3);
-    summary(kept, not, refused, other)
+    summary(whole, not, refused, other)
 }
 
 fn cuts(old: &Volume, new: &Volume, m: &mut Memory, trial: &mut Volume) -> bool {

@@ -64,9 +64,9 @@ fn entries(h0: u32, index: [Entry; 64]) -> u32 {
 }
 
 pub fn state(s: State) -> u32 {
-    let owed = s.note;
+    let pending = s.note;
     let table = s.frames;
     let index = s.index;
     let head = step(step(step(7, s.durable), s.pending), s.notes);
-    entries(frames(note(head, owed), table), index)
+    entries(frames(note(head, pending), table), index)
 }

@@ -29,9 +29,9 @@ fn present(p: PendingNote) -> bool {
 
 // Whether the number at a position may become x. A note's fields are there only with a note.
 pub fn settable(s: State, at: u32, x: u32) -> bool {
-    let owed = s.note;
+    let pending = s.note;
     let field = (4 <= at) & (at <= 7);
-    (at < 360) & (x <= most(at)) & (!field | present(owed))
+    (at < 360) & (x <= most(at)) & (!field | present(pending))
 }
 
 fn set_count(s: State, at: u32, x: u32) -> State {
@@ -90,14 +90,14 @@ fn with_number(p: PendingNote, at: u32, x: u32) -> PendingNote {
 }
 
 fn set_note(s: State, at: u32, x: u32) -> State {
-    let owed = s.note;
+    let pending = s.note;
     let frames = s.frames;
     let index = s.index;
     State {
         durable: s.durable,
         pending: s.pending,
         notes: s.notes,
-        note: with_number(owed, at, x),
+        note: with_number(pending, at, x),
         frames,
         index,
     }

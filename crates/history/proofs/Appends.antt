@@ -27,7 +27,7 @@ use Rattle.model.specs.declared.answer.Answer.{Answer}
 use Rattle.model.specs.declared.answer.Answer.the-variants.{Done}
 use lib.Seq.{length-take-le}
 use Rattle.model.specs.declared.state.State.{State}
-use Rattle.history.proofs.Book.{lastOf, bodyOf, last-le, number-hit, number-miss, body-hit, body-miss, last-append}
+use Rattle.history.proofs.Logs.{lastOf, bodyOf, last-le, number-hit, number-miss, body-hit, body-miss, last-append}
 use Rattle.history.proofs.Leaf.{encode-take, frame-body, frame-size, frame-changed}
 use Rattle.history.proofs.Records.{recOf, recOf-new, recOf-is}
 use Rattle.history.proofs.Inv.{past-cons, Settled, frame, Memory}

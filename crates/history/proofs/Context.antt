@@ -23,7 +23,7 @@ use Rattle.model.specs.declared.answer.Answer.the-variants.{Refused}
 use Rattle.model.specs.declared.item.Note.{Note}
 use Rattle.model.specs.declared.state.Entry.{Entry}
 use Rattle.model.specs.declared.state.State.{State}
-use Rattle.history.proofs.Book.{noLogged, at, lastAt, lastOf, bodyOf, replayAt, last-page, replay-last, replay-append, last-append}
+use Rattle.history.proofs.Logs.{noLogged, at, lastAt, lastOf, bodyOf, replayAt, last-page, replay-last, replay-append, last-append}
 use Rattle.history.proofs.Entries.{markAt, entryFrom}
 use Rattle.history.proofs.Records.{AllFair, length-replay}
 use Rattle.history.proofs.Sections.{Sized, volume-sized}
@@ -102,11 +102,11 @@ module _ {g : Geometry} {v m : List ℕ} {past : List StoredItem} {s : State} {k
 
   -- a page whose newest change is durable, seen from the durable list
   module _ (p j : ℕ) (e : lastOf p (x .all) ≡ suc j) (b : suc j ≤ length k) where
-    pub kept-page : at k j .page ≡ p
-    kept-page = rw (x .al .log .split, List·getD-append k w noLogged j b) at (last-page p (x .all) (length (x .all)) j e)
+    pub durable-page : at k j .page ≡ p
+    durable-page = rw (x .al .log .split, List·getD-append k w noLogged j b) at (last-page p (x .all) (length (x .all)) j e)
 
-    pub kept-body : bodyOf p (x .all) ≡ replayAt p k (suc j)
-    kept-body = replay-last p (x .all) (length (x .all)) ∙ (rw (e, x .al .log .split) (replay-append p k w (suc j) b))
+    pub durable-body : bodyOf p (x .all) ≡ replayAt p k (suc j)
+    durable-body = replay-last p (x .all) (length (x .all)) ∙ (rw (e, x .al .log .split) (replay-append p k w (suc j) b))
 
   -- the frame that a call finds by its page
   pub record Found (p : ℕ) : Type 0 where

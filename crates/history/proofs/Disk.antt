@@ -20,7 +20,7 @@ use Rattle.model.specs.declared.geometry.Geometry.{Geometry}
 use Rattle.model.specs.declared.item.Note.{Note}
 use Rattle.model.specs.declared.item.LogRecord.{LogRecord}
 use Rattle.model.specs.declared.state.Entry.{Entry}
-use Rattle.history.proofs.Book.{at, lastAt, last-hit, last-miss}
+use Rattle.history.proofs.Logs.{at, lastAt, last-hit, last-miss}
 use Rattle.history.proofs.Entries.{note, markAt, mark-hit, mark-miss, NoteOk, NotesOk, entry-noted, Indexed, indexed-start, indexed-set, spare-slot}
 use Rattle.laws.proofs.Notes.{note-sealed}
 use Rattle.history.proofs.Leaf.{RecordIs, note-read}

@@ -17,7 +17,7 @@ use Rattle.model.specs.Item.{isWritten}
 use Rattle.model.specs.Index.{emptyEntry, emptyIndex, entryOf, setEntry, withNote, slotUsed}
 use Rattle.model.specs.AbstractLog.{Logged}
 use Rattle.laws.proofs.Tests.{byCases}
-use Rattle.history.proofs.Book.{at, lastAt, last-ge, last-zero}
+use Rattle.history.proofs.Logs.{at, lastAt, last-ge, last-zero}
 
 -- ---- what notes say of a page
 

@@ -16,12 +16,12 @@ use Rattle.model.specs.Scan.{indexOf}
 use Rattle.model.specs.Repair.{classOf}
 use Rattle.model.specs.AbstractLog.{Logged}
 use Rattle.model.specs.History.{Power, on, isImage, storedBefore}
-use Rattle.model.specs.Claim.{History, Legal, reached, logOf, keptOf}
+use Rattle.model.specs.Claim.{History, Legal, reached, logOf, durableOf}
 use Rattle.model.specs.declared.answer.Class.the-variants.{Good, Behind, Stale, Failed}
 use Rattle.model.specs.declared.state.Entry.{Entry}
 use Rattle.model.specs.declared.state.State.{State}
 use Rattle.history.specs.Facts.{volumeOf, headingOf, IsReplay, StoredImage, OwnImage, IndexEntry, SameEntry, Counts, LivePage, Facts}
-use Rattle.history.proofs.Book.{at, lastOf, last-hit, last-ge, last-is, replay-is, last-take, replay-take}
+use Rattle.history.proofs.Logs.{at, lastOf, last-hit, last-ge, last-is, replay-is, last-take, replay-take}
 use Rattle.history.proofs.Entries.{markAt, entryFrom, slots-apart}
 use Rattle.history.proofs.Records.{ReplayOf, Faithful}
 use Rattle.history.proofs.Sections.{volume-sized}
@@ -29,7 +29,7 @@ use Rattle.history.proofs.Disk.{index-is}
 use Rattle.history.proofs.Inv.{Inv}
 use Rattle.history.proofs.Context.{Ctx, entry-is, last-entry, durable-last, found-frame}
 use Rattle.history.proofs.WellFormed.{state-ok, memory-ok}
-use Rattle.history.proofs.Refusals.{call-ordinary, load-kept, restart-right, restart-wrong, inspect-right, inspect-wrong, inspect-kept}
+use Rattle.history.proofs.Refusals.{call-ordinary, load-durable, restart-right, restart-wrong, inspect-right, inspect-wrong, inspect-durable}
 use Rattle.history.proofs.Reached.{madeWith, context, tied}
 
 -- a replay in the words of the facts
@@ -63,21 +63,21 @@ module _ (h : History) (legal : Legal h) where
   p64 = volume-sized (madeWith h) (volumeOf h) (i .holds .vol) .p-high
 
   -- a page's entry, as the volume gives it
-  entry : (p : ℕ) → 1 ≤ p → p ≤ h .pages → entryOf (indexOf (headingOf h) (volumeOf h)) p ≡ entryFrom (lastOf p (keptOf h)) (lastOf p (keptOf h)) (markAt p (i .ns) (length (i .ns)))
+  entry : (p : ℕ) → 1 ≤ p → p ≤ h .pages → entryOf (indexOf (headingOf h) (volumeOf h)) p ≡ entryFrom (lastOf p (durableOf h)) (lastOf p (durableOf h)) (markAt p (i .ns) (length (i .ns)))
   entry p lo hi =
-      rw heading (index-is (madeWith h) (volumeOf h) (keptOf h) (i .holds) (i .ns) (i .noted) .entry p lo (omega (arith, p64)))
+      rw heading (index-is (madeWith h) (volumeOf h) (durableOf h) (i .holds) (i .ns) (i .noted) .entry p lo (omega (arith, p64)))
 
   -- the machine that is on
   module _ (m : List ℕ) (s : State) (e : reached h .power ≡ on m s) where
-    ctx : Ctx (madeWith h) (volumeOf h) m (reached h .past) s (keptOf h) (logOf h .pending)
+    ctx : Ctx (madeWith h) (volumeOf h) m (reached h .past) s (durableOf h) (logOf h .pending)
     ctx = context (madeWith h) (volumeOf h) m (reached h .past) s (logOf h)
         (subst (λ (y : Power). Inv (madeWith h) (volumeOf h) (reached h .past) y (logOf h)) e i)
 
     same-entry : (p : ℕ) → 1 ≤ p → p ≤ h .pages → SameEntry h s p
     same-entry p lo hi =
         let a = entry-is ctx p lo hi in
-        let b : entryOf (indexOf (headingOf h) (volumeOf h)) p ≡ entryFrom (lastOf p (keptOf h)) (lastOf p (keptOf h)) (markAt p (ctx .ns) (length (ctx .ns))) =
-        rw heading (index-is (madeWith h) (volumeOf h) (keptOf h) (ctx .hs) (ctx .ns) (ctx .no) .entry p lo (omega (arith, p64))) in
+        let b : entryOf (indexOf (headingOf h) (volumeOf h)) p ≡ entryFrom (lastOf p (durableOf h)) (lastOf p (durableOf h)) (markAt p (ctx .ns) (length (ctx .ns))) =
+        rw heading (index-is (madeWith h) (volumeOf h) (durableOf h) (ctx .hs) (ctx .ns) (ctx .no) .entry p lo (omega (arith, p64))) in
         let d = durable-last ctx p lo hi in
         record {
           durable = ap (λ (y : Entry). y .durable) a ∙ (d ∙ sym (ap (λ (y : Entry). y .durable) b));
@@ -91,34 +91,34 @@ module _ (h : History) (legal : Legal h) where
 
     live-page : (p : ℕ) → 1 ≤ p → p ≤ h .pages → LivePage h m s p
     live-page p lo hi =
-        let sp : ctx .all ≡ keptOf h ++ logOf h .pending = ctx .al .log .split in
+        let sp : ctx .all ≡ durableOf h ++ logOf h .pending = ctx .al .log .split in
         record {
-          last = rw (last-is p (keptOf h ++ logOf h .pending), ← sp) (last-entry ctx p lo hi);
+          last = rw (last-is p (durableOf h ++ logOf h .pending), ← sp) (last-entry ctx p lo hi);
           frame = λ t.
-              rw (last-is p (keptOf h ++ logOf h .pending), replay-is p (keptOf h ++ logOf h .pending), ← sp) (found-frame ctx p lo (rw t) .framed .frame-is);
+              rw (last-is p (durableOf h ++ logOf h .pending), replay-is p (durableOf h ++ logOf h .pending), ← sp) (found-frame ctx p lo (rw t) .framed .frame-is);
         }
 
   stored-image : (at : Place) (x : List ℕ) → isImage (headingOf h) at ≡ true → storedBefore at x (reached h .past) ≡ true → StoredImage h x
   stored-image at x r e =
       let f = i .past-ok at x (rw heading at r) e in
-      record { page = f .page; low = f .low; high = f .high; valid = rw heading (f .valid); is-replay = is-replay (f .page) (keptOf h) x (f .good) }
+      record { page = f .page; low = f .low; high = f .high; valid = rw heading (f .valid); is-replay = is-replay (f .page) (durableOf h) x (f .good) }
 
   module _ (p : ℕ) (lo : 1 ≤ p) (hi : p ≤ h .pages) where
     abbrev own : List ℕ
     own = item (headingOf h) (volumeOf h) (pageAt p)
 
-    own-good : Faithful (headingOf h) p (keptOf h) own
+    own-good : Faithful (headingOf h) p (durableOf h) own
     own-good = rw heading (i .holds .images p lo hi)
 
     not-above : validImage (headingOf h) p own ≡ true → imageLsn own ≤ entryOf (indexOf (headingOf h) (volumeOf h)) p .durable
     not-above t =
         let f = own-good t in
-        omega (arith, f .lsn-is, ap (λ (y : Entry). y .durable) (entry p lo hi), last-ge p (keptOf h) (length (keptOf h)) (f .place) (f .below) (f .page-is))
+        omega (arith, f .lsn-is, ap (λ (y : Entry). y .durable) (entry p lo hi), last-ge p (durableOf h) (length (durableOf h)) (f .place) (f .below) (f .page-is))
 
     own-image : OwnImage h p
     own-image =
         record {
-          is-replay = λ t. is-replay p (keptOf h) own (own-good t);
+          is-replay = λ t. is-replay p (durableOf h) own (own-good t);
           not-above = not-above;
           failed = λ e. byCases (validImage (headingOf h) p own)
               (λ t. absurd (not-failed (imageLsn own) (entryOf (indexOf (headingOf h) (volumeOf h)) p .durable) (entryOf (indexOf (headingOf h) (volumeOf h)) p .written) (not-above t) (rw t at e)))
@@ -128,13 +128,13 @@ module _ (h : History) (legal : Legal h) where
     noted-page : IndexEntry h p
     noted-page =
         record {
-          durable = ap (λ (y : Entry). y .durable) (entry p lo hi) ∙ sym (last-is p (keptOf h));
+          durable = ap (λ (y : Entry). y .durable) (entry p lo hi) ∙ sym (last-is p (durableOf h));
           backup = λ nz t.
-              is-replay p (keptOf h) (item (headingOf h) (volumeOf h) (slotAt (entryOf (indexOf (headingOf h) (volumeOf h)) p .slot))) (copy (entryOf (indexOf (headingOf h) (volumeOf h)) p .slot)
+              is-replay p (durableOf h) (item (headingOf h) (volumeOf h) (slotAt (entryOf (indexOf (headingOf h) (volumeOf h)) p .slot))) (copy (entryOf (indexOf (headingOf h) (volumeOf h)) p .slot)
               (ap (λ (y : Entry). y .slot) (entry p lo hi)) nz t);
         }
       where
-        copy : (b : ℕ) → b ≡ markAt p (i .ns) (length (i .ns)) .slot → b ≢ 0 → Faithful (headingOf h) p (keptOf h) (item (headingOf h) (volumeOf h) (slotAt b))
+        copy : (b : ℕ) → b ≡ markAt p (i .ns) (length (i .ns)) .slot → b ≢ 0 → Faithful (headingOf h) p (durableOf h) (item (headingOf h) (volumeOf h) (slotAt b))
         copy b q nz = rw (heading, q) (i .noted .backups p lo hi (λ z. nz (q ∙ z)))
 
 pub facts : Facts
@@ -143,12 +143,12 @@ facts =
       sound = λ h l m s e. record { memory = memory-ok (ctx h l m s e); state = state-ok (ctx h l m s e) };
       calls = λ h l m s e c. call-ordinary (ctx h l m s e) c;
       restarts = λ h l m. record {
-        right = restart-right (madeWith h) (volumeOf h) (keptOf h) (i h l .holds) (i h l .ns) (i h l .noted) m;
-        wrong = restart-wrong (madeWith h) (volumeOf h) (keptOf h) (i h l .holds) (i h l .ns) (i h l .noted) m;
+        right = restart-right (madeWith h) (volumeOf h) (durableOf h) (i h l .holds) (i h l .ns) (i h l .noted) m;
+        wrong = restart-wrong (madeWith h) (volumeOf h) (durableOf h) (i h l .holds) (i h l .ns) (i h l .noted) m;
       };
       answers = λ h l p buffer. record {
-        right = inspect-right (madeWith h) (volumeOf h) (keptOf h) (i h l .holds) (i h l .ns) (i h l .noted) p buffer;
-        wrong = inspect-wrong (madeWith h) (volumeOf h) (keptOf h) (i h l .holds) (i h l .ns) (i h l .noted) p buffer;
+        right = inspect-right (madeWith h) (volumeOf h) (durableOf h) (i h l .holds) (i h l .ns) (i h l .noted) p buffer;
+        wrong = inspect-wrong (madeWith h) (volumeOf h) (durableOf h) (i h l .holds) (i h l .ns) (i h l .noted) p buffer;
       };
       stored = stored-image;
       own = own-image;
@@ -159,10 +159,10 @@ facts =
       slots = λ h l p q p1 p2 q1 q2 nz e.
           let a : entryOf (indexOf (headingOf h) (volumeOf h)) p .slot ≡ markAt p (i h l .ns) (length (i h l .ns)) .slot = ap (λ (y : Entry). y .slot) (entry h l p p1 p2) in
           let b : entryOf (indexOf (headingOf h) (volumeOf h)) q .slot ≡ markAt q (i h l .ns) (length (i h l .ns)) .slot = ap (λ (y : Entry). y .slot) (entry h l q q1 q2) in
-          slots-apart (h .pages) (h .slots) (keptOf h) (i h l .ns) (i h l .noted .fit) (p64 h l) (length (i h l .ns)) (omega arith) p q p1 (omega (arith, p64 h l)) q1 (omega (arith, p64 h l))
+          slots-apart (h .pages) (h .slots) (durableOf h) (i h l .ns) (i h l .noted .fit) (p64 h l) (length (i h l .ns)) (omega arith) p q p1 (omega (arith, p64 h l)) q1 (omega (arith, p64 h l))
           (λ z. nz (a ∙ z)) (sym a ∙ (e ∙ b));
-      loads = λ h l m s e p f nz. load-kept (ctx h l m s e) p f (λ z. nz (last-is p (keptOf h) ∙ z));
+      loads = λ h l m s e p f nz. load-durable (ctx h l m s e) p f (λ z. nz (last-is p (durableOf h) ∙ z));
       inspects = λ h l p buffer nz.
-          inspect-kept (madeWith h) (volumeOf h) (keptOf h) (i h l .holds) (i h l .ns) (i h l .noted) p buffer
-          (λ lo hi z. nz (last-is p (keptOf h) ∙ (sym (ap (λ (y : Entry). y .durable) (index-is (madeWith h) (volumeOf h) (keptOf h) (i h l .holds) (i h l .ns) (i h l .noted) .entry p lo (omega (arith, p64 h l)))) ∙ z)));
+          inspect-durable (madeWith h) (volumeOf h) (durableOf h) (i h l .holds) (i h l .ns) (i h l .noted) p buffer
+          (λ lo hi z. nz (last-is p (durableOf h) ∙ (sym (ap (λ (y : Entry). y .durable) (index-is (madeWith h) (volumeOf h) (durableOf h) (i h l .holds) (i h l .ns) (i h l .noted) .entry p lo (omega (arith, p64 h l)))) ∙ z)));
     }

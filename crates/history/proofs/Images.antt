@@ -18,13 +18,13 @@ use Rattle.model.specs.History.{itemSealed}
 use Rattle.model.specs.declared.geometry.Geometry.{Geometry}
 use Rattle.model.specs.declared.item.Note.{Note}
 use Rattle.model.specs.declared.state.State.{State}
-use Rattle.history.proofs.Book.{at, lastOf, bodyOf, last-le, last-below}
+use Rattle.history.proofs.Logs.{at, lastOf, bodyOf, last-le, last-below}
 use Rattle.history.proofs.Entries.{markAt, NoteOk, Backed, mark-ok, slot-spare}
 use Rattle.history.proofs.Leaf.{frame-lsn, frame-size, image-lsn, image-body, image-size, valid-sealed}
 use Rattle.history.proofs.Disk.{Holds, Noted}
 use Rattle.history.proofs.Inv.{Fine, Image, image-fine, Past, past-cons, Settled}
 use Rattle.history.proofs.Stores.{page-holds, page-noted, slot-holds, slot-noted}
-use Rattle.history.proofs.Context.{Ctx, sized, len, few, body-size, durable-last, kept-page, kept-body, Found}
+use Rattle.history.proofs.Context.{Ctx, sized, len, few, body-size, durable-last, durable-page, durable-body, Found}
 
 -- an item that may be stored: what it leaves whole, and torn
 pub record StoreOk (g : Geometry) (v : List ℕ) (past : List StoredItem) (k : List Logged) (ns : List Note) (at : Place) (xs : List ℕ) (k′ : List Logged) (ns′ : List Note) : Type 0 where
@@ -80,8 +80,8 @@ module _ {g : Geometry} {v m : List ℕ} {past : List StoredItem} {s : State} {k
                 place = j;
                 lsn-is = image-lsn g p N B pg nm (body-size x p) ∙ q;
                 below = le;
-                page-is = kept-page x p j q le;
-                body-is = image-body g p N B pg nm (body-size x p) ∙ kept-body x p j q le;
+                page-is = durable-page x p j q le;
+                body-is = image-body g p N B pg nm (body-size x p) ∙ durable-body x p j q le;
               };
             })
 
@@ -113,7 +113,7 @@ module _ {g : Geometry} {v m : List ℕ} {past : List StoredItem} {s : State} {k
               high = f .framed .high;
               some = omega (arith, lsn-is);
               below = omega (arith, x .al .log .durable-is);
-              page-is = rw j₁ (kept-page x p j q le);
+              page-is = rw j₁ (durable-page x p j q le);
               written = λ t. (wr t, mark-le .0);
               backed = bk;
             }

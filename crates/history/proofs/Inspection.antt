@@ -20,7 +20,7 @@ use Rattle.model.specs.Calls.{inspectOf, refusalOf}
 use Rattle.model.specs.AbstractLog.{Logged}
 use Rattle.model.specs.declared.geometry.Geometry.{Geometry}
 use Rattle.model.specs.declared.item.Note.{Note}
-use Rattle.history.proofs.Book.{lastOf, bodyOf, replayAt, last-le, last-page, replay-last}
+use Rattle.history.proofs.Logs.{lastOf, bodyOf, replayAt, last-le, last-page, replay-last}
 use Rattle.history.proofs.Entries.{markAt, entryFrom}
 use Rattle.history.proofs.Leaf.{image-shown}
 use Rattle.history.proofs.Records.{length-replay}
@@ -45,9 +45,9 @@ module _ (g : Geometry) (v : List ℕ) (k : List Logged) (h : Holds g v k) (ns :
     unfolding inspectOf
     inspect-blank z = rw (rows-are (length buffer) e, eq-eqb (lastOf p k) 0 z)
 
-    pub inspect-kept : lastOf p k ≢ 0 → (refusalOf (inspectOf v p buffer .answer) ≡ 0) × (part (inspectOf v p buffer .buffer) 4 248 ≡ bytesOf 4 (lastOf p k) ++ bodyOf p k)
+    pub inspect-durable : lastOf p k ≢ 0 → (refusalOf (inspectOf v p buffer .answer) ≡ 0) × (part (inspectOf v p buffer .buffer) 4 248 ≡ bytesOf 4 (lastOf p k) ++ bodyOf p k)
     unfolding inspectOf
-    inspect-kept nz = rw (rows-are (length buffer) e, ne-eqb (lastOf p k) 0 nz) (refl, rw (h .vol .geo, entry-is) (go (lastOf p k) refl))
+    inspect-durable nz = rw (rows-are (length buffer) e, ne-eqb (lastOf p k) 0 nz) (refl, rw (h .vol .geo, entry-is) (go (lastOf p k) refl))
       where
         go : (n : ℕ) → lastOf p k ≡ n
             → part (sealImage g (rebuilt g p (viewOf g v (entryFrom (lastOf p k) (lastOf p k) (markAt p ns (length ns))) p))) 4 248 ≡ bytesOf 4 (lastOf p k) ++ bodyOf p k

@@ -23,7 +23,7 @@ use Rattle.model.specs.declared.state.Frame.{Frame}
 use Rattle.model.specs.declared.state.PendingNote.{PendingNote}
 use Rattle.model.specs.declared.state.PendingNote.the-variants.{Absent, Present}
 use Rattle.model.specs.declared.state.State.{State}
-use Rattle.history.proofs.Book.{noLogged, at, lastAt, lastOf, bodyOf}
+use Rattle.history.proofs.Logs.{noLogged, at, lastAt, lastOf, bodyOf}
 use Rattle.history.proofs.Entries.{note, NoteOk, Indexed}
 use Rattle.history.proofs.Leaf.{valid-page}
 use Rattle.history.proofs.Records.{AllFair, recOf, ReplayOf, Faithful, valid-append}

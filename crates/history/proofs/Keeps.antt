@@ -28,7 +28,7 @@ use Rattle.model.specs.declared.item.Note.{Note}
 use Rattle.model.specs.declared.state.PendingNote.{PendingNote}
 use Rattle.model.specs.declared.state.PendingNote.the-variants.{Absent, Present}
 use Rattle.model.specs.declared.state.State.{State}
-use Rattle.history.proofs.Book.{at, atA, lenA}
+use Rattle.history.proofs.Logs.{at, atA, lenA}
 use Rattle.history.proofs.Entries.{lenN}
 use Rattle.history.proofs.Records.{recOf, recOf-is, Fair, valid-append}
 use Rattle.history.proofs.Inv.{past-cons, past-append, PendingOk, note-append, image-fine, Inv}

@@ -1,4 +1,4 @@
-pub mod Book
+pub mod Logs
 pub mod Entries
 pub mod Leaf
 pub mod Records

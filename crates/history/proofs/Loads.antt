@@ -21,13 +21,13 @@ use Rattle.model.specs.AbstractLog.{Logged}
 use Rattle.model.specs.declared.geometry.Geometry.{Geometry}
 use Rattle.model.specs.declared.answer.Answer.{Answer}
 use Rattle.model.specs.declared.state.State.{State}
-use Rattle.history.proofs.Book.{lastAt, lastOf, bodyOf, last-le}
+use Rattle.history.proofs.Logs.{lastAt, lastOf, bodyOf, last-le}
 use Rattle.history.proofs.Leaf.{frame-size}
 use Rattle.history.proofs.Inv.{past-cons, Settled, frame}
 use Rattle.history.proofs.Memory.{frame-count, frame-memory, frame-same, frame-other, frame-pending}
 use Rattle.history.proofs.FrameSteps.{frames-put}
 use Rattle.history.proofs.Views.{view-unbroken, view-body}
-use Rattle.history.proofs.Context.{Ctx, Kept, Passed, passed, in-range, sized, geo, fair, few, body-size, entry-is, last-entry, kept-page, kept-body, nowhere}
+use Rattle.history.proofs.Context.{Ctx, Kept, Passed, passed, in-range, sized, geo, fair, few, body-size, entry-is, last-entry, durable-page, durable-body, nowhere}
 
 -- the rows before a row whose number is answered do not hold, and it does
 abbrev pub Others : ℕ → List Row → Type 0
@@ -70,9 +70,9 @@ module _ {g : Geometry} {v m : List ℕ} {past : List StoredItem} {s : State} {k
     restored (suc j) q =
         let d : lastAt page (x .all) (length k) ≡ suc j = sym st ∙ q in
         let b : suc j ≤ length k = omega (arith, last-le page (x .all) (length k)) in
-        let vb = view-body g v k (x .hs) (x .ns) (x .no) (suc j) j page lo hi b (kept-page x page j q b) in
-        let vu = view-unbroken g v k (x .hs) (x .ns) (x .no) (suc j) j page lo hi b (kept-page x page j q b) in
-        rw (entry-is x page lo hi, d, q) (vu, ap (frameImage page (suc j)) (vb ∙ sym (kept-body x page j q b)))
+        let vb = view-body g v k (x .hs) (x .ns) (x .no) (suc j) j page lo hi b (durable-page x page j q b) in
+        let vu = view-unbroken g v k (x .hs) (x .ns) (x .no) (suc j) j page lo hi b (durable-page x page j q b) in
+        rw (entry-is x page lo hi, d, q) (vu, ap (frameImage page (suc j)) (vb ∙ sym (durable-body x page j q b)))
 
     pub load-unbroken : chainBroken g v s page ≡ false
     load-unbroken = restored (lastOf page (x .all)) refl .0

@@ -14,7 +14,7 @@ use Rattle.model.specs.AbstractLog.{Logged}
 use Rattle.model.specs.declared.geometry.Geometry.{Geometry}
 use Rattle.model.specs.declared.item.Note.{Note}
 use Rattle.model.specs.declared.state.Entry.{Entry}
-use Rattle.history.proofs.Book.{noLogged, at, lastAt, lastOf, last-append, last-hit, last-miss, lenA, atA, lastN, number-hit, number-miss}
+use Rattle.history.proofs.Logs.{noLogged, at, lastAt, lastOf, last-append, last-hit, last-miss, lenA, atA, lastN, number-hit, number-miss}
 use Rattle.history.proofs.Entries.{markAt, mark-hit, mark-miss, mark-append, lenN, noteN, Indexed, indexed-set, entry-noted}
 use Rattle.history.proofs.Records.{Fair, fair-more, fair-prefix, recOf, recOf-append}
 use Rattle.history.proofs.Inv.{LogState}

@@ -13,7 +13,7 @@ use Rattle.model.specs.declared.geometry.Geometry.{Geometry}
 use Rattle.model.specs.Change.{kindOf, lengthOf, fits}
 use Rattle.model.specs.Item.{imageLsn, imageBody, validImage, encodeChange}
 use Rattle.model.specs.AbstractLog.{Logged}
-use Rattle.history.proofs.Book.{noLogged, at, lastAt, replayAt, last-append, replay-append, last-le, lenA, atA, lastN, lastOf}
+use Rattle.history.proofs.Logs.{noLogged, at, lastAt, replayAt, last-append, replay-append, last-le, lenA, atA, lastN, lastOf}
 use Rattle.laws.proofs.Changes.{apply-length}
 use Rattle.history.proofs.Leaf.{RecordIs, record-is}
 

@@ -25,7 +25,7 @@ use Rattle.model.specs.declared.state.PendingNote.{PendingNote}
 use Rattle.model.specs.declared.state.PendingNote.the-variants.{Absent, Present}
 use Rattle.model.specs.declared.state.State.{State}
 use Rattle.history.specs.Facts.{Ordinary}
-use Rattle.history.proofs.Book.{lastOf, last-mono}
+use Rattle.history.proofs.Logs.{lastOf, last-mono}
 use Rattle.history.proofs.Disk.{Holds, Noted, valid-log, valid-notes}
 use Rattle.history.proofs.Context.{Ctx, in-range, geo, len, last-entry, durable-last}
 use Rattle.history.proofs.Loads.{Others, none-other, until, never-broken}
@@ -118,9 +118,9 @@ module _ {g : Geometry} {v m : List ℕ} {past : List StoredItem} {s : State} {k
   call-ordinary c = rw (call-refusal c v m s, rows-are c) (own-ordinary c)
 
   -- a page with a durable change is not blank
-  pub load-kept : (p f : ℕ) → lastOf p k ≢ 0 → refusalOf (loadOf v m s p f .answer) ≢ 7
+  pub load-durable : (p f : ℕ) → lastOf p k ≢ 0 → refusalOf (loadOf v m s p f .answer) ≢ 7
   unfolding ownRows
-  load-kept p f nz e =
+  load-durable p f nz e =
       let u = until 7 ((not (within (geometryOf v .pages) p), 3) ∷ (not (within (frameCount (length m)) f), 4) ∷ []) (blank s p)
       ((held s p, 9) ∷ (frameBlocked s f, 10) ∷ (chainBroken (geometryOf v) v s p, 19) ∷ []) (omega arith) (omega arith) (λ z. omega arith)
       (sym (rows-are (load p f)) ∙ (sym (call-refusal (load p f) v m s) ∙ e)) in
@@ -156,9 +156,9 @@ module _ (g : Geometry) (v : List ℕ) (k : List Logged) (h : Holds g v k) (ns :
   inspect-wrong p buffer e = inspect-refusal v p buffer ∙ rw (h .vol .ok, ne-eqb (length buffer) 256 e)
 
   -- a page with a durable change is not refused 7
-  pub inspect-kept : (p : ℕ) (buffer : List ℕ) → (1 ≤ p → p ≤ g .pages → entryOf (indexOf g v) p .durable ≢ 0) → refusalOf (inspectOf v p buffer .answer) ≢ 7
+  pub inspect-durable : (p : ℕ) (buffer : List ℕ) → (1 ≤ p → p ≤ g .pages → entryOf (indexOf g v) p .durable ≢ 0) → refusalOf (inspectOf v p buffer .answer) ≢ 7
   unfolding shortRows
-  inspect-kept p buffer nz e = elim (ℕ-discrete (length buffer) 256) [
+  inspect-durable p buffer nz e = elim (ℕ-discrete (length buffer) 256) [
     | yes y ↦
         let u = until 7 ((not (within (g .pages) p), 3) ∷ []) (eqb (entryOf (indexOf g v) p .durable) 0) [] (omega arith) tt (λ z. omega arith)
         (sym (inspect-rows p (length buffer) y) ∙ (sym (inspect-refusal v p buffer) ∙ e)) in

@@ -20,7 +20,7 @@ use Rattle.model.specs.declared.geometry.Geometry.{Geometry}
 use Rattle.model.specs.declared.item.Note.{Note}
 use Rattle.model.specs.declared.state.PendingNote.{PendingNote}
 use Rattle.model.specs.declared.state.PendingNote.the-variants.{Absent, Present}
-use Rattle.history.proofs.Book.{at, lenA}
+use Rattle.history.proofs.Logs.{at, lenA}
 use Rattle.history.proofs.Entries.{note, noNote, markAt, mark-hit, mark-miss, mark-append, lenN, noteN, NoteOk, NotesOk, mark-ok}
 use Rattle.history.proofs.Records.{Fair, fair-more, recOf, recOf-is, recOf-append, Faithful, valid-append}
 use Rattle.history.proofs.Sections.{Volume, Sized, volume-sized, volume-size, volume-store, store-same, store-other, Tail}

@@ -19,10 +19,10 @@ use Rattle.model.specs.Refusals.{loadRows}
 use Rattle.model.specs.Calls.{StoredItem, loadOf, refusalOf}
 use Rattle.model.specs.AbstractLog.{Logged}
 use Rattle.model.specs.History.{Power, on}
-use Rattle.model.specs.Claim.{History, Legal, reached, logOf, keptOf, inspection, shown, Inspects, Loads, Agree, Begins, Demand2, Demand3}
+use Rattle.model.specs.Claim.{History, Legal, reached, logOf, durableOf, inspection, shown, Inspects, Loads, Agree, Begins, Demand2, Demand3}
 use Rattle.model.specs.declared.geometry.Geometry.{Geometry}
 use Rattle.model.specs.declared.state.State.{State}
-use Rattle.history.proofs.Book.{at, lastOf, bodyOf, last-hit, last-le, replay-last, replay-append, replay-is, last-is}
+use Rattle.history.proofs.Logs.{at, lastOf, bodyOf, last-hit, last-le, replay-last, replay-append, replay-is, last-is}
 use Rattle.history.proofs.Leaf.{frame-size}
 use Rattle.history.proofs.Records.{AllFair}
 use Rattle.history.proofs.Sections.{volume-sized}
@@ -30,26 +30,26 @@ use Rattle.history.proofs.Inv.{Inv}
 use Rattle.history.proofs.Memory.{frame-same}
 use Rattle.history.proofs.Context.{Ctx, geo, sized, few, body-size, durable-last}
 use Rattle.history.proofs.Loads.{Loaded, loads, never-broken, load-image}
-use Rattle.history.proofs.Inspection.{inspect-blank, inspect-kept}
+use Rattle.history.proofs.Inspection.{inspect-blank, inspect-durable}
 use Rattle.history.proofs.Reached.{madeWith, context, tied}
 
 -- ---- one history: Inspect
 
 module _ (h : History) (legal : Legal h) (p : ℕ) (lo : 1 ≤ p) (hi : p ≤ h .pages) (buffer : List ℕ) (size : length buffer ≡ 256) where
-  shows-blank : lastOf p (keptOf h) ≡ 0 → inspection h p buffer ≡ 7
-  shows-blank = let i = tied h legal in inspect-blank (madeWith h) (reached h .volume) (keptOf h) (i .holds) (i .ns) (i .noted) p lo hi buffer size
+  shows-blank : lastOf p (durableOf h) ≡ 0 → inspection h p buffer ≡ 7
+  shows-blank = let i = tied h legal in inspect-blank (madeWith h) (reached h .volume) (durableOf h) (i .holds) (i .ns) (i .noted) p lo hi buffer size
 
-  shows-kept : lastOf p (keptOf h) ≢ 0 → (inspection h p buffer ≡ 0) × (shown h p buffer ≡ bytesOf 4 (lastOf p (keptOf h)) ++ bodyOf p (keptOf h))
-  shows-kept = let i = tied h legal in inspect-kept (madeWith h) (reached h .volume) (keptOf h) (i .holds) (i .ns) (i .noted) p lo hi buffer size
+  shows-durable : lastOf p (durableOf h) ≢ 0 → (inspection h p buffer ≡ 0) × (shown h p buffer ≡ bytesOf 4 (lastOf p (durableOf h)) ++ bodyOf p (durableOf h))
+  shows-durable = let i = tied h legal in inspect-durable (madeWith h) (reached h .volume) (durableOf h) (i .holds) (i .ns) (i .noted) p lo hi buffer size
 
-  shows-seven : inspection h p buffer ≡ 7 → lastOf p (keptOf h) ≡ 0
-  shows-seven e = elim (ℕ-discrete (lastOf p (keptOf h)) 0) [ yes z ↦ z | no z ↦ absurd (omega (arith, e, shows-kept z .0)) ]
+  shows-seven : inspection h p buffer ≡ 7 → lastOf p (durableOf h) ≡ 0
+  shows-seven e = elim (ℕ-discrete (lastOf p (durableOf h)) 0) [ yes z ↦ z | no z ↦ absurd (omega (arith, e, shows-durable z .0)) ]
 
   inspects : Inspects h p buffer
   inspects =
       record {
-        blank = rw (last-is p (keptOf h)) (shows-seven, shows-blank);
-        kept = rw (last-is p (keptOf h), replay-is p (keptOf h)) shows-kept;
+        blank = rw (last-is p (durableOf h)) (shows-seven, shows-blank);
+        durable = rw (last-is p (durableOf h), replay-is p (durableOf h)) shows-durable;
       }
 
 -- ---- one history: Load
@@ -92,7 +92,7 @@ loads-is h legal m s e p f =
     record {
       unbroken = λ z. never-broken x p f (sym (load-refusal x p f) ∙ z);
       loaded = λ z.
-          rw (last-is p (keptOf h), replay-is p (keptOf h), last-is p (keptOf h ++ logOf h .pending), replay-is p (keptOf h ++ logOf h .pending))
+          rw (last-is p (durableOf h), replay-is p (durableOf h), last-is p (durableOf h ++ logOf h .pending), replay-is p (durableOf h ++ logOf h .pending))
           (loaded-bytes x p f (sym (load-refusal x p f) ∙ z));
     }
 
@@ -122,39 +122,39 @@ no-longer P k l fair same = go (length l) refl
 
 module _ (h k : History) (lh : Legal h) (lk : Legal k) (same : h .pages ≡ k .pages) (x y : List ℕ) (sx : length x ≡ 256) (sy : length y ≡ 256) where
   -- answers that agree have the same number
-  same-number : (p : ℕ) → 1 ≤ p → p ≤ h .pages → Agree h k x y p → lastOf p (keptOf h) ≡ lastOf p (keptOf k)
+  same-number : (p : ℕ) → 1 ≤ p → p ≤ h .pages → Agree h k x y p → lastOf p (durableOf h) ≡ lastOf p (durableOf k)
   same-number p lo hi (inl a) = shows-seven h lh p lo hi x sx (a .0) ∙ sym (shows-seven k lk p lo (omega arith) y sy (a .1))
   same-number p lo hi (inr a) =
-      let nh : lastOf p (keptOf h) ≢ 0 = λ z. omega (arith, shows-blank h lh p lo hi x sx z, a .0) in
-      let nk : lastOf p (keptOf k) ≢ 0 = λ z. omega (arith, shows-blank k lk p lo (omega arith) y sy z, a .1) in
-      same-four (lastOf p (keptOf h)) (lastOf p (keptOf k)) (bodyOf p (keptOf h)) (bodyOf p (keptOf k)) (number-bound h lh p) (number-bound k lk p)
-      (sym (shows-kept h lh p lo hi x sx nh .1) ∙ (a .2 ∙ shows-kept k lk p lo (omega arith) y sy nk .1))
+      let nh : lastOf p (durableOf h) ≢ 0 = λ z. omega (arith, shows-blank h lh p lo hi x sx z, a .0) in
+      let nk : lastOf p (durableOf k) ≢ 0 = λ z. omega (arith, shows-blank k lk p lo (omega arith) y sy z, a .1) in
+      same-four (lastOf p (durableOf h)) (lastOf p (durableOf k)) (bodyOf p (durableOf h)) (bodyOf p (durableOf k)) (number-bound h lh p) (number-bound k lk p)
+      (sym (shows-durable h lh p lo hi x sx nh .1) ∙ (a .2 ∙ shows-durable k lk p lo (omega arith) y sy nk .1))
     where
-      number-bound : (h : History) → Legal h → (p : ℕ) → lastOf p (keptOf h) ≤ 1024
+      number-bound : (h : History) → Legal h → (p : ℕ) → lastOf p (durableOf h) ≤ 1024
       number-bound h l p =
           let i = tied h l in
-          omega (arith, last-le p (keptOf h) (length (keptOf h)), i .holds .room, volume-sized (madeWith h) (reached h .volume) (i .holds .vol) .l-high)
+          omega (arith, last-le p (durableOf h) (length (durableOf h)), i .holds .room, volume-sized (madeWith h) (reached h .volume) (i .holds .vol) .l-high)
 
   -- equal lists agree
-  agree : keptOf h ≡ keptOf k → (p : ℕ) → 1 ≤ p → p ≤ h .pages → Agree h k x y p
-  agree e p lo hi = elim (ℕ-discrete (lastOf p (keptOf h)) 0) [
+  agree : durableOf h ≡ durableOf k → (p : ℕ) → 1 ≤ p → p ≤ h .pages → Agree h k x y p
+  agree e p lo hi = elim (ℕ-discrete (lastOf p (durableOf h)) 0) [
     | yes z ↦ inl (shows-blank h lh p lo hi x sx z, shows-blank k lk p lo (omega arith) y sy (rw e at z))
     | no z ↦
-        let a = shows-kept h lh p lo hi x sx z in
-        let b = shows-kept k lk p lo (omega arith) y sy (rw e at z) in
+        let a = shows-durable h lh p lo hi x sx z in
+        let b = shows-durable k lk p lo (omega arith) y sy (rw e at z) in
         inr (a .0, b .0, a .1 ∙ (rw e (sym (b .1))))
   ]
 
-  alike : (l : List Logged) → Begins (keptOf h) l → Begins (keptOf k) l → ((p : ℕ) → 1 ≤ p → p ≤ h .pages → Agree h k x y p) ↔ (length (keptOf h) ≡ length (keptOf k))
+  alike : (l : List Logged) → Begins (durableOf h) l → Begins (durableOf k) l → ((p : ℕ) → 1 ≤ p → p ≤ h .pages → Agree h k x y p) ↔ (length (durableOf h) ≡ length (durableOf k))
   alike l b c = (
     λ f.
-        let nums : (p : ℕ) → 1 ≤ p → p ≤ h .pages → lastOf p (keptOf h) ≡ lastOf p (keptOf k) = λ p lo hi. same-number p lo hi (f p lo hi) in
+        let nums : (p : ℕ) → 1 ≤ p → p ≤ h .pages → lastOf p (durableOf h) ≡ lastOf p (durableOf k) = λ p lo hi. same-number p lo hi (f p lo hi) in
         omega (
           arith,
-          no-longer (h .pages) (keptOf h) (keptOf k) (rw same (tied k lk .holds .fair)) nums,
-          no-longer (h .pages) (keptOf k) (keptOf h) (tied h lh .holds .fair) (λ p lo hi. sym (nums p lo hi)),
+          no-longer (h .pages) (durableOf h) (durableOf k) (rw same (tied k lk .holds .fair)) nums,
+          no-longer (h .pages) (durableOf k) (durableOf h) (tied h lh .holds .fair) (λ p lo hi. sym (nums p lo hi)),
         ),
-    λ e. agree (same-length (keptOf h) (keptOf k) l b c e),
+    λ e. agree (same-length (durableOf h) (durableOf k) l b c e),
   )
 
 pub demand3 : Demand3

@@ -13,7 +13,7 @@ use Rattle.model.specs.Repair.{View, viewOf, walkOf, isBroken, rebuiltBody}
 use Rattle.model.specs.AbstractLog.{Logged}
 use Rattle.model.specs.declared.geometry.Geometry.{Geometry}
 use Rattle.model.specs.declared.item.Note.{Note}
-use Rattle.history.proofs.Book.{at, replayAt}
+use Rattle.history.proofs.Logs.{at, replayAt}
 use Rattle.history.proofs.Entries.{markAt, entryFrom}
 use Rattle.history.proofs.Records.{Faithful}
 use Rattle.history.proofs.Walk.{walk-unbroken, rebuilt-is}

@@ -15,7 +15,7 @@ use Rattle.model.specs.Change.{kindOf, zeroBody, applyChange}
 use Rattle.model.specs.Item.{imageLsn, imageBody, validImage, recordOf, isFormat}
 use Rattle.model.specs.Repair.{View, Walk, stopAt, behind, chainRecord, walkFrom, walkOf, replayChain, startBody, isBroken, ownStart, backupStart, rebuiltBody}
 use Rattle.model.specs.AbstractLog.{Logged}
-use Rattle.history.proofs.Book.{at, lastAt, replayAt, last-le, last-page, replay-hit, replay-last}
+use Rattle.history.proofs.Logs.{at, lastAt, replayAt, last-le, last-page, replay-hit, replay-last}
 use Rattle.history.proofs.Leaf.{format-apply, RecordIs}
 use Rattle.history.proofs.Records.{AllFair, recOf, recOf-is, Faithful}
 

@@ -22,7 +22,7 @@ use Rattle.model.specs.declared.item.Note.{Note}
 use Rattle.model.specs.declared.state.PendingNote.{PendingNote}
 use Rattle.model.specs.declared.state.PendingNote.the-variants.{Absent, Present}
 use Rattle.model.specs.declared.state.State.{State}
-use Rattle.history.proofs.Book.{lastAt, lastOf, last-le, last-mono}
+use Rattle.history.proofs.Logs.{lastAt, lastOf, last-le, last-mono}
 use Rattle.history.proofs.Entries.{markAt, NoteOk, mark-ok, mark-past, entryFrom}
 use Rattle.history.proofs.Records.{last-past}
 use Rattle.history.proofs.Inv.{PendingOk}

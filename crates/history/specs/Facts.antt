@@ -15,7 +15,7 @@ use Rattle.model.specs.State.{frameCount, validMemory, frameBytes, holder, held
 use Rattle.model.specs.Calls.{Call, outcomeOf, restartOf, loadOf, refusalOf}
 use Rattle.model.specs.AbstractLog.{Logged, lastPlace, replay}
 use Rattle.model.specs.History.{on, isImage, storedBefore}
-use Rattle.model.specs.Claim.{History, Legal, reached, logOf, keptOf, inspection}
+use Rattle.model.specs.Claim.{History, Legal, reached, logOf, durableOf, inspection}
 use Rattle.model.specs.declared.geometry.Geometry.{Geometry}
 use Rattle.model.specs.declared.answer.Class.the-variants.{Failed}
 use Rattle.model.specs.declared.state.State.{State}
@@ -54,11 +54,11 @@ pub record Answers (h : History) (p : ℕ) (buffer : List ℕ) : Type 0 where
 -- ---- images
 
 -- the image is page p's replay at one of the page's durable changes
-pub record IsReplay (p : ℕ) (kept : List Logged) (x : List ℕ) : Type 0 where
+pub record IsReplay (p : ℕ) (durable : List Logged) (x : List ℕ) : Type 0 where
   pub low : 1 ≤ imageLsn x
-  pub high : imageLsn x ≤ length kept
-  pub place : lastPlace p (take (imageLsn x) kept) ≡ imageLsn x
-  pub body : imageBody x ≡ replay p (take (imageLsn x) kept)
+  pub high : imageLsn x ≤ length durable
+  pub place : lastPlace p (take (imageLsn x) durable) ≡ imageLsn x
+  pub body : imageBody x ≡ replay p (take (imageLsn x) durable)
 
 -- an image that a call stored is some page's
 pub record StoredImage (h : History) (x : List ℕ) : Type 0 where
@@ -66,12 +66,12 @@ pub record StoredImage (h : History) (x : List ℕ) : Type 0 where
   pub low : 1 ≤ page
   pub high : page ≤ h .pages
   pub valid : validImage (headingOf h) page x ≡ true
-  pub is-replay : IsReplay page (keptOf h) x
+  pub is-replay : IsReplay page (durableOf h) x
 
 -- a page's own image: where it is valid it is a replay, and no newer than the page's last durable change; so the class is Failed only where
 -- it is not valid
 pub record OwnImage (h : History) (p : ℕ) : Type 0 where
-  pub is-replay : validImage (headingOf h) p (item (headingOf h) (volumeOf h) (pageAt p)) ≡ true → IsReplay p (keptOf h) (item (headingOf h) (volumeOf h) (pageAt p))
+  pub is-replay : validImage (headingOf h) p (item (headingOf h) (volumeOf h) (pageAt p)) ≡ true → IsReplay p (durableOf h) (item (headingOf h) (volumeOf h) (pageAt p))
   pub not-above : validImage (headingOf h) p (item (headingOf h) (volumeOf h) (pageAt p)) ≡ true
       → imageLsn (item (headingOf h) (volumeOf h) (pageAt p)) ≤ entryOf (indexOf (headingOf h) (volumeOf h)) p .durable
   pub failed : classIn (headingOf h) p (viewOf (headingOf h) (volumeOf h) (entryOf (indexOf (headingOf h) (volumeOf h)) p) p) ≡ Failed
@@ -81,10 +81,10 @@ pub record OwnImage (h : History) (p : ℕ) : Type 0 where
 
 -- what the volume's log and notes say of page p, and the image that they name as its backup
 pub record IndexEntry (h : History) (p : ℕ) : Type 0 where
-  pub durable : entryOf (indexOf (headingOf h) (volumeOf h)) p .durable ≡ lastPlace p (keptOf h)
+  pub durable : entryOf (indexOf (headingOf h) (volumeOf h)) p .durable ≡ lastPlace p (durableOf h)
   pub backup : entryOf (indexOf (headingOf h) (volumeOf h)) p .slot ≢ 0
       → validImage (headingOf h) p (item (headingOf h) (volumeOf h) (slotAt (entryOf (indexOf (headingOf h) (volumeOf h)) p .slot))) ≡ true
-      → IsReplay p (keptOf h) (item (headingOf h) (volumeOf h) (slotAt (entryOf (indexOf (headingOf h) (volumeOf h)) p .slot)))
+      → IsReplay p (durableOf h) (item (headingOf h) (volumeOf h) (slotAt (entryOf (indexOf (headingOf h) (volumeOf h)) p .slot)))
 
 -- the live state says of page p what the volume says
 pub record SameEntry (h : History) (s : State) (p : ℕ) : Type 0 where
@@ -97,15 +97,15 @@ pub record SameEntry (h : History) (s : State) (p : ℕ) : Type 0 where
 
 -- the counts are those of the two lists
 pub record Counts (h : History) (s : State) : Type 0 where
-  pub durable : s .durable ≡ length (keptOf h)
+  pub durable : s .durable ≡ length (durableOf h)
   pub pending : s .pending ≡ length (logOf h .pending)
   pub few : length (logOf h .pending) ≤ 16
 
 -- of page p, over the durable and the pending changes: its last number; and a frame that holds it holds its replay, check bytes zero
 pub record LivePage (h : History) (m : List ℕ) (s : State) (p : ℕ) : Type 0 where
-  pub last : entryOf (s .index) p .last ≡ lastPlace p (keptOf h ++ logOf h .pending)
+  pub last : entryOf (s .index) p .last ≡ lastPlace p (durableOf h ++ logOf h .pending)
   pub frame : held s p ≡ true
-      → frameBytes m (holder s p) ≡ frameImage p (lastPlace p (keptOf h ++ logOf h .pending)) (replay p (keptOf h ++ logOf h .pending))
+      → frameBytes m (holder s p) ≡ frameImage p (lastPlace p (durableOf h ++ logOf h .pending)) (replay p (durableOf h ++ logOf h .pending))
 
 -- ---- all of them
 
@@ -124,6 +124,6 @@ pub record Facts : Type 0 where
   pub slots : (h : History) → Legal h → (p q : ℕ) → 1 ≤ p → p ≤ h .pages → 1 ≤ q → q ≤ h .pages → entryOf (indexOf (headingOf h) (volumeOf h)) p .slot ≢ 0
       → entryOf (indexOf (headingOf h) (volumeOf h)) p .slot ≡ entryOf (indexOf (headingOf h) (volumeOf h)) q .slot → p ≡ q
   -- a page with a durable change is never refused 7
-  pub loads : (h : History) → Legal h → (m : List ℕ) (s : State) → reached h .power ≡ on m s → (p f : ℕ) → lastPlace p (keptOf h) ≢ 0
+  pub loads : (h : History) → Legal h → (m : List ℕ) (s : State) → reached h .power ≡ on m s → (p f : ℕ) → lastPlace p (durableOf h) ≢ 0
       → refusalOf (loadOf (volumeOf h) m s p f .answer) ≢ 7
-  pub inspects : (h : History) → Legal h → (p : ℕ) (buffer : List ℕ) → lastPlace p (keptOf h) ≢ 0 → inspection h p buffer ≢ 7
+  pub inspects : (h : History) → Legal h → (p : ℕ) (buffer : List ℕ) → lastPlace p (durableOf h) ≢ 0 → inspection h p buffer ≢ 7

@@ -39,8 +39,8 @@ unfoldable pub logOf : History → AbstractLog
 logOf h = logAfter (fresh h) emptyLog (h .events)
 
 -- the durable changes (document 01: kept)
-abbrev pub keptOf : History → List Logged
-keptOf h = logOf h .durable
+abbrev pub durableOf : History → List Logged
+durableOf h = logOf h .durable
 
 -- ---- what inspection shows
 
@@ -54,19 +54,19 @@ shown h p buffer = part (inspectOf (reached h .volume) p buffer .buffer) 4 248
 -- "For a page 1 to P and a buffer of 256 bytes it answers 7 exactly if the page is blank; otherwise it isn't refused, and bytes 4 to 251 of
 -- the buffer are the replay's number and body"
 pub record Inspects (h : History) (p : ℕ) (buffer : List ℕ) : Type 0 where
-  pub blank : (inspection h p buffer ≡ 7) ↔ (lastPlace p (keptOf h) ≡ 0)
-  pub kept : lastPlace p (keptOf h) ≢ 0
-      → (inspection h p buffer ≡ 0) × (shown h p buffer ≡ bytesOf 4 (lastPlace p (keptOf h)) ++ replay p (keptOf h))
+  pub blank : (inspection h p buffer ≡ 7) ↔ (lastPlace p (durableOf h) ≡ 0)
+  pub durable : lastPlace p (durableOf h) ≢ 0
+      → (inspection h p buffer ≡ 0) × (shown h p buffer ≡ bytesOf 4 (lastPlace p (durableOf h)) ++ replay p (durableOf h))
 
 -- demand 2 of a Load in a machine that a history reaches: it is never refused 19, and where it is not refused the page has a durable change
 -- and the frame holds exactly the replay of its changes, durable and pending, check bytes zero
 pub record Loads (h : History) (m : List ℕ) (s : State) (p f : ℕ) : Type 0 where
   pub unbroken : refusalOf (loadOf (reached h .volume) m s p f .answer) ≢ 19
   pub loaded : refusalOf (loadOf (reached h .volume) m s p f .answer) ≡ 0
-      → (lastPlace p (keptOf h) ≢ 0)
-      × (frameBytes (loadOf (reached h .volume) m s p f .memory) f ≡ frameImage p (lastPlace p (keptOf h)) (replay p (keptOf h)))
-      × (lastPlace p (keptOf h ++ logOf h .pending) ≡ lastPlace p (keptOf h))
-      × (replay p (keptOf h ++ logOf h .pending) ≡ replay p (keptOf h))
+      → (lastPlace p (durableOf h) ≢ 0)
+      × (frameBytes (loadOf (reached h .volume) m s p f .memory) f ≡ frameImage p (lastPlace p (durableOf h)) (replay p (durableOf h)))
+      × (lastPlace p (durableOf h ++ logOf h .pending) ≡ lastPlace p (durableOf h))
+      × (replay p (durableOf h ++ logOf h .pending) ≡ replay p (durableOf h))
 
 -- ---- two histories
 
@@ -90,6 +90,6 @@ pub record Demand2 : Type 0 where
 abbrev pub Demand3 : Type 0
 Demand3 =
     (h k : History) → Legal h → Legal k → h .pages ≡ k .pages
-    → (l : List Logged) → Begins (keptOf h) l → Begins (keptOf k) l
+    → (l : List Logged) → Begins (durableOf h) l → Begins (durableOf k) l
     → (x y : List ℕ) → length x ≡ 256 → length y ≡ 256
-    → ((p : ℕ) → 1 ≤ p → p ≤ h .pages → Agree h k x y p) ↔ (length (keptOf h) ≡ length (keptOf k))
+    → ((p : ℕ) → 1 ≤ p → p ≤ h .pages → Agree h k x y p) ↔ (length (durableOf h) ≡ length (durableOf k))

@@ -5,7 +5,7 @@ ghost use Rattle.model.specs.Tests.{firstOf};
 ghost use Rattle.model.specs.Refusals.{backupRows};
 ghost use Rattle.model.specs.Calls.{backupOf, replyOf, volumeAfter};
 use crate::image;
-use crate::owed;
+use crate::noting;
 use model::answer::Answer;
 use model::answer::Reply;
 use model::geometry::Geometry;
@@ -24,7 +24,7 @@ fn own(g: Geometry, s: State, page: u32, slot: u32, f: u32, lsn: u32) -> u32
     let noslot = !((1 <= slot) & (slot <= g.slots));
     let index = s.index;
     let used = index::rows::used(index, slot);
-    let rest = owed::refusal(g, s, true, lsn, rows::first(used, 16, 0));
+    let rest = noting::refusal(g, s, true, lsn, rows::first(used, 16, 0));
     rows::first(
         outside,
         3,

@@ -2,5 +2,5 @@
 pub mod backup;
 mod image;
 pub mod note;
-mod owed;
+mod noting;
 pub mod write;

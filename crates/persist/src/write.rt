@@ -5,7 +5,7 @@ ghost use Rattle.model.specs.Tests.{firstOf};
 ghost use Rattle.model.specs.Refusals.{writeRows};
 ghost use Rattle.model.specs.Calls.{writeOf, replyOf, volumeAfter};
 use crate::image;
-use crate::owed;
+use crate::noting;
 use model::answer::Answer;
 use model::answer::Reply;
 use model::geometry::Geometry;
@@ -22,7 +22,7 @@ fn own(g: Geometry, s: State, page: u32, f: u32, lsn: u32) -> u32
 {
     let outside = !((1 <= page) & (page <= g.pages));
     let dirty = frames::frame(s, f).dirty;
-    let rest = owed::refusal(g, s, dirty, lsn, 0);
+    let rest = noting::refusal(g, s, dirty, lsn, 0);
     rows::first(outside, 3, rows::first(!(0 < f), 8, rest))
 }
 

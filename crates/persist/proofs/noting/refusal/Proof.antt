@@ -1,8 +1,8 @@
--- `persist::owed::refusal` meets its contract.
+-- `persist::noting::refusal` meets its contract.
 use Rattle.persist.proofs.Rows.{note-own}
 use borrow.Author.Needs.{needs}
-use Rattle.persist.proofs.owed.refusal.Statement.{statement}
-use Rattle.persist.proofs.owed.refusal.Tie as tie
+use Rattle.persist.proofs.noting.refusal.Statement.{statement}
+use Rattle.persist.proofs.noting.refusal.Tie as tie
 
 present-requires : tie.Need-present-requires
 present-requires c κs = search needs
