@@ -1,11 +1,11 @@
 // Check 3: a page and its backup spoiled together. The text comes from the log alone.
-use crate::disk;
-use crate::disk::Image;
-use crate::disk::Memory;
-use crate::disk::Volume;
-use crate::print::say;
-use crate::steps;
-use crate::text;
+use play::disk;
+use play::disk::Image;
+use play::disk::Memory;
+use play::disk::Volume;
+use play::print::say;
+use play::steps;
+use play::text;
 
 // A line, written and backed up; then a line that stands in the log alone.
 fn done(v: &mut Volume, m: &mut Memory) {

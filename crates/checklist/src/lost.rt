@@ -1,12 +1,12 @@
 // Check 1: a torn page, and a confirmed write that the disk lost. The torn page is found by its checksum, the lost write by its number against
 // the page recovery index.
-use crate::disk;
-use crate::disk::Image;
-use crate::disk::Memory;
-use crate::disk::Volume;
-use crate::print::say;
-use crate::steps;
-use crate::text;
+use play::disk;
+use play::disk::Image;
+use play::disk::Memory;
+use play::disk::Volume;
+use play::print::say;
+use play::steps;
+use play::text;
 use store::Store;
 
 // Two lines, and the page's image on disk.

@@ -2,17 +2,13 @@
 // the plug. The calls are proved; the program shows them at work, and compares each page's text before and after.
 
 mod both;
-mod disk;
 mod lost;
 mod plug;
-mod print;
-mod steps;
-mod text;
 mod thread;
 
-use print::number;
-use print::one;
-use print::say;
+use play::print::number;
+use play::print::one;
+use play::print::say;
 
 // What an answer means.
 fn legend() {

@@ -1,15 +1,15 @@
 // Check 2: the plug pulled while a record is being stored, at every byte of it.
 ghost use Prim.Native.Nat.{_≤_};
-use crate::disk;
-use crate::disk::Image;
-use crate::disk::Memory;
-use crate::disk::Volume;
-use crate::print::number;
-use crate::print::one;
-use crate::print::say;
-use crate::steps;
-use crate::text;
 use model::answer::Answer;
+use play::disk;
+use play::disk::Image;
+use play::disk::Memory;
+use play::disk::Volume;
+use play::print::number;
+use play::print::one;
+use play::print::say;
+use play::steps;
+use play::text;
 use store::Store;
 
 // A line, written; a second, forced. `old` gets the volume as it was before the Force, which stores nothing else.

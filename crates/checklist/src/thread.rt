@@ -1,13 +1,13 @@
 // Check 4: the oldest thread reread in full after its page came back old, beside a reader who looks only at the newest line.
 ghost use Prim.Native.Nat.{_<_};
-use crate::disk;
-use crate::disk::Image;
-use crate::disk::Memory;
-use crate::disk::Volume;
-use crate::print::number;
-use crate::print::say;
-use crate::steps;
-use crate::text;
+use play::disk;
+use play::disk::Image;
+use play::disk::Memory;
+use play::disk::Volume;
+use play::print::number;
+use play::print::say;
+use play::steps;
+use play::text;
 use store::Store;
 
 // The oldest thread: three lines, written.

@@ -1,8 +1,8 @@
 -- `give_back` is safe and ends: what is left falls.
 use Prim.Native.Nat.{_≤_, _-_}
 use borrow.Author.Needs.{needs}
-use Rattle.checklist.proofs.disk.give_back.Statement.{statement}
-use Rattle.checklist.proofs.disk.give_back.Tie as tie
+use Rattle.play.proofs.disk.give_back.Statement.{statement}
+use Rattle.play.proofs.disk.give_back.Tie as tie
 
 abbrev Inv-loop : tie.InvT-loop
 Inv-loop volume₀ old from to i₀ volume i = 0 ≤ i

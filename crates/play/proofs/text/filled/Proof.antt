@@ -2,8 +2,8 @@
 use Prim.Native.Nat.{_≤_}
 use borrow.Author.Needs.{needs}
 use lib.ListN.{length}
-use Rattle.checklist.proofs.text.filled.Statement.{statement}
-use Rattle.checklist.proofs.text.filled.Tie as tie
+use Rattle.play.proofs.text.filled.Statement.{statement}
+use Rattle.play.proofs.text.filled.Tie as tie
 
 abbrev Inv-loop : tie.InvT-loop
 Inv-loop s n₀ n = n ≤ length s

@@ -3,8 +3,8 @@ use Prim.Native.Nat.{_≤_, _-_}
 use borrow.Author.Needs.{needs}
 use lib.ListN.{length}
 use mathlib.Core.Path.{_≡_}
-use Rattle.checklist.proofs.text.row.Statement.{statement}
-use Rattle.checklist.proofs.text.row.Tie as tie
+use Rattle.play.proofs.text.row.Statement.{statement}
+use Rattle.play.proofs.text.row.Tie as tie
 
 abbrev Inv-loop : tie.InvT-loop
 Inv-loop s at row₀ i₀ row i = (i ≤ 44) × (length row ≡ 44)

@@ -1,8 +1,8 @@
 -- `same` is safe and ends: what is left falls.
 use Prim.Native.Nat.{_≤_, _-_}
 use borrow.Author.Needs.{needs}
-use Rattle.checklist.proofs.text.same.Statement.{statement}
-use Rattle.checklist.proofs.text.same.Tie as tie
+use Rattle.play.proofs.text.same.Statement.{statement}
+use Rattle.play.proofs.text.same.Tie as tie
 
 abbrev Inv-loop : tie.InvT-loop
 Inv-loop a b from to i₀ i = 0 ≤ i
