@@ -2,6 +2,7 @@
 # make demo     prove the program `scan`, build it and run it on the sample volume
 # make help     the other targets
 SHELL := /bin/bash
+.SHELLFLAGS := -eu -o pipefail -c
 .DEFAULT_GOAL := help
 .PHONY: help test demo mutants
 
@@ -11,37 +12,76 @@ help:
 test:
 	@python3 tools/gate.py
 
-# make mutants  wrong edits of the definitions, each of which a computed case or the theorem must catch (long; not part of the gate)
+# make mutants            wrong edits of the definitions, each caught by a case or the theorem (long; not in the gate)
 mutants:
 	@python3 tools/mutants.py
 
+# One tool proves a crate and all that it needs: a line for each crate, the prover's output in target/prove-NAME.log.
+CHECK = python3 tools/prove.py check
+STATICLIB = python3 tools/prove.py staticlib
+
 # make scan VOLUME=file   the program on a volume of your own (at most 32,768 bytes)
-.PHONY: scan scan-program c-test demo-check
+.PHONY: scan volume-given scan-program demo-check
+export VOLUME
+volume-given:
+	@test -n "$${VOLUME:-}" || { echo "say which volume: make scan VOLUME=file"; exit 2; }
+	@test -e "$$VOLUME" || { echo "make scan: there is no file $$VOLUME"; exit 2; }
+	@test -f "$$VOLUME" && test -r "$$VOLUME" || { echo "make scan: $$VOLUME cannot be read as a file"; exit 2; }
+
 scan-program:
-	@echo "Proving and building the program (a few minutes the first time; each crate says when it is proved):"
-	@rt check scan
+	@$(CHECK) scan
 
 demo: scan-program
 	@echo
-	@echo "A sample volume of six pages after a night of power cuts: page, class of its image on disk, where the repair starts, records replayed."
+	@echo "A sample volume of six pages after a night of power cuts:"
+	@echo "page, class of its image on disk, where the repair starts, records replayed."
 	@echo "\$$ scan < samples/demo.vol"
 	@./target/bin/scan < samples/demo.vol
 
-scan: scan-program
-	@test -n "$(VOLUME)" || { echo "say which volume: make scan VOLUME=file"; exit 2; }
-	@./target/bin/scan < "$(VOLUME)"
+scan: volume-given
+	@$(MAKE) --no-print-directory scan-program
+	@./target/bin/scan < "$$VOLUME"
 
 # make demo-check         the program on the sample volume against what it must print
 demo-check: scan-program
-	@python3 tools/sample.py demo target/demo.vol && cmp target/demo.vol samples/demo.vol
+	@python3 tools/sample.py demo target/demo.vol
+	@cmp target/demo.vol samples/demo.vol
 	@./target/bin/scan < samples/demo.vol | diff - samples/demo.txt
 
-# make c-test             the C function through the static library: K6 to K12, every refusal, full and smallest volumes
-c-test:
-	@rt staticlib inspect
+# make c-test             the C function: K6 to K12, every refusal, full and smallest volumes, the stack it takes
+# make example-check      the program that README quotes, on the sample volume, against what it must print
+.PHONY: inspect-library c-test example-check
+CC_TEST = gcc -Wall -Wextra -Werror -std=c11 -O2 -Iinclude
+inspect-library:
+	@$(STATICLIB) inspect
 	@mkdir -p target/c
-	@gcc -Wall -Wextra -Werror -std=c11 -O2 -Iinclude tests/c/inspect_test.c target/staticlib/libinspect.a -o target/c/inspect_test
+
+c-test: inspect-library
+	@$(CC_TEST) tests/c/inspect_test.c tests/c/volume.c target/staticlib/libinspect.a -o target/c/inspect_test
+	@$(CC_TEST) -pthread tests/c/stack_test.c tests/c/volume.c target/staticlib/libinspect.a -o target/c/stack_test
 	@./target/c/inspect_test
+	@./target/c/stack_test
+
+example-check: inspect-library
+	@$(CC_TEST) examples/show.c target/staticlib/libinspect.a -o target/c/show
+	@for page in 1 2 3 4 5 6 7; do \
+	    ./target/c/show samples/demo.vol $$page || echo "exit status $$?"; \
+	done > target/c/show.txt 2>&1
+	@diff target/c/show.txt samples/show.txt
+
+# make kit-check          the Rattle kit at hand is the one that the proofs are pinned to (file rattle-kit)
+# make docs-check         the documents against the sources: refusals, names, the quoted example, columns
+.PHONY: kit-check docs-check
+kit-check:
+	@kit="$$(rt version)" || { echo "rt: the Rattle kit is needed (rt on the path)"; exit 1; }; \
+	pinned="$$(cat rattle-kit)"; \
+	test "$$kit" = "$$pinned" || \
+	    { echo "the kit at hand is '$$kit'; the proofs are pinned to '$$pinned' (file rattle-kit)"; exit 1; }; \
+	echo "the kit is $$kit"
+
+docs-check:
+	@python3 tools/documents.py
+	@python3 tools/mutants.py --texts
 
 # make reference-test     the second implementation: its tests, and its own histories against its own plain book
 .PHONY: reference-test
@@ -49,7 +89,7 @@ reference-test:
 	@cd reference && cargo test -q --release --offline
 	@cd reference && cargo build -q --release --offline && ./target/release/checkbook --seed 1 --count 200
 
-# make fuzz               random scripts through the proved store and the second implementation; FUZZ_SECONDS=60, FUZZ_SEED=number (default: the clock)
+# make fuzz               random scripts through both implementations; FUZZ_SECONDS=60, FUZZ_SEED=number (the clock)
 # make against            the C function against the second implementation's inspection, on volumes of every kind
 # make bench              times of the proved code and the second implementation on the same inputs
 .PHONY: fuzz against bench
@@ -59,19 +99,16 @@ fuzz:
 
 AGAINST = cd reference/against && cargo run --release --offline --quiet --target-dir ../target --bin
 
-against:
-	@rt staticlib inspect >/dev/null 2>&1 || rt staticlib inspect
+against: inspect-library
 	@$(AGAINST) against_inspect
 
-bench:
-	@rt staticlib inspect >/dev/null 2>&1 || rt staticlib inspect
-	@rt staticlib measure >/dev/null 2>&1 || rt staticlib measure
+bench: inspect-library
+	@$(STATICLIB) measure
 	@$(AGAINST) bench
 
 # make checklist          the four checks that support staff are taught, played with the store's calls
 .PHONY: checklist
 checklist:
-	@echo "Proving and building the program (a few minutes the first time):"
-	@rt check checklist
+	@$(CHECK) checklist
 	@echo
 	@./target/bin/checklist

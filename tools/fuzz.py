@@ -6,7 +6,8 @@
 A script is a list of cells of 64 bytes, each a call with its arguments, or a change of the volume, the memory, the state
 or a length behind the store's back. Both drivers print a line for each cell: the answer, and a hash of the volume,
 the memory, the lent buffer and the state. The lines must be the same. At the first difference the script is saved under
-target/fuzz/ and the run ends with status 1. It also does if a run of a minute or more leaves a kind of answer out.
+target/fuzz/ and the run ends with status 1. It also does if a generator fails, if some kind of script was not played at
+all, or if a run of a minute or more leaves a kind of answer out.
 """
 import argparse
 import collections
@@ -24,14 +25,17 @@ REFERENCE = os.path.join(ROOT, "reference", "target", "release")
 DRIVERS = {"proved": os.path.join(ROOT, "target", "bin", "drive"), "reference": os.path.join(REFERENCE, "drive")}
 SAVED = os.path.join(ROOT, "target", "fuzz")
 
-CELL = 64
-CELLS = 2000  # of a history or an arbitrary script
-CELLS_MIXED = 4096  # at most; a mixed script is as long as it takes to reach every answer
-BEFORE = 4  # cells shown before the one that differs
-COVERED_FROM = 60  # seconds of a run that has to reach every answer
-
+# What a run asks for now: scripts of each kind, answers of each sort. A request that adds an operation or an answer adds it here.
+KINDS = ["history", "arbitrary"]  # written in an instant, played in turn
+SEARCHED = ["mixed"]  # searched for until every answer is reached; made beside the others
 EXPECTED = [f"REFUSED {n}" for n in range(1, 20)] + ["NOTHING", "OK"]
 EXPECTED += ["GOOD", "BEHIND", "STALE", "FAILED"] + ["OWN", "BACKUP", "FORMAT"]
+
+CELL = 64
+CELLS = 2000  # of a script that is written in an instant
+CELLS_SEARCHED = 4096  # at most; a searched script is as long as it takes to reach every answer
+BEFORE = 4  # cells shown before the one that differs
+COVERED_FROM = 60  # seconds of a run that has to reach every answer
 
 
 # ---- cells
@@ -85,7 +89,7 @@ def build():
 
 def generator(kind, seed, path):
     """Starts to write a script to a file."""
-    cells = CELLS_MIXED if kind == "mixed" else CELLS
+    cells = CELLS_SEARCHED if kind in SEARCHED else CELLS
     command = [os.path.join(REFERENCE, "gen"), "--seed", str(seed), "--kind", kind, "--cells", str(cells)]
     with open(path, "wb") as script:
         return subprocess.Popen(command, stdout=script)
@@ -138,22 +142,24 @@ def count(lines, reached):
 
 
 class Run:
-    """A run over scripts with running seeds. Mixed scripts take long to find: one is made beside the others."""
+    """A run over scripts with running seeds. Searched scripts take long to find: one is made beside the others."""
 
     def __init__(self, seed):
         self.seeds = itertools.count(seed)
         self.scripts = collections.Counter()
         self.cells = 0
         self.reached = collections.Counter()
-        self.mixed = None
-        self.start_mixed()
+        self.searched_kinds = itertools.cycle(SEARCHED)
+        self.search = None
+        self.start_search()
 
     def path(self, kind):
         return os.path.join(SAVED, f"{kind}.script")
 
-    def start_mixed(self):
-        self.mixed_seed = next(self.seeds)
-        self.mixed = generator("mixed", self.mixed_seed, self.path("mixed"))
+    def start_search(self):
+        self.search_kind = next(self.searched_kinds)
+        self.search_seed = next(self.seeds)
+        self.search = generator(self.search_kind, self.search_seed, self.path(self.search_kind))
 
     def script(self, kind, seed):
         """Plays one script; False at a difference."""
@@ -166,34 +172,43 @@ class Run:
         count(proved, self.reached)
         return True
 
-    def play_mixed(self):
-        """Plays the mixed script once it is written. One that reaches less than everything is none: the generator says so."""
-        if self.mixed.wait() == 0 and not self.script("mixed", self.mixed_seed):
-            return False
-        self.start_mixed()
-        return True
+    def written(self, process, kind, seed):
+        """Waits for a generator. One that reaches less than everything fails too, and says what is missing."""
+        if process.wait() != 0:
+            raise SystemExit(f"the generator failed: kind {kind}, seed {seed}")
+
+    def play_searched(self):
+        """Plays the searched script once it is written, and starts to search for the next."""
+        kind, seed = self.search_kind, self.search_seed
+        self.written(self.search, kind, seed)
+        same = self.script(kind, seed)
+        if same:
+            self.start_search()
+        return same
 
     def play(self, kind):
         seed = next(self.seeds)
-        if generator(kind, seed, self.path(kind)).wait() != 0:
-            raise SystemExit(f"the generator failed: kind {kind}, seed {seed}")
+        self.written(generator(kind, seed, self.path(kind)), kind, seed)
         return self.script(kind, seed)
 
     def until(self, end):
-        for kind in itertools.cycle(["history", "arbitrary"]):
-            if time.monotonic() >= end:
+        for kind in itertools.cycle(KINDS):
+            if time.monotonic() >= end and self.scripts[kind]:
                 break
             if not self.play(kind):
                 return False
-            if self.mixed.poll() is not None and not self.play_mixed():
+            if self.search.poll() is not None and not self.play_searched():
                 return False
-        # A short run plays a mixed script too.
-        return self.scripts["mixed"] > 0 or self.play_mixed()
+        # A short run plays each searched kind too.
+        while not all(self.scripts[kind] for kind in SEARCHED):
+            if not self.play_searched():
+                return False
+        return True
 
     def stop(self):
-        if self.mixed.poll() is None:
-            self.mixed.kill()
-        self.mixed.wait()
+        if self.search.poll() is None:
+            self.search.kill()
+        self.search.wait()
 
 
 def main():
@@ -212,13 +227,17 @@ def main():
         run.stop()
     if not same:
         return 1
-    kinds = ", ".join(f"{number} {kind}" for kind, number in sorted(run.scripts.items()))
+    asked = KINDS + SEARCHED
+    kinds = ", ".join(f"{run.scripts[kind]} {kind}" for kind in sorted(asked))
     print(f"{sum(run.scripts.values())} scripts ({kinds}), {run.cells} cells, every line the same")
     print("reached: " + ", ".join(f"{name} {run.reached[name]}" for name in EXPECTED))
+    absent = [kind for kind in asked if not run.scripts[kind]]
+    if absent:
+        print("no script of kind: " + ", ".join(absent))
     missing = [name for name in EXPECTED if not run.reached[name]]
     if missing:
         print("not reached: " + ", ".join(missing))
-    return 1 if missing and options.seconds >= COVERED_FROM else 0
+    return 1 if absent or (missing and options.seconds >= COVERED_FROM) else 0
 
 
 if __name__ == "__main__":

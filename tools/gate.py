@@ -1,49 +1,87 @@
 #!/usr/bin/env python3
-"""The merge gate: `rt ci` over every crate, then the further checks, each a make target.
+"""The merge gate: two quick checks, `rt ci` over every crate, then the further checks, each a make target.
 
-The last line is 'N passed, M failed' and counts both; the exit status is 0 only where M is 0.
+The last line is 'N passed, M failed' and counts all; the exit status is 0 only where M is 0. The seconds that each
+crate took go to target/times.md, as a table.
 """
 import re
 import subprocess
 import sys
 
-# Further checks, in order: what it is, and the command that must exit with 0.
-CHECKS = [
+from crates import ROOT
+
+
+def make(*words):
+    return ["make", "--no-print-directory", *words]
+
+
+# What it is, and the command that must exit with 0; in order, before and after `rt ci`.
+BEFORE = [
+    ("the Rattle kit is the one that the proofs are pinned to", make("kit-check")),
+    ("the documents against the sources", make("docs-check")),
+]
+AFTER = [
     ("layout of the sources (rt fmt --check)", ["rt", "fmt", "--check"]),
-    ("the program on the sample volume", ["make", "--no-print-directory", "demo-check"]),
-    ("the C function: cases, refusals, full volumes", ["make", "--no-print-directory", "c-test"]),
-    ("the second implementation: tests and plain book", ["make", "--no-print-directory", "reference-test"]),
-    ("the C function against the second implementation", ["make", "--no-print-directory", "against"]),
-    ("scripts through both implementations, 20 seconds", ["make", "--no-print-directory", "fuzz", "FUZZ_SECONDS=20", "FUZZ_SEED=1"]),
+    ("the program on the sample volume", make("demo-check")),
+    ("README's example; the C function: cases, refusals, full volumes, stack", make("example-check", "c-test")),
+    ("the second implementation: tests and plain book", make("reference-test")),
+    ("the C function against the second implementation", make("against")),
+    ("scripts through both implementations, 20 seconds", make("fuzz", "FUZZ_SECONDS=20", "FUZZ_SEED=1")),
 ]
 
 
 def stream(command):
-    """Runs a command, shows its output as it comes, and returns its status and its last line."""
-    last = ""
+    """Runs a command, shows its output as it comes, and returns its status and its lines."""
+    lines = []
     try:
-        process = subprocess.Popen(command, stdout=subprocess.PIPE, stderr=subprocess.STDOUT, text=True, errors="replace")
+        process = subprocess.Popen(
+            command, cwd=ROOT, stdout=subprocess.PIPE, stderr=subprocess.STDOUT, text=True, errors="replace"
+        )
     except OSError as error:
         print(f"{command[0]}: {error}", flush=True)
-        return 127, last
+        return 127, lines
     for line in process.stdout:
         print(line, end="", flush=True)
-        last = line.strip() or last
-    return process.wait(), last
+        lines.append(line.rstrip())
+    return process.wait(), lines
 
 
-def main():
-    print("== rt ci: every crate proved from nothing, every must-fail edit refused, every program run", flush=True)
-    status, last = stream(["rt", "ci"])
-    counted = re.fullmatch(r"(\d+) passed, (\d+) failed", last)
-    passed, failed = (int(counted[1]), int(counted[2])) if counted else (0, 1)
-    if status != 0 and failed == 0:
-        failed = 1
-    for name, command in CHECKS:
+def run(checks):
+    """The names of the checks that fail."""
+    failed = []
+    for name, command in checks:
         print(f"== {name}", flush=True)
         status, _ = stream(command)
         print(f"{'ok' if status == 0 else 'FAILED'}: {name}", flush=True)
-        passed, failed = (passed + 1, failed) if status == 0 else (passed, failed + 1)
+        failed += [name] if status != 0 else []
+    return failed
+
+
+def write_times(lines):
+    """The seconds of each crate, from what `rt` said."""
+    times = [m.groups() for m in map(re.compile(r"rt: (\w+) proved \((\d+) s\)").match, lines) if m]
+    rows = "".join(f"| {crate} | {seconds} |\n" for crate, seconds in times)
+    (ROOT / "target").mkdir(exist_ok=True)
+    (ROOT / "target/times.md").write_text("| crate | seconds |\n|---|---:|\n" + rows)
+
+
+def prove():
+    """How many crates, edits and programs `rt ci` passed and failed."""
+    print("== rt ci: every crate proved from nothing, every must-fail edit refused, every program run", flush=True)
+    status, lines = stream(["rt", "ci"])
+    write_times(lines)
+    counted = re.fullmatch(r"(\d+) passed, (\d+) failed", next((line for line in reversed(lines) if line), ""))
+    passed, failed = (int(counted[1]), int(counted[2])) if counted else (0, 1)
+    return passed, failed if status == 0 else max(failed, 1)
+
+
+def main():
+    lost = run(BEFORE)
+    passed, failed = prove()
+    lost += run(AFTER)
+    for name in lost:
+        print(f"FAILED: {name}")
+    passed, failed = passed + len(BEFORE + AFTER) - len(lost), failed + len(lost)
     print(f"{passed} passed, {failed} failed", flush=True)
     return 0 if failed == 0 else 1
 

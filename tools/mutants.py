@@ -1,15 +1,16 @@
 #!/usr/bin/env python3
 """Tries wrong edits of the definitions (tools/mutants.txt): each must make a computed case or a proof fail.
 
-An edit is applied to a copy of the crates that it needs, in a temporary folder. For `cases` the one theorem about all rows is replaced by
-one declaration for each row or history that the edit names, so that a failure says which caught it; the check must fail there, by a
-computed test that is now false, and nowhere else. For `history` the check must fail in a proof of `laws` or `history`, and not for a name
-that is missing or a text that is not read.
+An edit is applied to a copy of the crates that it needs, in a temporary folder. For `cases` the one theorem about all
+rows is replaced by one declaration for each row or history that the edit names, so that a failure says which caught
+it; the check must fail there, by a computed test that is now false, and nowhere else. For `history` the check must fail
+in a proof of `laws` or `history`, and not for a name that is missing or a text that is not read.
 
-    python3 tools/mutants.py [--only WORD] [--crate cases|history] [--search] [--jobs N]
+    python3 tools/mutants.py [--only WORD] [--crate cases|history] [--search] [--jobs N] [--texts]
 
---only tries the edits whose name holds WORD. --search tries each edit against every row and history, and prints all that catch it.
---jobs tries N at a time.
+--only tries the edits whose name holds WORD. --search tries each edit against every row and history, and prints all
+that catch it. --jobs tries N at a time. --texts proves nothing: it only looks whether the text that each edit replaces
+stands once in its file, and whether there are the rows and histories that the edits name.
 Exit status 0 if every edit is caught, else 1.
 """
 import argparse
@@ -21,7 +22,8 @@ import tempfile
 from concurrent.futures import ThreadPoolExecutor
 from pathlib import Path
 
-ROOT = Path(__file__).resolve().parent.parent
+from crates import ROOT, needed
+
 SPECS = Path("crates/model/specs")
 PROBE = """-- One declaration for each row or history asked for: made by tools/mutants.py.
 use Prim.Native.String.{String}
@@ -44,7 +46,10 @@ history n [] = false
 history n (w ∷ ws) = let rest = history n ws in let here = computes w in cond (eqt (w .name) n) here rest
 """
 # errors that say that an edit is no definition, and nothing of what it means
-NOT_READ = re.compile(r"Parse|cannot be named|not in scope|unknown name|was not admitted|cannot be unfolded|has no `|components|needs a type")
+NOT_READ = re.compile(
+    r"Parse|cannot be named|not in scope|unknown name|was not admitted|cannot be unfolded|has no `|components"
+    r"|needs a type"
+)
 
 
 def read_edits(text):
@@ -79,22 +84,6 @@ def table():
     return rows, histories
 
 
-def needed(crate):
-    """The lines of crates.txt for a crate and what it depends on in this repository."""
-    lines = {}
-    for line in (ROOT / "crates.txt").read_text().splitlines():
-        name, colon, deps = line.partition("#")[0].partition(":")
-        if colon:
-            lines[name.strip()] = deps.split()
-    todo, done = [crate], []
-    while todo:
-        name = todo.pop()
-        if name in lines and name not in done:
-            done.append(name)
-            todo += lines[name]
-    return {name: lines[name] for name in lines if name in done}
-
-
 def copy(crate, to):
     lines = needed(crate)
     for name in lines:
@@ -115,7 +104,8 @@ def write_probe(to, rows, names):
 
 
 def check(crate, to):
-    """Exit status, errors (file and text) and output of the check; one that ends with neither a verdict nor an error is run again."""
+    """Exit status, errors (file and text) and output of the check; one that ends with neither verdict nor error is run
+    again."""
     for _ in range(2):
         run = subprocess.run(["rt", "check", crate], cwd=to, capture_output=True, text=True)
         out = run.stdout + run.stderr
@@ -154,14 +144,19 @@ def try_history(to):
     return None, f"exit status {status} {out[-400:]}"
 
 
+def times(folder, edit):
+    """How often the text that the edit replaces stands in its file; 0 where there is no such file."""
+    path = folder / SPECS / edit["file"]
+    return path.read_text().count("\n".join(edit["old"])) if path.is_file() else 0
+
+
 def apply(to, edit):
     """Writes the edit; gives back what undoes it."""
     path = to / SPECS / edit["file"]
+    if times(to, edit) != 1:
+        sys.exit(f"mutants.txt: {edit['name']}: the old text stands {times(to, edit)} times in {edit['file']}")
     before = path.read_text()
-    old, new = "\n".join(edit["old"]), "\n".join(edit["new"])
-    if before.count(old) != 1:
-        sys.exit(f"mutants.txt: {edit['name']}: the old text stands {before.count(old)} times in {edit['file']}")
-    path.write_text(before.replace(old, new))
+    path.write_text(before.replace("\n".join(edit["old"]), "\n".join(edit["new"])))
     return lambda: path.write_text(before)
 
 
@@ -188,15 +183,30 @@ def run(crate, edits, search):
         for edit in edits:
             caught, words = judge(crate, to, edit, rows, rows + histories if search else edit["caught"])
             failed += not caught
-            print(f"{crate}: {'ok' if caught else 'NOT CAUGHT'}: {edit['file'][:-5]}: {edit['name']}: {words}", flush=True)
+            verdict = "ok" if caught else "NOT CAUGHT"
+            print(f"{crate}: {verdict}: {edit['file'][:-5]}: {edit['name']}: {words}", flush=True)
     return failed
+
+
+def names(edits):
+    """The rows and histories that the edits name, and which of them are not there."""
+    rows, histories = table()
+    named = list(dict.fromkeys(name for edit in edits for name in edit["caught"]))
+    return rows, named, [name for name in named if name not in rows + histories]
+
+
+def texts(edits):
+    """What makes an edit of the list mean nothing, a line each."""
+    found = [f"mutants.txt: no such row or history: {name}" for name in names(edits)[2]]
+    for edit in edits:
+        if times(ROOT, edit) != 1:
+            found.append(f"mutants.txt: {edit['name']}: the old text stands {times(ROOT, edit)} times in {edit['file']}")
+    return found
 
 
 def sound(edits):
     """The rows and histories that the edits name are there, and hold of the definitions as they are."""
-    rows, histories = table()
-    named = list(dict.fromkeys(name for edit in edits for name in edit["caught"]))
-    lost = [name for name in named if name not in rows + histories]
+    rows, named, lost = names(edits)
     if lost:
         print("cases: no such row or history: " + "; ".join(lost))
         return False
@@ -214,8 +224,13 @@ def main():
     words.add_argument("--crate", choices=["cases", "history"])
     words.add_argument("--search", action="store_true")
     words.add_argument("--jobs", type=int, default=1)
+    words.add_argument("--texts", action="store_true")
     given = words.parse_args()
     edits = [e for e in read_edits((ROOT / "tools/mutants.txt").read_text()) if given.only in e["name"]]
+    if given.texts:
+        found = texts(edits)
+        print("\n".join(found or [f"the {len(edits)} edits of mutants.txt find their texts"]))
+        return 1 if found else 0
     failed = 0
     for crate in [given.crate] if given.crate else ["cases", "history"]:
         mine = [e for e in edits if crate in e["crates"]]

@@ -40,7 +40,8 @@ def volume(pages, slots, log, notes, log_slots, note_slots):
     log = b"".join(log).ljust(64 * log_slots, b"\0")
     notes = b"".join(notes).ljust(16 * note_slots, b"\0")
     parts = [b"CHPV"]
-    for count, items in ((len(pages), b"".join(pages)), (len(slots), b"".join(slots)), (log_slots, log), (note_slots, notes)):
+    images = ((len(pages), b"".join(pages)), (len(slots), b"".join(slots)))
+    for count, items in (*images, (log_slots, log), (note_slots, notes)):
         parts += [struct.pack("<I", count), items]
     return b"".join(parts)
 
@@ -85,7 +86,12 @@ def demo():
         b"\0" * 256,                             # blank
     ]
     slots = [image(4, 9, body(line[1])), b"\0" * 256]
-    notes = [note(1, 1, WRITTEN, 0, 6), note(2, 2, WRITTEN, 0, 7), note(3, 3, WRITTEN, 0, 8), note(4, 4, BACKED_UP, 1, 9)]
+    notes = [
+        note(1, 1, WRITTEN, 0, 6),
+        note(2, 2, WRITTEN, 0, 7),
+        note(3, 3, WRITTEN, 0, 8),
+        note(4, 4, BACKED_UP, 1, 9),
+    ]
     return volume(pages, slots, log, notes, 16, 8)
 
 

@@ -7,11 +7,11 @@ use native.Mathlib.Omega.{arith}
 use lib.Dec.{leb}
 use lib.ListN.{length, getD}
 use borrow.Author.Tests.{leb-false, eqb-false, not-false}
-use Rattle.laws.proofs.Tests.{none-at, within-bounds}
+use Rattle.laws.proofs.Tables.{none-at, within-bounds}
 use Rattle.laws.proofs.Places.{valid-facts}
 use Rattle.laws.proofs.WellFormed.{Ready, ready, holder-low, holder-within, frame-within}
 use Rattle.append.specs.Rows.{beginTail, changeTail}
-use Rattle.model.specs.Tests.{Row, firstOf, within}
+use Rattle.model.specs.Tables.{Row, firstOf, within}
 use Rattle.model.specs.Geometry.{geometryOf}
 use Rattle.model.specs.Change.{fits}
 use Rattle.model.specs.State.{frameCount, frameAt, lastNumber, holder, held}
@@ -55,7 +55,10 @@ begin-open v m s page frame h =
     let rows = beginTail (geometryOf v) (frameCount (length m)) s page frame in
     let k = ready v m s rows h in
     let at : (i : ℕ) → getD rows i (false, 0) .0 ≡ false =
-    none-at rows (eqb-false 3 0 refl, (eqb-false 4 0 refl, (eqb-false 9 0 refl, (eqb-false 10 0 refl, (eqb-false 11 0 refl, (eqb-false 12 0 refl, tt)))))) (k .rest) in
+    none-at rows (
+      eqb-false 3 0 refl,
+      (eqb-false 4 0 refl, (eqb-false 9 0 refl, (eqb-false 10 0 refl, (eqb-false 11 0 refl, (eqb-false 12 0 refl, tt))))),
+    ) (k .rest) in
     let w = within-bounds (frameCount (length m)) frame (not-false _ (at 1)) in
     opened v m s rows page frame k (not-false _ (at 0)) (at 5) (w .0) (w .1)
 

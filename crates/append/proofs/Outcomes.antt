@@ -4,13 +4,14 @@ use mathlib.Core.List.{List, []}
 use Prim.Native.Nat.{ℕ, _+_}
 use lib.ListN.{replicate}
 use borrow.Author.Tests.{eq-eqb, ne-eqb}
-use Rattle.laws.proofs.Tests.{when-true, when-false}
-use Rattle.model.specs.Tests.{Row, firstOf}
+use Rattle.laws.proofs.Tables.{when-true, when-false}
+use Rattle.model.specs.Tables.{Row, firstOf}
 use Rattle.model.specs.Change.{applyChange}
 use Rattle.model.specs.Item.{imageBody, frameImage}
 use Rattle.model.specs.State.{frameBytes, lastNumber, holder}
 use Rattle.model.specs.Refusals.{beginRows, changeRows}
-use Rattle.model.specs.Calls.{Outcome, nothing, replyOf, unchanged, decided, appendedState, appendedMemory, changedImage, beginOf, changeCall}
+use Rattle.model.specs.Calls.{Outcome, nothing, replyOf, unchanged, decided}
+use Rattle.model.specs.Calls.{appendedState, appendedMemory, changedImage, beginOf, changeCall}
 use Rattle.model.specs.declared.change.Change.{Change}
 use Rattle.model.specs.declared.change.Change.the-variants.{Format}
 use Rattle.model.specs.declared.state.State.{State}
@@ -26,7 +27,8 @@ module _ (rows : List Row) (m : List ℕ) (s : State) (done : Outcome) where
   decided-done e = sym (when-true _ _ (eq-eqb _ _ e))
 
 left : (t t′ : State) (w w′ : List ℕ) → t ≡ t′ → w ≡ w′
-    → _≡_ {A = Outcome} (record { answer = Done; state = t; memory = w; stored = nothing }) (record { answer = Done; state = t′; memory = w′; stored = nothing })
+    → _≡_ {A = Outcome} (record { answer = Done; state = t; memory = w; stored = nothing })
+    (record { answer = Done; state = t′; memory = w′; stored = nothing })
 left t t′ w w′ et ew = rw (et, ew)
 
 -- the number that the code found is 0: no row holds
@@ -38,7 +40,8 @@ pub clauses : {o p : Outcome} → o ≡ p → (replyOf o ≡ replyOf p) × (o .m
 clauses e = (ap replyOf e, ap (λ (x : Outcome). x .memory) e)
 
 module _ (v m : List ℕ) (s : State) (page : ℕ) where
-  pub begin-refused : (frame fill n : ℕ) → n ≡ firstOf (beginRows v m s page frame) → (n ≡ 0 → ⊥) → unchanged (Refused n) m s ≡ beginOf v m s page frame fill
+  pub begin-refused : (frame fill n : ℕ) → n ≡ firstOf (beginRows v m s page frame) → (n ≡ 0 → ⊥) → unchanged (Refused n) m s
+      ≡ beginOf v m s page frame fill
   unfolding beginOf
   begin-refused frame fill n = decided-refused (beginRows v m s page frame) m s _ n
 
@@ -49,13 +52,15 @@ module _ (v m : List ℕ) (s : State) (page : ℕ) where
   unfolding beginOf
   begin-done frame fill t w e et ew = left t _ w _ et ew ∙ decided-done (beginRows v m s page frame) m s _ e
 
-  pub change-refused : (c : Change) (p : List ℕ) (n : ℕ) → n ≡ firstOf (changeRows v m s page c) → (n ≡ 0 → ⊥) → unchanged (Refused n) m s ≡ changeCall v m s page c p
+  pub change-refused : (c : Change) (p : List ℕ) (n : ℕ) → n ≡ firstOf (changeRows v m s page c) → (n ≡ 0 → ⊥) → unchanged (Refused n) m s
+      ≡ changeCall v m s page c p
   unfolding changeCall
   change-refused c p n = decided-refused (changeRows v m s page c) m s _ n
 
   pub change-done : (c : Change) (p : List ℕ) (t : State) (w : List ℕ) → firstOf (changeRows v m s page c) ≡ 0
       → t ≡ appendedState s page (holder s page)
-      → w ≡ appendedMemory m s page c p (holder s page) (changedImage (frameBytes m (holder s page)) (lastNumber s + 1) (applyChange c p (imageBody (frameBytes m (holder s page)))))
+      → w ≡ appendedMemory m s page c p (holder s page)
+      (changedImage (frameBytes m (holder s page)) (lastNumber s + 1) (applyChange c p (imageBody (frameBytes m (holder s page)))))
       → record { answer = Done; state = t; memory = w; stored = nothing } ≡ changeCall v m s page c p
   unfolding changeCall
   change-done c p t w e et ew = left t _ w _ et ew ∙ decided-done (changeRows v m s page c) m s _ e

@@ -32,7 +32,8 @@ unfolding changeFits
 format-fits fill = refl
 
 -- filled throughout, then made an image
-pub format-is : (x x₁ x₂ : List ℕ) (page lsn fill : ℕ) → length x ≡ 256 → x₁ ≡ replicate (length x) fill → x₂ ≡ frameImage page lsn (part x₁ 8 244)
+pub format-is : (x x₁ x₂ : List ℕ) (page lsn fill : ℕ) → length x ≡ 256 → x₁ ≡ replicate (length x) fill → x₂ ≡ frameImage page lsn
+    (part x₁ 8 244)
     → x₂ ≡ frameImage page lsn (replicate 244 fill)
 unfolding part
 format-is x x₁ x₂ page lsn fill l e₁ e₂ =
@@ -77,7 +78,8 @@ module _ (c : Change) (p : List ℕ) (h : fits c ≡ true) (lp : length p ≡ 44
 
   encode-length : (lsn prev page : ℕ) → length (encodeChange lsn prev page c p) ≡ 64
   unfolding encodeChange
-  encode-length lsn prev page = record-length (recordFor lsn prev page c) (padded (lengthOf c) p) (padded-length (lengthOf c) p few (omega (arith, few)))
+  encode-length lsn prev page = record-length (recordFor lsn prev page c) (padded (lengthOf c) p)
+      (padded-length (lengthOf c) p few (omega (arith, few)))
 
   -- encoded into the part that is lent
   pub pended-is : (m x : List ℕ) (s : State) (lsn prev page at : ℕ)
@@ -112,7 +114,8 @@ pub begun-is : (m m₁ x p : List ℕ) (s : State) (page frame at fill lsn : ℕ
     → m₁ ≡ pendedMemory m s page (Format fill) p
     → lsn ≡ lastNumber s + 1
     → x ≡ frameImage page lsn (replicate 244 fill)
-    → putMid at (at + 256 - at) m₁ x ≡ appendedMemory m s page (Format fill) [] frame (frameImage page (lastNumber s + 1) (replicate 244 fill))
+    → putMid at (at + 256 - at) m₁ x ≡ appendedMemory m s page (Format fill) [] frame
+    (frameImage page (lastNumber s + 1) (replicate 244 fill))
 unfolding encodeChange
 begun-is m m₁ x p s page frame at fill lsn ea e₁ en ex =
     appended-is m m₁ s page frame at (Format fill) [] ea e₁ x (frameImage page (lastNumber s + 1) (replicate 244 fill))
@@ -120,11 +123,11 @@ begun-is m m₁ x p s page frame at fill lsn ea e₁ en ex =
     (ex ∙ ap (λ (i : ℕ). frameImage page i (replicate 244 fill)) en)
 
 -- the frame lies behind the records, and reads as before
-pub frame-kept : (m m₁ : List ℕ) (s : State) (page frame at : ℕ) (c : Change) (p : List ℕ) → fits c ≡ true → length p ≡ 44 → 1024 ≤ length m
+pub frame-stays : (m m₁ : List ℕ) (s : State) (page frame at : ℕ) (c : Change) (p : List ℕ) → fits c ≡ true → length p ≡ 44 → 1024 ≤ length m
     → at ≡ frameAt frame
     → m₁ ≡ pendedMemory m s page c p
     → take (at + 256 - at) (drop at m₁) ≡ frameBytes m frame
-frame-kept m m₁ s page frame at c p h lp lm ea e₁ =
+frame-stays m m₁ s page frame at c p h lp lm ea e₁ =
     let n = lastNumber s + 1 in
     let r = encodeChange n (entryOf (s .index) page .last) page c p in
     let lr : length r ≡ 64 = encode-length c p h lp n (entryOf (s .index) page .last) page in
@@ -133,18 +136,21 @@ frame-kept m m₁ s page frame at c p h lp lm ea e₁ =
     ∙ ap (λ (w : List ℕ). part w (frameAt frame) 256) e₁
     ∙ part-after m (pendingAt n) r (omega arith) (frameAt frame) 256 (omega arith)
 
-pub altered-is : (m m₁ x p : List ℕ) (s : State) (page frame at lsn : ℕ) (c : Change) → fits c ≡ true → length p ≡ 44 → frameAt frame + 256 ≤ length m
+pub altered-is : (m m₁ x p : List ℕ) (s : State) (page frame at lsn : ℕ) (c : Change) → fits c ≡ true → length p ≡ 44
+    → frameAt frame + 256 ≤ length m
     → at ≡ frameAt frame
     → m₁ ≡ pendedMemory m s page c p
     → lsn ≡ lastNumber s + 1
     → x ≡ changedImage (take (at + 256 - at) (drop at m₁)) lsn (applyChange c p (imageBody (take (at + 256 - at) (drop at m₁))))
     → putMid at (at + 256 - at) m₁ x
-    ≡ appendedMemory m s page c p frame (changedImage (frameBytes m frame) (lastNumber s + 1) (applyChange c p (imageBody (frameBytes m frame))))
+    ≡ appendedMemory m s page c p frame
+    (changedImage (frameBytes m frame) (lastNumber s + 1) (applyChange c p (imageBody (frameBytes m frame))))
 altered-is m m₁ x p s page frame at lsn c h lp room ea e₁ en ex =
     let f = frameBytes m frame in
     let lf : length f ≡ 256 = part-length m (frameAt frame) 256 room in
     let body = applyChange c p (imageBody f) in
     let lb : length body ≡ 244 = apply-length c p (imageBody f) h (omega (arith, few c p h lp)) (part-length f 8 244 (omega arith)) in
     appended-is m m₁ s page frame at c p ea e₁ x (changedImage f (lastNumber s + 1) body) (changed-length f (lastNumber s + 1) body lf lb)
-    (ex ∙ ap (λ (w : List ℕ). changedImage w lsn (applyChange c p (imageBody w))) (frame-kept m m₁ s page frame at c p h lp (omega arith) ea e₁)
+    (ex ∙ ap (λ (w : List ℕ). changedImage w lsn (applyChange c p (imageBody w)))
+    (frame-stays m m₁ s page frame at c p h lp (omega arith) ea e₁)
     ∙ ap (λ (i : ℕ). changedImage f i body) en)

@@ -7,7 +7,7 @@ use lib.Dec.{eqb}
 use lib.ListN.{length}
 use Rattle.state.proofs.Fits.{refusal-then}
 use Rattle.append.specs.Rows.{appendTail, beginTail, changeTail}
-use Rattle.model.specs.Tests.{firstOf, within}
+use Rattle.model.specs.Tables.{firstOf, within}
 use Rattle.model.specs.Geometry.{geometryOf}
 use Rattle.model.specs.Change.{fits}
 use Rattle.model.specs.State.{frameCount, frameOf, held, blank}

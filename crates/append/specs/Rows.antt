@@ -3,7 +3,7 @@ use Prim.Native.Nat.{ℕ}
 use mathlib.Core.Bool.{not}
 use mathlib.Core.List.{List, [], _∷_}
 use lib.Dec.{eqb}
-use Rattle.model.specs.Tests.{Row, within}
+use Rattle.model.specs.Tables.{Row, within}
 use Rattle.model.specs.Change.{fits}
 use Rattle.model.specs.State.{logFull, held, blank}
 use Rattle.model.specs.Refusals.{frameBlocked}
@@ -18,7 +18,8 @@ appendTail g s = (eqb (s .pending) 16, 11) ∷ (logFull g s, 12) ∷ []
 -- of a geometry and a number of frames
 abbrev pub beginTail : Geometry → ℕ → State → ℕ → ℕ → List Row
 beginTail g frames s page frame =
-    (not (within (g .pages) page), 3) ∷ (not (within frames frame), 4) ∷ (not (blank s page), 9) ∷ (frameBlocked s frame, 10) ∷ appendTail g s
+    (not (within (g .pages) page), 3) ∷ (not (within frames frame), 4) ∷ (not (blank s page), 9) ∷
+    (frameBlocked s frame, 10) ∷ appendTail g s
 
 abbrev pub changeTail : Geometry → State → ℕ → Change → List Row
 changeTail g s page c = (not (within (g .pages) page), 3) ∷ (not (fits c), 6) ∷ (not (held s page), 8) ∷ appendTail g s

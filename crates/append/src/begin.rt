@@ -4,7 +4,7 @@ ghost use mathlib.Core.List.{List};
 ghost use Prim.Native.Nat.{ℕ, _<_};
 ghost use lib.ListN.{length, replicate};
 ghost use Rattle.append.specs.Rows.{beginTail};
-ghost use Rattle.model.specs.Tests.{firstOf};
+ghost use Rattle.model.specs.Tables.{firstOf};
 ghost use Rattle.model.specs.Item.{frameImage};
 ghost use Rattle.model.specs.Refusals.{beginRows};
 ghost use Rattle.model.specs.Calls.{replyOf, beginOf};
@@ -19,30 +19,31 @@ use model::state::State;
 use state::entries;
 use state::frames;
 use state::next;
-use state::rows;
 use volume::heading;
+use volume::memory;
+use volume::rows;
 
 // The rows of Begin's own, for a memory of so many frames.
-fn own(g: Geometry, count: usize, s: State, page: u32, frame: u32) -> u32
+fn own(s: State, g: Geometry, count: usize, page: u32, frame: u32) -> u32
     ensures { λ r. ⌜ r ≡ firstOf (beginTail g count s page frame) ⌝ }
 {
     let outside = !((1 <= page) & (page <= g.pages));
-    let noframe = !((1 <= frame) & (frame as usize <= count));
+    let no_frame = !((1 <= frame) & (frame as usize <= count));
     let blank = entries::blank(s, page);
     let dirty = frames::frame(s, frame).dirty;
-    let log = pending::full(g, s);
+    let log = pending::full(s, g);
     let table = rows::first(!blank, 9, rows::first(dirty, 10, log));
-    rows::first(outside, 3, rows::first(noframe, 4, table))
+    rows::first(outside, 3, rows::first(no_frame, 4, table))
 }
 
 // The refusal, the lowest that holds; size is the memory's.
-fn refusal(v: &[u8], size: usize, s: State, page: u32, frame: u32) -> u32
-    ensures { λ r. ⌜ ((m : List ℕ) → length m ≡ size → r ≡ firstOf (beginRows (now (v .entry)) m s page frame)) ⌝ }
+fn refusal(s: State, volume: &[u8], size: usize, page: u32, frame: u32) -> u32
+    ensures { λ r. ⌜ ((m : List ℕ) → length m ≡ size → r ≡ firstOf (beginRows (now (volume .entry)) m s page frame)) ⌝ }
 {
-    let no = rows::refusal(v, size, s);
-    let g = heading::geometry(v);
-    let count = volume::memory::frames(size);
-    let rest = own(g, count, s, page, frame);
+    let no = state::rows::refusal(s, volume, size);
+    let g = heading::geometry(volume);
+    let count = memory::frames(size);
+    let rest = own(s, g, count, page, frame);
     rows::first(no != 0, no, rest)
 }
 
@@ -55,21 +56,22 @@ fn format(x: &mut [u8], page: u32, lsn: u32, fill: u8)
     image::build(x, page, lsn);
 }
 
-// Begins a blank page in a frame: its format is pending, the frame is dirty, and a clean page in it makes way.
-// Ruled out, for example: 12 while the log has room; a dirty frame's page that makes way; a refusal that clears the frame.
+// Begins a blank page in a frame: its format is pending, the frame is dirty, and a clean page in it leaves the frame.
+// Ruled out: 12 while the log has room; a dirty frame's page that leaves it; a refusal that clears the frame.
 pub fn begin(s: State, volume: &[u8], memory: &mut [u8], page: u32, frame: u32, fill: u8) -> Reply
     ensures reply { λ r. ⌜ r ≡ replyOf (beginOf (now (volume .entry)) (now (memory .entry)) s page frame fill) ⌝ }
-    ensures memory { λ _. ⌜ now (memory .exit) ≡ beginOf (now (volume .entry)) (now (memory .entry)) s page frame fill .memory ⌝ }
+    ensures memory { λ _.
+        ⌜ now (memory .exit) ≡ beginOf (now (volume .entry)) (now (memory .entry)) s page frame fill .memory ⌝ }
 {
-    let no = refusal(volume, memory.len(), s, page, frame);
+    let no = refusal(s, volume, memory.len(), page, frame);
     if no != 0 {
         return Reply {
             answer: Answer::Refused(no),
             state: s,
         };
     }
-    let lsn = pending::pend(memory, s, page, Change::Format { fill }, [0; 44]);
-    let at = volume::memory::frameat(frame);
+    let lsn = pending::pend(s, memory, page, Change::Format { fill }, [0; 44]);
+    let at = memory::frame_at(frame);
     let end = at + 256;
     format(&mut memory[at..end], page, lsn, fill);
     Reply {

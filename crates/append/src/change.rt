@@ -5,7 +5,7 @@ ghost use mathlib.Core.List.{List};
 ghost use Prim.Native.Nat.{ℕ};
 ghost use lib.ListN.{length};
 ghost use Rattle.append.specs.Rows.{changeTail};
-ghost use Rattle.model.specs.Tests.{firstOf};
+ghost use Rattle.model.specs.Tables.{firstOf};
 ghost use Rattle.model.specs.Change.{fits, applyChange};
 ghost use Rattle.model.specs.Item.{imageBody};
 ghost use Rattle.model.specs.Refusals.{changeRows};
@@ -19,17 +19,18 @@ use model::geometry::Geometry;
 use model::state::State;
 use state::frames;
 use state::next;
-use state::rows;
 use volume::heading;
+use volume::memory;
+use volume::rows;
 
 // The rows of Change's own.
-fn own(g: Geometry, s: State, page: u32, c: Change) -> u32
+fn own(s: State, g: Geometry, page: u32, c: Change) -> u32
     ensures { λ r. ⌜ r ≡ firstOf (changeTail g s page c) ⌝ }
 {
     let outside = !((1 <= page) & (page <= g.pages));
     let obeys = item::change::obeys(c);
     let held = frames::held(s, page);
-    let log = pending::full(g, s);
+    let log = pending::full(s, g);
     rows::first(
         outside,
         3,
@@ -38,26 +39,27 @@ fn own(g: Geometry, s: State, page: u32, c: Change) -> u32
 }
 
 // The refusal, the lowest that holds; size is the memory's.
-fn refusal(v: &[u8], size: usize, s: State, page: u32, c: Change) -> u32
-    ensures { λ r. ⌜ ((m : List ℕ) → length m ≡ size → r ≡ firstOf (changeRows (now (v .entry)) m s page c)) ⌝ }
+fn refusal(s: State, volume: &[u8], size: usize, page: u32, c: Change) -> u32
+    ensures { λ r. ⌜ ((m : List ℕ) → length m ≡ size → r ≡ firstOf (changeRows (now (volume .entry)) m s page c)) ⌝ }
 {
-    let no = rows::refusal(v, size, s);
-    let g = heading::geometry(v);
-    let rest = own(g, s, page, c);
+    let no = state::rows::refusal(s, volume, size);
+    let g = heading::geometry(volume);
+    let rest = own(s, g, page, c);
     rows::first(no != 0, no, rest)
 }
 
 // Makes a change in a frame's bytes: its number and the body. The page number, the zeros and the checksum's bytes stay.
 fn alter(x: &mut [u8], lsn: u32, c: Change, payload: [u8; 44])
     requires { ⌜ (length (now x) ≡ 256) × (fits c ≡ true) ⌝ }
-    ensures { λ _. ⌜ now (x .exit) ≡ changedImage (now (x .entry)) lsn (applyChange c payload (imageBody (now (x .entry)))) ⌝ }
+    ensures { λ _.
+        ⌜ now (x .exit) ≡ changedImage (now (x .entry)) lsn (applyChange c payload (imageBody (now (x .entry)))) ⌝ }
 {
-    field::put32(x, 4, lsn);
+    field::put_u32(x, 4, lsn);
     item::change::apply(c, &payload, &mut x[8..252]);
 }
 
 // Changes a page that a frame holds: the record is pending, the frame is dirty.
-// Ruled out, for example: a page changed that no frame holds; a record that skips the page's pending ones.
+// Ruled out: a page changed that no frame holds; a record that skips the page's pending ones.
 pub fn change(
     s: State,
     volume: &[u8],
@@ -66,19 +68,21 @@ pub fn change(
     change: Change,
     payload: [u8; 44],
 ) -> Reply
-    ensures reply { λ r. ⌜ r ≡ replyOf (changeCall (now (volume .entry)) (now (memory .entry)) s page change payload) ⌝ }
-    ensures memory { λ _. ⌜ now (memory .exit) ≡ changeCall (now (volume .entry)) (now (memory .entry)) s page change payload .memory ⌝ }
+    ensures reply { λ r.
+        ⌜ r ≡ replyOf (changeCall (now (volume .entry)) (now (memory .entry)) s page change payload) ⌝ }
+    ensures memory { λ _.
+        ⌜ now (memory .exit) ≡ changeCall (now (volume .entry)) (now (memory .entry)) s page change payload .memory ⌝ }
 {
-    let no = refusal(volume, memory.len(), s, page, change);
+    let no = refusal(s, volume, memory.len(), page, change);
     if no != 0 {
         return Reply {
             answer: Answer::Refused(no),
             state: s,
         };
     }
-    let lsn = pending::pend(memory, s, page, change, payload);
+    let lsn = pending::pend(s, memory, page, change, payload);
     let f = frames::holder(s, page);
-    let at = volume::memory::frameat(f);
+    let at = memory::frame_at(f);
     let end = at + 256;
     alter(&mut memory[at..end], lsn, change, payload);
     Reply {

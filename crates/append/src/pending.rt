@@ -6,18 +6,18 @@ ghost use lib.ListN.{length};
 ghost use Rattle.append.specs.Rows.{appendTail};
 ghost use Rattle.append.specs.Pended.{pendedMemory};
 ghost use Rattle.model.specs.Change.{fits};
-ghost use Rattle.model.specs.Tests.{firstOf};
+ghost use Rattle.model.specs.Tables.{firstOf};
 ghost use Rattle.model.specs.State.{lastNumber};
 use item::record;
 use model::change::Change;
 use model::geometry::Geometry;
 use model::state::State;
 use state::entries;
-use state::rows;
 use volume::memory;
+use volume::rows;
 
 // The refusal of a call that appends to the log: 16 records are pending, or the last number given is the log's last.
-pub fn full(g: Geometry, s: State) -> u32
+pub fn full(s: State, g: Geometry) -> u32
     ensures { λ r. ⌜ r ≡ firstOf (appendTail g s) ⌝ }
 {
     let last = g.records as u64 <= s.durable as u64 + s.pending as u64;
@@ -25,14 +25,15 @@ pub fn full(g: Geometry, s: State) -> u32
 }
 
 // Leaves the record of a change of the page pending, behind the page's last record, and gives its number, the next one.
-pub fn pend(memory: &mut [u8], s: State, page: u32, c: Change, payload: [u8; 44]) -> u32
-    requires { ⌜ (1024 ≤ length (now memory)) × (s .durable + s .pending < 4294967295) × (fits c ≡ true) × (page < 65536) ⌝ }
+pub fn pend(s: State, memory: &mut [u8], page: u32, c: Change, payload: [u8; 44]) -> u32
+    requires { ⌜ (1024 ≤ length (now memory)) × (s .durable + s .pending < 4294967295)
+        × (fits c ≡ true) × (page < 65536) ⌝ }
     ensures lsn { λ r. ⌜ r ≡ lastNumber s + 1 ⌝ }
     ensures memory { λ _. ⌜ now (memory .exit) ≡ pendedMemory (now (memory .entry)) s page c payload ⌝ }
 {
     let lsn = s.durable + s.pending + 1;
     let prev = entries::entry(s, page).last;
-    let at = memory::pendingat(lsn);
+    let at = memory::pending_at(lsn);
     let end = at + 64;
     record::encode(&mut memory[at..end], lsn, prev, page, c, payload);
     lsn

@@ -2,13 +2,18 @@
 use mathlib.Core.Path.{_≡_, refl, sym, ap, ap₂, _∙_}
 use mathlib.Core.Bool.{Bool, true, false, cond, _&&_}
 use mathlib.Core.List.{List, [], _∷_}
+use Prim.Native.Nat.{ℕ}
 use lib.Dec.{T, eqb, eqb→eq}
-use Rattle.model.specs.AbstractLog.{AbstractLog, emptyLog}
+use lib.ListN.{getD, drop}
+use Rattle.model.specs.Change.{kindOf, lengthOf, offsetOf, fillOf, changeOf}
+use Rattle.model.specs.AbstractLog.{Logged, AbstractLog, emptyLog}
 use Rattle.model.specs.History.{Machine, Event, allowed, allAllowed, run, logAfter}
 use Rattle.model.specs.Claim.{fresh, reached, logOf}
+use Rattle.model.specs.declared.change.Change.{Change}
+use Rattle.model.specs.declared.change.Change.the-variants.{Format, Put, Slide}
 use Rattle.cases.specs.Opened.{opened}
 use Rattle.cases.specs.Rows.{same}
-use Rattle.cases.specs.Worked.{Worked, historyOf, joined, makes, answersOf, eventStep, taleFrom, taleOf, saysAnswers, changes, pagesOf, allReplay, agrees, computes, allCompute, Computed, AllComputed}
+use Rattle.cases.specs.Worked.{Worked, historyOf, joined, makes, answersOf, eventStep, taleFrom, taleOf, saysAnswers, loggedNumbers, sameChanges, pagesOf, allReplay, agrees, computes, allCompute, Computed, AllComputed}
 use Rattle.cases.specs.Histories.{histories}
 use Rattle.cases.proofs.Steps.{machine-step, log-step, answer-step}
 use Rattle.cases.proofs.Cases.{left, right, equal}
@@ -42,6 +47,29 @@ log w b [] = refl
 log w b (e ∷ es) =
     log (eventStep w b e .machine) (eventStep w b e .log) es ∙ ap₂ (λ x c. logAfter x c es) (machine-step w b e) (log-step w b e)
 
+-- ---- a change is known by its numbers
+
+abbrev fromNumbers : List ℕ → Logged
+fromNumbers l = record { page = getD l 0 0; change = changeOf (getD l 1 0) (getD l 2 0) (getD l 3 0) (getD l 4 0); bytes = drop 5 l }
+
+change-back : (c : Change) → changeOf (kindOf c) (lengthOf c) (offsetOf c) (fillOf c) ≡ c
+unfolding changeOf
+change-back (Format f) = refl
+change-back (Put o n) = refl
+change-back (Slide o n) = refl
+
+back : (c : Logged) → fromNumbers (loggedNumbers c) ≡ c
+back c = ap (λ (d : Change). record { page = c .page; change = d; bytes = c .bytes }) (change-back (c .change))
+
+equal-changes : (cs ds : List Logged) → T (sameChanges cs ds) → cs ≡ ds
+equal-changes [] [] t = refl
+equal-changes [] (d ∷ ds) t = absurd t
+equal-changes (c ∷ cs) [] t = absurd t
+equal-changes (c ∷ cs) (d ∷ ds) t =
+    let here = same (loggedNumbers c) (loggedNumbers d) in
+    let e = equal (loggedNumbers c) (loggedNumbers d) (left here (sameChanges cs ds) t) in
+    ap₂ _∷_ (sym (back c) ∙ (ap fromNumbers e ∙ back d)) (equal-changes cs ds (right here (sameChanges cs ds) t))
+
 -- ---- the law
 
 computed : (w : Worked) → T (computes w) → Computed w
@@ -51,7 +79,7 @@ computed w t =
     let m = fresh h in
     let a = taleOf h in
     let told = same (joined (a .answers)) (saysAnswers w) in
-    let durable = same (changes (a .log .durable)) (changes (w .durable)) in
+    let durable = sameChanges (a .log .durable) (w .durable) in
     let seen = same (pagesOf w (a .machine .volume)) (joined (w .shows)) in
     let replay = allReplay (w .pages) (a .machine .volume) (a .log .durable) in
     let t1 = right (eqb (makes h) 0) (agrees w a) t in
@@ -66,8 +94,8 @@ computed w t =
           };
       answers = sym (ap joined (answered m emptyLog (h .events))) ∙ equal (joined (a .answers)) (saysAnswers w) (left told (durable && (seen && replay)) t2);
       durable =
-          sym (ap (λ b. changes (b .durable)) (log m emptyLog (h .events)))
-          ∙ equal (changes (a .log .durable)) (changes (w .durable)) (left durable (seen && replay) t3);
+          sym (ap (λ b. b .durable) (log m emptyLog (h .events)))
+          ∙ equal-changes (a .log .durable) (w .durable) (left durable (seen && replay) t3);
       pages =
           sym (ap (λ x. pagesOf w (x .volume)) (machine m emptyLog (h .events)))
           ∙ equal (pagesOf w (a .machine .volume)) (joined (w .shows)) (left seen replay t4);

@@ -1,4 +1,5 @@
--- What the worked cases are made of: answers as numbers, volumes built by `model`'s own encoders, machines reached by events.
+-- What the worked cases are made of: answers as numbers, volumes built by `model`'s own encoders, machines reached by
+-- events.
 use Prim.Native.Nat.{ℕ, _+_, _*_}
 use mathlib.Core.Bool.{Bool, true, false}
 use mathlib.Core.List.{List, [], _∷_, _++_, map}

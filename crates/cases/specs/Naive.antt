@@ -13,7 +13,8 @@ use Rattle.model.specs.declared.state.State.{State}
 abbrev pub viewIn : List ℕ → ℕ → View
 viewIn v p = let g = geometryOf v in viewOf g v (entryOf (indexOf g v) p) p
 
--- Trap 1: the own image is taken to be at the last written number, whatever its own number says; what it has already is replayed onto it.
+-- Trap 1: the own image is taken to be at the last written number, whatever its own number says; what it has already
+-- is replayed onto it.
 unfoldable pub replaysAgain : List ℕ → ℕ → List ℕ
 replaysAgain v p =
     let w = viewIn v p in
@@ -23,7 +24,8 @@ replaysAgain v p =
 unfoldable pub backupFreeing : List ℕ → List ℕ → State → ℕ → ℕ → Outcome
 backupFreeing v m s page slot =
     let e = entryOf (s .index) page in
-    let freed = setEntry (s .index) page (record { last = e .last; durable = e .durable; written = e .written; slot = 0; backup = 0 }) in
+    let freed = setEntry (s .index) page
+    (record { last = e .last; durable = e .durable; written = e .written; slot = 0; backup = 0 }) in
     backupOf v m (record { durable = s .durable; pending = s .pending; notes = s .notes; note = s .note; frames = s .frames; index = freed }) page slot
 
 -- and a repair that takes the image in the noted slot to be at the noted number

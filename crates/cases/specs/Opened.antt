@@ -1,6 +1,6 @@
--- Every definition of `model` that stays shut until it is named, opened by one name: a declaration that says `unfolding opened` computes with
--- all of them.
-use Rattle.model.specs.Tests.{every}
+-- Every definition of `model` that stays shut until it is named, opened by one name: a declaration that says
+-- `unfolding opened` computes with all of them.
+use Rattle.model.specs.Tables.{every}
 use Rattle.model.specs.Bytes.{le, bytesOf, part, splice, allZero, startsWith, sameBytes}
 use Rattle.model.specs.Checksum.{checksumFrom, withChecksum, sealed, sealedRun, withSum, sumHolds}
 use Rattle.model.specs.Geometry.{geometryOf, validCounts, validVolume, emptyVolume, item, store}

@@ -1,4 +1,5 @@
--- Rows on what is read from a volume: the restart rule clause by clause, the index, the classes, and the walk with refusal 19.
+-- Rows on what is read from a volume: the restart rule clause by clause, the index, the classes, and the walk with
+-- refusal 19.
 use Prim.Native.Nat.{ℕ}
 use mathlib.Core.Bool.{true, false}
 use mathlib.Core.List.{List, [], _∷_, _++_, map}
@@ -31,18 +32,28 @@ abbrev logRows : List Row
 logRows =
     let two = smallVolume (oneItem (recordAt 1) record1 ∷ oneItem (recordAt 2) record2 ∷ []) in
     let third = thirdOf two in
-    row "log: a record that obeys" (third (put 3 1 1) ∷ third (encodeChange 3 1 1 (Format 4) []) ∷ third (put 3 2 2) ∷ []) (1 ∷ 1 ∷ 1 ∷ [])
+    row "log: a record that obeys"
+    (third (put 3 1 1) ∷ third (encodeChange 3 1 1 (Format 4) []) ∷ third (put 3 2 2) ∷ [])
+    (1 ∷ 1 ∷ 1 ∷ [])
     ∷ row "log: another number" (third (put 4 1 1) ∷ third (put 2 1 1) ∷ []) (0 ∷ 0 ∷ [])
-    ∷ row "log: a page out of range" (third (encodeChange 3 0 3 (Format 4) []) ∷ third (encodeChange 3 0 0 (Format 4) []) ∷ []) (0 ∷ 0 ∷ [])
-    ∷ row "log: another earlier record" (third (put 3 2 1) ∷ third (put 3 0 1) ∷ third (encodeChange 3 0 1 (Format 4) []) ∷ third (put 3 1 2) ∷ []) (0 ∷ 0 ∷ 0 ∷ 0 ∷ [])
-    ∷ row "log: another layout" (third (seal 60 (set record3 15 1)) ∷ third (seal 60 (set record3 59 1)) ∷ third (seal 60 (set record3 10 4)) ∷ []) (0 ∷ 0 ∷ 0 ∷ [])
+    ∷ row "log: a page out of range"
+    (third (encodeChange 3 0 3 (Format 4) []) ∷ third (encodeChange 3 0 0 (Format 4) []) ∷ [])
+    (0 ∷ 0 ∷ [])
+    ∷ row "log: another earlier record"
+    (third (put 3 2 1) ∷ third (put 3 0 1) ∷ third (encodeChange 3 0 1 (Format 4) []) ∷ third (put 3 1 2) ∷ [])
+    (0 ∷ 0 ∷ 0 ∷ 0 ∷ [])
+    ∷ row "log: another layout"
+    (third (seal 60 (set record3 15 1)) ∷ third (seal 60 (set record3 59 1))
+    ∷ third (seal 60 (set record3 10 4)) ∷ [])
+    (0 ∷ 0 ∷ 0 ∷ [])
     ∷ row "log: a page's first is a format"
     (let v = smallVolume (oneItem (recordAt 1) (put 1 0 1) ∷ []) in bit (validLog (geometryOf v) v) ∷ [])
     (0 ∷ [])
     ∷ row "log: its end"
     (third (broken record3) ∷ third (replicate 64 0)
     ∷ map (λ v. bit (validLog (geometryOf v) v))
-    (smallVolume (oneItem (recordAt 2) (1 ∷ replicate 63 0) ∷ []) ∷ whole (oneItem (recordAt 4) (replicate 63 0 ++ (1 ∷ [])) ∷ []) ∷ []))
+    (smallVolume (oneItem (recordAt 2) (1 ∷ replicate 63 0) ∷ [])
+    ∷ whole (oneItem (recordAt 4) (replicate 63 0 ++ (1 ∷ [])) ∷ []) ∷ []))
     (1 ∷ 1 ∷ 0 ∷ 1 ∷ [])
     ∷ row "log: full"
     (let v = whole (oneItem (recordAt 4) (put 4 3 1) ∷ []) in inspected v 1)
@@ -67,7 +78,8 @@ notesKeepIn v ns = let x = storedIn v (noted ns) in bit (validNotes (geometryOf 
 abbrev twoSlots : List ℕ → List ℕ → List ℕ
 twoSlots n k =
     storedIn (emptyVolume 2 2 4 4)
-    (oneItem (recordAt 1) record1 ∷ oneItem (recordAt 2) record2 ∷ oneItem (recordAt 3) record3 ∷ oneItem (noteAt 1) n ∷ oneItem (noteAt 2) k ∷ [])
+    (oneItem (recordAt 1) record1 ∷ oneItem (recordAt 2) record2 ∷ oneItem (recordAt 3) record3 ∷ oneItem (noteAt 1) n
+    ∷ oneItem (noteAt 2) k ∷ [])
 
 abbrev noteRows : List Row
 noteRows =
@@ -75,21 +87,30 @@ noteRows =
     let notesKeep = notesKeepIn log in
     let holding = storedIn log in
     row "notes: one that obeys"
-    (map notesKeep ((writtenNote 1 1 3 ∷ []) ∷ (writtenNote 1 2 2 ∷ []) ∷ (backupNote 1 1 1 1 ∷ []) ∷ (writtenNote 1 1 3 ∷ writtenNote 2 1 3 ∷ []) ∷ []))
+    (map notesKeep ((writtenNote 1 1 3 ∷ []) ∷ (writtenNote 1 2 2 ∷ []) ∷ (backupNote 1 1 1 1 ∷ [])
+    ∷ (writtenNote 1 1 3 ∷ writtenNote 2 1 3 ∷ []) ∷ []))
     (1 ∷ 1 ∷ 1 ∷ 1 ∷ [])
     ∷ row "notes: layout, number, page"
-    (map notesKeep ((noteWith 1 1 3 0 3 ∷ []) ∷ (noteWith 1 1 1 1 3 ∷ []) ∷ (writtenNote 2 1 3 ∷ []) ∷ (writtenNote 1 3 3 ∷ []) ∷ (writtenNote 1 0 3 ∷ []) ∷ []))
+    (map notesKeep ((noteWith 1 1 3 0 3 ∷ []) ∷ (noteWith 1 1 1 1 3 ∷ []) ∷ (writtenNote 2 1 3 ∷ [])
+    ∷ (writtenNote 1 3 3 ∷ []) ∷ (writtenNote 1 0 3 ∷ []) ∷ []))
     (0 ∷ 0 ∷ 0 ∷ 0 ∷ 0 ∷ [])
     ∷ row "notes: a durable record of the page"
-    (map notesKeep ((writtenNote 1 1 0 ∷ []) ∷ (writtenNote 1 1 4 ∷ []) ∷ (writtenNote 1 1 2 ∷ []) ∷ (backupNote 1 2 1 3 ∷ []) ∷ []))
+    (map notesKeep ((writtenNote 1 1 0 ∷ []) ∷ (writtenNote 1 1 4 ∷ []) ∷ (writtenNote 1 1 2 ∷ [])
+    ∷ (backupNote 1 2 1 3 ∷ []) ∷ []))
     (0 ∷ 0 ∷ 0 ∷ 0 ∷ [])
     ∷ row "notes: not below the last of the kind"
     (map notesKeep
-    ((writtenNote 1 1 3 ∷ writtenNote 2 1 1 ∷ []) ∷ (backupNote 1 1 1 3 ∷ writtenNote 2 1 1 ∷ []) ∷ (writtenNote 1 1 3 ∷ backupNote 2 1 1 1 ∷ []) ∷ []))
+    ((writtenNote 1 1 3 ∷ writtenNote 2 1 1 ∷ []) ∷ (backupNote 1 1 1 3 ∷ writtenNote 2 1 1 ∷ [])
+    ∷ (writtenNote 1 1 3 ∷ backupNote 2 1 1 1 ∷ []) ∷ []))
     (0 ∷ 1 ∷ 1 ∷ [])
-    ∷ row "notes: a backup's slot" (map notesKeep ((backupNote 1 1 0 1 ∷ []) ∷ (backupNote 1 1 2 1 ∷ []) ∷ (backupNote 1 1 1 1 ∷ backupNote 2 2 1 2 ∷ []) ∷ (backupNote 1 1 1 1 ∷ backupNote 2 1 1 3 ∷ []) ∷ (backupNote 1 2 1 2 ∷ backupNote 2 1 1 1 ∷ []) ∷ [])) (0 ∷ 0 ∷ 0 ∷ 0 ∷ 0 ∷ [])
+    ∷ row "notes: a backup's slot"
+    (map notesKeep ((backupNote 1 1 0 1 ∷ []) ∷ (backupNote 1 1 2 1 ∷ [])
+    ∷ (backupNote 1 1 1 1 ∷ backupNote 2 2 1 2 ∷ []) ∷ (backupNote 1 1 1 1 ∷ backupNote 2 1 1 3 ∷ [])
+    ∷ (backupNote 1 2 1 2 ∷ backupNote 2 1 1 1 ∷ []) ∷ []))
+    (0 ∷ 0 ∷ 0 ∷ 0 ∷ 0 ∷ [])
     ∷ row "notes: a backup not below the last"
-    (map (λ n. let v = twoSlots (backupNote 1 1 1 3) n in bit (validNotes (geometryOf v) v)) (backupNote 2 1 2 1 ∷ backupNote 2 1 2 3 ∷ []))
+    (map (λ n. let v = twoSlots (backupNote 1 1 1 3) n in
+    bit (validNotes (geometryOf v) v)) (backupNote 2 1 2 1 ∷ backupNote 2 1 2 3 ∷ []))
     (0 ∷ 1 ∷ [])
     ∷ row "notes: their end"
     (map notesKeep ((broken (writtenNote 1 1 3) ∷ []) ∷ (broken (writtenNote 1 1 3) ∷ (1 ∷ replicate 15 0) ∷ []) ∷ []))
@@ -97,14 +118,18 @@ noteRows =
     ∷ row "restart: refused 17, 18, and 1, 2 before them"
     (let badLog = oneItem (recordAt 3) (put 4 1 1) in
     let badNotes = oneItem (noteAt 1) (writtenNote 2 1 3) in
-    numbers (restartOf (holding (badLog ∷ badNotes ∷ [])) (memory 1) .answer) ++ (numbers (restartOf (holding (badNotes ∷ [])) (memory 1) .answer)
-    ++ (numbers (restartOf (holding (badLog ∷ [])) (memory 17) .answer) ++ (numbers (restartOf (set (holding (badLog ∷ [])) 0 0) (memory 0) .answer)
+    numbers (restartOf (holding (badLog ∷ badNotes ∷ [])) (memory 1) .answer)
+    ++ (numbers (restartOf (holding (badNotes ∷ [])) (memory 1) .answer)
+    ++ (numbers (restartOf (holding (badLog ∷ [])) (memory 17) .answer)
+    ++ (numbers (restartOf (set (holding (badLog ∷ [])) 0 0) (memory 0) .answer)
     ++ inspected (holding (badNotes ∷ [])) 1))))
     (refused 17 ++ (refused 18 ++ (refused 2 ++ (refused 1 ++ (refused 18 ++ replicate 10 0xAA)))))
     ∷ row "index: what log and notes give"
     (let v = holding (noted (writtenNote 1 1 3 ∷ backupNote 2 1 1 1 ∷ [])) in
     let index = indexOf (geometryOf v) v in
-    length index ∷ (entryNumbers (entryOf index 1) ++ (entryNumbers (entryOf index 2) ++ (entryNumbers (entryOf index 3) ++ bits (slotUsed 1 index ∷ slotUsed 2 index ∷ [])))))
+    length index ∷ (entryNumbers (entryOf index 1)
+    ++ (entryNumbers (entryOf index 2)
+    ++ (entryNumbers (entryOf index 3) ++ bits (slotUsed 1 index ∷ slotUsed 2 index ∷ [])))))
     (64 ∷ 3 ∷ 3 ∷ 3 ∷ 1 ∷ 1 ∷ 2 ∷ 2 ∷ 0 ∷ 0 ∷ 0 ∷ 0 ∷ 0 ∷ 0 ∷ 0 ∷ 0 ∷ 1 ∷ 0 ∷ [])
     ∷ []
 
@@ -119,35 +144,49 @@ abbrev breaksIn : List ℕ → List ℕ → ℕ
 breaksIn two r =
     let v = storedIn two (oneItem (recordAt 3) r ∷ []) in
     let g = geometryOf v in
-    bit (isBroken (walkOf g 1 (viewOf g v (record { last = 3; durable = 3; written = 0; slot = 0; backup = 0 }) 1) .stop))
+    bit (isBroken (walkOf g 1 (viewOf g v
+    (record { last = 3; durable = 3; written = 0; slot = 0; backup = 0 }) 1) .stop))
 
 abbrev walkRows : List Row
 walkRows =
     let two = smallVolume (oneItem (recordAt 1) record1 ∷ oneItem (recordAt 2) record2 ∷ []) in
     let breaks = breaksIn two in
     let holding = storedIn (whole []) in
-    row "class: at 2, 3, 4, 5, 6, and failing" (classAt 2 ∷ classAt 3 ∷ classAt 4 ∷ classAt 5 ∷ classAt 6 ∷ classNumber (classOf false 5 5 3) ∷ []) (3 ∷ 2 ∷ 2 ∷ 1 ∷ 4 ∷ 4 ∷ [])
+    row "class: at 2, 3, 4, 5, 6, and failing"
+    (classAt 2 ∷ classAt 3 ∷ classAt 4 ∷ classAt 5 ∷ classAt 6 ∷ classNumber (classOf false 5 5 3) ∷ [])
+    (3 ∷ 2 ∷ 2 ∷ 1 ∷ 4 ∷ 4 ∷ [])
     ∷ row "walk: an image at 0 or off the chain starts nothing"
     (take 4 (inspected (holding (own 0 body1 ∷ [])) 1) ++ take 4 (inspected (holding (own 2 body1 ∷ [])) 1))
     (fromFormat Behind 2 ++ fromFormat Behind 2)
     ∷ row "walk: own image before backup"
-    (take 4 (inspected (holding (own 3 body3 ∷ oneItem (slotAt 1) (image 1 3 body3) ∷ oneItem (noteAt 1) (backupNote 1 1 1 3) ∷ [])) 1))
+    (take 4 (inspected (holding (own 3 body3 ∷ oneItem (slotAt 1) (image 1 3 body3)
+    ∷ oneItem (noteAt 1) (backupNote 1 1 1 3) ∷ [])) 1))
     (fromOwn Good 0)
     ∷ row "walk: a backup before an older own image"
-    (take 4 (inspected (holding (own 1 body1 ∷ oneItem (slotAt 1) (image 1 3 body3) ∷ oneItem (noteAt 1) (backupNote 1 1 1 3) ∷ [])) 1))
+    (take 4 (inspected (holding (own 1 body1 ∷ oneItem (slotAt 1) (image 1 3 body3)
+    ∷ oneItem (noteAt 1) (backupNote 1 1 1 3) ∷ [])) 1))
     (fromBackup Behind 0)
     ∷ row "walk: a backup at another number than noted"
-    (inspected (holding (ownFails ∷ oneItem (slotAt 1) (image 1 3 body3) ∷ oneItem (noteAt 1) (backupNote 1 1 1 1) ∷ [])) 1)
+    (inspected (holding (ownFails ∷ oneItem (slotAt 1) (image 1 3 body3)
+    ∷ oneItem (noteAt 1) (backupNote 1 1 1 1) ∷ [])) 1)
     (fromFormat Failed 2 ++ at3)
     ∷ row "walk: another page's image in the slot"
-    (take 4 (inspected (holding (ownFails ∷ oneItem (slotAt 1) (image 2 3 body3) ∷ oneItem (noteAt 1) (backupNote 1 1 1 3) ∷ [])) 1))
+    (take 4 (inspected (holding (ownFails ∷ oneItem (slotAt 1) (image 2 3 body3)
+    ∷ oneItem (noteAt 1) (backupNote 1 1 1 3) ∷ [])) 1))
     (fromFormat Failed 2)
-    ∷ row "walk: a backup that is not noted" (take 4 (inspected (holding (ownFails ∷ oneItem (slotAt 1) (image 1 3 body3) ∷ [])) 1)) (fromFormat Failed 2)
-    ∷ row "inspect: the check is set" (bits (validImage small 1 (inspectOf (holding (ownFails ∷ [])) 1 (replicate 256 0) .buffer) ∷ [])) (1 ∷ [])
+    ∷ row "walk: a backup that is not noted"
+    (take 4 (inspected (holding (ownFails ∷ oneItem (slotAt 1) (image 1 3 body3) ∷ [])) 1))
+    (fromFormat Failed 2)
+    ∷ row "inspect: the check is set"
+    (bits (validImage small 1 (inspectOf (holding (ownFails ∷ [])) 1 (replicate 256 0) .buffer) ∷ []))
+    (1 ∷ [])
     ∷ row "walk: records that break it"
-    (map breaks (record3 ∷ broken record3 ∷ put 4 1 1 ∷ put 3 1 2 ∷ seal 60 (set record3 15 1) ∷ put 3 3 1 ∷ put 3 4 1 ∷ put 3 0 1 ∷ encodeChange 3 3 1 (Format 1) [] ∷ []))
+    (map breaks (record3 ∷ broken record3 ∷ put 4 1 1 ∷ put 3 1 2 ∷ seal 60 (set record3 15 1) ∷ put 3 3 1 ∷ put 3 4 1
+    ∷ put 3 0 1 ∷ encodeChange 3 3 1 (Format 1) [] ∷ []))
     (0 ∷ 1 ∷ 1 ∷ 1 ∷ 1 ∷ 1 ∷ 1 ∷ 1 ∷ 1 ∷ [])
-    ∷ row "walk: a format stops it, whatever it names" (map breaks (encodeChange 3 2 1 (Format 1) [] ∷ encodeChange 3 0 1 (Format 1) [] ∷ [])) (0 ∷ 0 ∷ [])
+    ∷ row "walk: a format stops it, whatever it names"
+    (map breaks (encodeChange 3 2 1 (Format 1) [] ∷ encodeChange 3 0 1 (Format 1) [] ∷ []))
+    (0 ∷ 0 ∷ [])
     ∷ []
 
 unfoldable pub ruleRows : List Row

@@ -1,4 +1,5 @@
--- K1 to K12 of document 01, as rows. K6 to K12 have K5's counts and the records 1 format page 1, 2 format page 2, 3 put page 1.
+-- K1 to K12 of document 01, as rows. K6 to K12 have K5's counts and the records 1 format page 1, 2 format page 2, 3
+-- put page 1.
 use Prim.Native.Nat.{ℕ}
 use mathlib.Core.List.{List, [], _∷_, _++_}
 use lib.ListN.{length, replicate, take}
@@ -29,7 +30,9 @@ abbrev pub whole : List StoredItem → List ℕ
 whole xs = smallVolume (oneItem (recordAt 1) record1 ∷ oneItem (recordAt 2) record2 ∷ oneItem (recordAt 3) record3 ∷ xs)
 
 abbrev pub cut : List StoredItem → List ℕ
-cut xs = smallVolume (oneItem (recordAt 1) record1 ∷ oneItem (recordAt 2) record2 ∷ oneItem (recordAt 3) (broken record3) ∷ xs)
+cut xs =
+    smallVolume (oneItem (recordAt 1) record1 ∷ oneItem (recordAt 2) record2 ∷ oneItem (recordAt 3) (broken record3)
+    ∷ xs)
 
 -- page 1's body at 1 and at 3, and its image at a number
 abbrev pub body1 : List ℕ
@@ -62,22 +65,30 @@ unfoldable pub kRows : List Row
 kRows =
     row "K1" (checksum (1 ∷ 0 ∷ 2 ∷ 0 ∷ []) ∷ []) (393220 ∷ [])
     ∷ row "K2" (checksum (replicate 252 0) ∷ bit (validImage small 0 (replicate 256 0)) ∷ []) (8257537 ∷ 0 ∷ [])
-    ∷ row "K3" (take 3 (applyChange (Slide 0 1) (0x41 ∷ []) (applyChange (Slide 0 1) (0x41 ∷ []) zeroBody))) (0x41 ∷ 0x41 ∷ 0 ∷ [])
+    ∷ row "K3"
+    (take 3 (applyChange (Slide 0 1) (0x41 ∷ []) (applyChange (Slide 0 1) (0x41 ∷ []) zeroBody)))
+    (0x41 ∷ 0x41 ∷ 0 ∷ [])
     ∷ row "K4 rule" (bit (fits (Put 200 44)) ∷ bit (fits (Put 201 44)) ∷ []) (1 ∷ 0 ∷ [])
     ∷ row "K4 taken" (asked begun (change 1 (Put 200 44) (replicate 44 1))) done
     ∷ row "K4 refused" (asked begun (change 1 (Put 201 44) (replicate 44 1))) (refused 6)
     ∷ row "K5 taken" (numbers (makeOf (replicate 1108 0) 2 1 4 4 .answer)) done
     ∷ row "K5 refused" (numbers (makeOf (replicate 1107 0) 2 1 4 4 .answer)) (refused 1)
     ∷ row "K5 length"
-    (length (emptyVolume 2 1 4 4) ∷ bit (validVolume (emptyVolume 2 1 4 4)) ∷ bit (validVolume (take 1107 (emptyVolume 2 1 4 4))) ∷ [])
+    (length (emptyVolume 2 1 4 4) ∷ bit (validVolume (emptyVolume 2 1 4 4))
+    ∷ bit (validVolume (take 1107 (emptyVolume 2 1 4 4))) ∷ [])
     (1108 ∷ 1 ∷ 0 ∷ [])
     ∷ row "K6" (inspected (whole (own 1 body1 ∷ [])) 1) (fromOwn Behind 1 ++ at3)
-    ∷ row "K7" (inspected (whole (own 1 body1 ∷ oneItem (noteAt 1) (writtenNote 1 1 3) ∷ [])) 1) (fromOwn Stale 1 ++ at3)
+    ∷ row "K7"
+    (inspected (whole (own 1 body1 ∷ oneItem (noteAt 1) (writtenNote 1 1 3) ∷ [])) 1)
+    (fromOwn Stale 1 ++ at3)
     ∷ row "K8"
-    (inspected (whole (ownFails ∷ oneItem (slotAt 1) (image 1 3 body3) ∷ oneItem (noteAt 1) (backupNote 1 1 1 3) ∷ [])) 1)
+    (inspected (whole (ownFails ∷ oneItem (slotAt 1) (image 1 3 body3)
+    ∷ oneItem (noteAt 1) (backupNote 1 1 1 3) ∷ [])) 1)
     (fromBackup Failed 0 ++ at3)
     ∷ row "K9" (inspected (whole (ownFails ∷ [])) 1) (fromFormat Failed 2 ++ at3)
     ∷ row "K10" (inspected (whole (own 4 body3 ∷ [])) 1) (fromFormat Failed 2 ++ at3)
     ∷ row "K11" (inspected (cut (own 1 body1 ∷ [])) 1) (fromOwn Good 0 ++ at1)
-    ∷ row "K12" (inspected (cut (own 1 body1 ∷ oneItem (recordAt 4) (1 ∷ replicate 63 0) ∷ [])) 1) (refused 17 ++ asLent)
+    ∷ row "K12"
+    (inspected (cut (own 1 body1 ∷ oneItem (recordAt 4) (1 ∷ replicate 63 0) ∷ [])) 1)
+    (refused 17 ++ asLent)
     ∷ []

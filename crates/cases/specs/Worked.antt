@@ -1,5 +1,5 @@
--- A worked history: each event with what it answers, what the history kept, and what inspection then shows of each page. `computes` tests
--- it; `Computed` is what the test shows.
+-- A worked history: each event with what it answers, what the history kept, and what inspection then shows of each
+-- page. `computes` tests it; `Computed` is what the test shows.
 use Prim.Native.Nat.{ℕ, zero, suc}
 use Prim.Native.String.{String}
 use mathlib.Core.Path.{_≡_}
@@ -94,7 +94,11 @@ callStep off v c past b = record { machine = record { volume = v; power = off; p
 callStep (on m s) v c past b =
     let o = outcomeOf c v m s in
     record {
-      machine = record { volume = volumeAfter v (o .stored); power = on (o .memory) (o .state); past = o .stored ∷ past };
+      machine = record {
+        volume = volumeAfter v (o .stored);
+        power = on (o .memory) (o .state);
+        past = o .stored ∷ past;
+      };
       log = cond (isRefused (o .answer)) b (stepCall b c);
       answer = numbers (o .answer);
     }
@@ -118,14 +122,20 @@ taleFrom w b [] = record { ok = true; answers = []; machine = w; log = b }
 taleFrom w b (e ∷ es) =
     let s = eventStep w b e in
     let rest = taleFrom (s .machine) (s .log) es in
-    record { ok = cond (allowed w e) (rest .ok) false; answers = s .answer ∷ rest .answers; machine = rest .machine; log = rest .log }
+    record {
+      ok = cond (allowed w e) (rest .ok) false;
+      answers = s .answer ∷ rest .answers;
+      machine = rest .machine;
+      log = rest .log;
+    }
 
 abbrev pub taleOf : History → Tale
 taleOf h = taleFrom (fresh h) emptyLog (h .events)
 
 -- a change in the log: its page, kind, length, offset, fill and bytes
 abbrev pub loggedNumbers : Logged → List ℕ
-loggedNumbers c = c .page ∷ kindOf (c .change) ∷ lengthOf (c .change) ∷ offsetOf (c .change) ∷ fillOf (c .change) ∷ c .bytes
+loggedNumbers c =
+    c .page ∷ kindOf (c .change) ∷ lengthOf (c .change) ∷ offsetOf (c .change) ∷ fillOf (c .change) ∷ c .bytes
 
 -- what inspection shows: the answer; where a page is repaired, its number and the first of its body
 abbrev pub seen : Answer → List ℕ → List ℕ
@@ -164,8 +174,11 @@ answers h = joined (answersOf (fresh h) (h .events))
 abbrev pub saysAnswers : Worked → List ℕ
 saysAnswers w = joined (map (λ t. t .answer) (w .events))
 
-abbrev pub changes : List Logged → List ℕ
-changes cs = joined (map loggedNumbers cs)
+abbrev pub sameChanges : List Logged → List Logged → Bool
+sameChanges [] [] = true
+sameChanges [] (d ∷ ds) = false
+sameChanges (c ∷ cs) [] = false
+sameChanges (c ∷ cs) (d ∷ ds) = same (loggedNumbers c) (loggedNumbers d) && sameChanges cs ds
 
 abbrev pub pagesOf : Worked → List ℕ → List ℕ
 pagesOf w v = joined (pagesSeen (w .pages) 1 v)
@@ -173,8 +186,9 @@ pagesOf w v = joined (pagesSeen (w .pages) 1 v)
 -- what is made of a history, beside what the worked one says
 abbrev pub agrees : Worked → Tale → Bool
 agrees w t =
-    t .ok && (same (joined (t .answers)) (saysAnswers w) && (same (changes (t .log .durable)) (changes (w .durable))
-    && (same (pagesOf w (t .machine .volume)) (joined (w .shows)) && allReplay (w .pages) (t .machine .volume) (t .log .durable))))
+    t .ok && (same (joined (t .answers)) (saysAnswers w) && (sameChanges (t .log .durable) (w .durable)
+    && (same (pagesOf w (t .machine .volume)) (joined (w .shows))
+    && allReplay (w .pages) (t .machine .volume) (t .log .durable))))
 
 abbrev pub computes : Worked → Bool
 computes w = eqb (makes (historyOf w)) 0 && agrees w (taleOf (historyOf w))
@@ -186,7 +200,7 @@ allCompute (w ∷ ws) = computes w && allCompute ws
 pub record Computed (w : Worked) : Type 0 where
   pub legal : Legal (historyOf w)
   pub answers : answers (historyOf w) ≡ saysAnswers w
-  pub durable : changes (durableOf (historyOf w)) ≡ changes (w .durable)
+  pub durable : durableOf (historyOf w) ≡ w .durable
   pub pages : pagesOf w (reached (historyOf w) .volume) ≡ joined (w .shows)
   pub replay : allReplay (w .pages) (reached (historyOf w) .volume) (durableOf (historyOf w)) ≡ true
 

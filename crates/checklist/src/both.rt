@@ -3,9 +3,9 @@ use play::disk;
 use play::disk::Image;
 use play::disk::Memory;
 use play::disk::Volume;
-use play::print::say;
 use play::steps;
 use play::text;
+use print::say;
 
 // A line, written and backed up; then a line that stands in the log alone.
 fn done(v: &mut Volume, m: &mut Memory) {
@@ -18,7 +18,7 @@ fn done(v: &mut Volume, m: &mut Memory) {
 fn page(v: &mut Volume, before: &Image, after: &mut Image) -> bool {
     say(b"  Damage: the disk spoils the page. It holds:\n");
     disk::spoil(v, disk::PAGE + 20, disk::PAGE + 36);
-    text::held(v, disk::PAGE);
+    text::held(&disk::image(v, disk::PAGE));
     let why = b"  The store starts from the backup.\n";
     steps::after(v, why, before, after)
 }
@@ -26,7 +26,7 @@ fn page(v: &mut Volume, before: &Image, after: &mut Image) -> bool {
 fn slot(v: &mut Volume, before: &Image, after: &mut Image) -> bool {
     say(b"  Damage: the disk spoils the backup too. Its slot holds:\n");
     disk::spoil(v, disk::SLOT + 8, disk::SLOT + 24);
-    text::held(v, disk::SLOT);
+    text::held(&disk::image(v, disk::SLOT));
     let why = b"  The store takes nothing from either image, and replays the log alone.\n";
     steps::after(v, why, before, after)
 }

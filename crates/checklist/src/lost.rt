@@ -4,9 +4,9 @@ use play::disk;
 use play::disk::Image;
 use play::disk::Memory;
 use play::disk::Volume;
-use play::print::say;
 use play::steps;
 use play::text;
+use print::say;
 use store::Store;
 
 // Two lines, and the page's image on disk.
@@ -36,7 +36,7 @@ fn torn(v: &mut Volume, old: &Volume, before: &Image, after: &mut Image) -> bool
         b"  Damage: the disk tears the page. Half of the last image arrived, the other half is old. The disk holds:\n",
     );
     disk::give_back(v, old, disk::PAGE + 128, disk::PAGE + 256);
-    text::held(v, disk::PAGE);
+    text::held(&disk::image(v, disk::PAGE));
     let why =
         b"  The store takes nothing from an image with a wrong checksum, and replays the log.\n";
     steps::after(v, why, before, after)
@@ -47,7 +47,7 @@ fn lost(v: &mut Volume, old: &Volume, before: &Image, after: &mut Image) -> bool
         b"  Damage: the disk loses the last write, which it had confirmed. It holds the image of before, unhurt:\n",
     );
     disk::give_back(v, old, disk::PAGE, disk::PAGE + 256);
-    text::held(v, disk::PAGE);
+    text::held(&disk::image(v, disk::PAGE));
     let why =
         b"  The number is below the last written one in the page recovery index: the store replays what is missing.\n";
     steps::after(v, why, before, after)

@@ -6,9 +6,9 @@ mod lost;
 mod plug;
 mod thread;
 
-use play::print::number;
-use play::print::one;
-use play::print::say;
+use play::one;
+use print::number;
+use print::say;
 
 // What an answer means.
 fn legend() {
@@ -21,11 +21,13 @@ fn legend() {
     say(
         b"  STALE   whole, but older than a write that was confirmed and noted: the disk lost that write\n",
     );
-    say(b"  FAILED  torn, spoiled or never written, or its number is past the end of the log\n");
+    say(
+        b"  FAILED  torn, spoiled, never written or another page's; or its number is above this page's last durable one\n",
+    );
     say(b"and the repair starts from\n");
     say(b"  OWN     the page's own image\n");
     say(b"  BACKUP  its backup\n");
-    say(b"  FORMAT  its first log record, so from the log alone\n");
+    say(b"  FORMAT  its newest format in the log, so from the log alone\n");
 }
 
 fn main() {

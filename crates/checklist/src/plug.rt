@@ -5,11 +5,11 @@ use play::disk;
 use play::disk::Image;
 use play::disk::Memory;
 use play::disk::Volume;
-use play::print::number;
-use play::print::one;
-use play::print::say;
+use play::one;
 use play::steps;
 use play::text;
+use print::number;
+use print::say;
 use store::Store;
 
 // A line, written; a second, forced. `old` gets the volume as it was before the Force, which stores nothing else.

@@ -1,13 +1,12 @@
 // Check 4: the oldest thread reread in full after its page came back old, beside a reader who looks only at the newest line.
-ghost use Prim.Native.Nat.{_<_};
 use play::disk;
 use play::disk::Image;
 use play::disk::Memory;
 use play::disk::Volume;
-use play::print::number;
-use play::print::say;
 use play::steps;
 use play::text;
+use print::number;
+use print::say;
 use store::Store;
 
 // The oldest thread: three lines, written.
@@ -30,13 +29,11 @@ fn late(v: &mut Volume, m: &mut Memory, old: &mut Volume) {
 }
 
 // The newest line of a page as the disk holds it; whether the repaired page has the same.
-fn glance(v: &Volume, page: u32, at: usize) -> bool
-    requires { ⌜ at < 2048 ⌝ }
-{
+fn glance(v: &Volume, page: u32, at: usize) -> bool {
     let mut buffer = [0u8; 256];
     Store::inspect(v, page, &mut buffer);
-    let held = text::newest(v, at);
-    let repaired = text::newest(&buffer, 0);
+    let held = text::newest(&disk::image(v, at));
+    let repaired = text::newest(&buffer);
     text::line(&held);
     text::same(&held, &repaired, 0, 44)
 }
@@ -58,9 +55,9 @@ fn newest(v: &Volume) {
 // A reader of the whole thread.
 fn reread(v: &Volume, after: &Image) {
     say(b"  A reader who rereads the oldest thread in full counts ");
-    number(text::lines(v, disk::PAGE));
+    number(text::lines(&disk::image(v, disk::PAGE)));
     say(b" lines on the disk and ");
-    number(text::lines(after, 0));
+    number(text::lines(after));
     say(b" in the repaired page.\n");
 }
 
@@ -69,7 +66,7 @@ fn aged(v: &mut Volume, old: &Volume, before: &Image, after: &mut Image) -> bool
         b"  Damage: the disk gives back the older image of page 1. A line is missing, and no gap shows it. The disk holds:\n",
     );
     disk::give_back(v, old, disk::PAGE, disk::PAGE + 256);
-    text::held(v, disk::PAGE);
+    text::held(&disk::image(v, disk::PAGE));
     newest(v);
     let why =
         b"  The number is below the last written one in the page recovery index: the store replays what is missing.\n";

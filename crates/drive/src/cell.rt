@@ -1,6 +1,7 @@
 // The fields of a script's cell of 64 bytes. What they are for depends on its op.
 use codec::field;
 use model::change::Change;
+use model::command::Command;
 
 pub fn op(c: &[u8]) -> u8 {
     field::byte(c, 0)
@@ -12,12 +13,12 @@ pub fn kind(c: &[u8]) -> u8 {
 }
 
 pub fn page(c: &[u8]) -> u32 {
-    field::u16at(c, 2) as u32
+    field::u16_at(c, 2) as u32
 }
 
 // A frame or a backup slot.
 pub fn place(c: &[u8]) -> u32 {
-    field::u16at(c, 4) as u32
+    field::u16_at(c, 4) as u32
 }
 
 // The length of a change, or the count of bytes that a poke writes.
@@ -30,21 +31,41 @@ pub fn fill(c: &[u8]) -> u8 {
 }
 
 pub fn first(c: &[u8]) -> u32 {
-    field::u32at(c, 12)
+    field::u32_at(c, 12)
 }
 
 pub fn second(c: &[u8]) -> u32 {
-    field::u32at(c, 60)
+    field::u32_at(c, 60)
 }
 
 // The change, for kinds 1 to 3.
 pub fn change(c: &[u8]) -> Change {
-    let offset = field::u16at(c, 6);
+    let offset = field::u16_at(c, 6);
     let length = length(c);
     match kind(c) {
         1 => Change::Format { fill: fill(c) },
         2 => Change::Put { offset, length },
         _ => Change::Slide { offset, length },
+    }
+}
+
+// The call on the state, for ops 3 to 9.
+pub fn command(c: &[u8]) -> Command {
+    let page = page(c);
+    let place = place(c);
+    let change = change(c);
+    match op(c) {
+        3 => Command::Begin {
+            page,
+            frame: place,
+            fill: fill(c),
+        },
+        4 => Command::Load { page, frame: place },
+        5 => Command::Change { page, change },
+        6 => Command::Force,
+        7 => Command::Write { page },
+        8 => Command::Backup { page, slot: place },
+        _ => Command::Note,
     }
 }
 

@@ -1,21 +1,22 @@
-// Drives the store by a script of cells on standard input, at most 4,096, and prints a line for each: what the call answered, and hashes of all
-// that it may have changed. It holds the proved store against an independent implementation, so nothing is proved of it but that it is safe and ends.
-mod bench;
+// Drives the store by a script of cells on standard input, at most 4,096, and prints a line for each: what the call
+// answered, and hashes of all that it may have changed. It holds the proved store against an independent
+// implementation, so nothing is proved of it but that it is safe and ends.
 mod calls;
 mod cell;
 mod hash;
 mod numbers;
-mod print;
+mod printed;
+mod session;
 mod setup;
 
-use crate::bench::Bench;
-use crate::bench::Said;
-use crate::bench::Turn;
+use crate::session::Said;
+use crate::session::Session;
+use crate::session::Turn;
 use libc::STDIN_FILENO;
 use model::answer::Answer;
 
 // Does what a cell says.
-fn turn(b: Bench, c: &[u8], volume: &mut [u8], memory: &mut [u8], lent: &mut [u8]) -> Turn {
+fn turn(b: Session, c: &[u8], volume: &mut [u8], memory: &mut [u8], lent: &mut [u8]) -> Turn {
     let op = cell::op(c);
     if (op == 1) | (op == 10) {
         calls::plain(b, c, volume, lent)
@@ -28,15 +29,15 @@ fn turn(b: Bench, c: &[u8], volume: &mut [u8], memory: &mut [u8], lent: &mut [u8
 
 // The hash of a buffer's lent part.
 fn lent_hash(buffer: &[u8], size: usize) -> u32 {
-    let n = bench::least(size, buffer.len());
+    let n = session::least(size, buffer.len());
     hash::bytes(&buffer[0..n])
 }
 
-fn line(a: Answer, b: Bench, volume: &[u8], memory: &[u8], lent: &[u8]) {
+fn line(a: Answer, b: Session, volume: &[u8], memory: &[u8], lent: &[u8]) {
     let store = b.store;
     let s = store.state;
-    print::answer(a);
-    print::hashes(
+    printed::answer(a);
+    printed::hashes(
         lent_hash(volume, b.volume),
         lent_hash(memory, b.memory),
         lent_hash(lent, b.lent),
@@ -44,18 +45,18 @@ fn line(a: Answer, b: Bench, volume: &[u8], memory: &[u8], lent: &[u8]) {
     );
 }
 
-fn report(said: Said, b: Bench, volume: &[u8], memory: &[u8], lent: &[u8]) {
+fn report(said: Said, b: Session, volume: &[u8], memory: &[u8], lent: &[u8]) {
     match said {
-        Said::Skip => print::skip(),
+        Said::Skip => printed::skip(),
         Said::Told(a) => line(a, b, volume, memory, lent),
     }
 }
 
 // One cell: done, and its line printed.
-fn step(b: Bench, c: &[u8], volume: &mut [u8], memory: &mut [u8], lent: &mut [u8]) -> Bench {
+fn step(b: Session, c: &[u8], volume: &mut [u8], memory: &mut [u8], lent: &mut [u8]) -> Session {
     let t = turn(b, c, volume, memory, lent);
     let said = t.said;
-    let next = t.bench;
+    let next = t.session;
     report(said, next, volume, memory, lent);
     next
 }
@@ -64,8 +65,8 @@ fn main() {
     let mut volume = [0u8; 131200];
     let mut memory = [0u8; 5376];
     let mut lent = [0u8; 512];
-    let store = bench::empty();
-    let mut b = Bench {
+    let store = session::empty();
+    let mut b = Session {
         store,
         volume: 0,
         memory: 1280,

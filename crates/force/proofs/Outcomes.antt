@@ -7,13 +7,13 @@ use native.Mathlib.Omega.{arith}
 use lib.Dec.{eqb}
 use lib.ListN.{length, take, drop}
 use borrow.Author.Tests.{eq-eqb, ne-eqb}
-use Rattle.laws.proofs.Tests.{when-true, when-false}
+use Rattle.laws.proofs.Tables.{when-true, when-false}
 use Rattle.laws.proofs.Parts.{part-lent, part-length}
 use Rattle.laws.proofs.Places.{Valid, valid-facts, place-fits}
 use Rattle.laws.proofs.WellFormed.{Ready, ready, Formed, Memory, pending-fits, pending-length}
-use Rattle.model.specs.Tests.{firstOf}
+use Rattle.model.specs.Tables.{firstOf}
 use Rattle.model.specs.Bytes.{field, part, splice}
-use Rattle.model.specs.Geometry.{recordAt, start, store, geometryOf}
+use Rattle.model.specs.Geometry.{logSlot, start, store, geometryOf}
 use Rattle.model.specs.State.{pendingAt, pendingBytes}
 use Rattle.model.specs.Refusals.{stateRows, forceRows}
 use Rattle.model.specs.Calls.{Outcome, StoredItem, unchanged, forceOf, forcedState, replyOf, volumeAfter}
@@ -26,7 +26,8 @@ module _ (v m : List ℕ) (s : State) where
   pub refused : (n : ℕ) → n ≡ firstOf (stateRows v m s []) → (n ≡ 0 → ⊥)
       → (_≡_ {A = Reply} (record { answer = Refused n; state = s }) (replyOf (forceOf v m s))) × (v ≡ volumeAfter v (forceOf v m s .stored))
   unfolding forceOf forceRows volumeAfter
-  refused n e ne = rw (ne-eqb (firstOf (stateRows v m s [])) 0 (λ z. ne (e ∙ z))) (ap (λ (k : ℕ). record { answer = Refused k; state = s }) e, refl)
+  refused n e ne = rw (ne-eqb (firstOf (stateRows v m s [])) 0 (λ z. ne (e ∙ z)))
+      (ap (λ (k : ℕ). record { answer = Refused k; state = s }) e, refl)
 
   pub idle : firstOf (stateRows v m s []) ≡ 0 → s .pending ≡ 0
       → (_≡_ {A = Reply} (record { answer = Nothing; state = s }) (replyOf (forceOf v m s))) × (v ≡ volumeAfter v (forceOf v m s .stored))
@@ -38,7 +39,7 @@ module _ (v m : List ℕ) (s : State) where
     pub pages : g .pages ≤ 64
     pub durable : s .durable < 1024
     pub pending : 0 < s .pending
-    pub place : start g (recordAt (s .durable + 1)) + 64 ≤ length v
+    pub place : start g (logSlot g (s .durable + 1)) + 64 ≤ length v
     pub memory : pendingAt (s .durable + 1) + 64 ≤ length m
 
   pub room : (g : Geometry) → g ≡ geometryOf v → firstOf (stateRows v m s []) ≡ 0 → (s .pending ≡ 0 → ⊥) → Room g
@@ -46,7 +47,7 @@ module _ (v m : List ℕ) (s : State) where
       let r = ready v m s [] e in
       let f = valid-facts v (r .volume) in
       let w = r .state in
-      let k = place-fits (geometryOf v) v (f .size) (recordAt (s .durable + 1)) (omega arith, omega (arith, w .room)) in
+      let k = place-fits (geometryOf v) v (f .size) (logSlot (geometryOf v) (s .durable + 1)) (omega arith, omega (arith, w .room)) in
       record {
         pages = rw eg (f .p-high);
         durable = omega (arith, w .room, f .l-high);
@@ -58,13 +59,15 @@ module _ (v m : List ℕ) (s : State) where
   done : (g : Geometry) (x : List ℕ) (page : ℕ) (t : State) → g ≡ geometryOf v → firstOf (stateRows v m s []) ≡ 0 → (s .pending ≡ 0 → ⊥)
       → x ≡ pendingBytes m (s .durable + 1) → page ≡ field 2 8 x → t ≡ forcedState s (g .pages) page
       → (_≡_ {A = Reply} (record { answer = Done; state = t }) (replyOf (forceOf v m s)))
-      × (splice v (start g (recordAt (s .durable + 1))) x ≡ volumeAfter v (forceOf v m s .stored))
+      × (splice v (start g (logSlot g (s .durable + 1))) x ≡ volumeAfter v (forceOf v m s .stored))
   unfolding forceOf forceRows volumeAfter store
   done g x page t eg e ne ex ep et =
       let p : page ≡ field 2 8 (pendingBytes m (s .durable + 1)) = ep ∙ ap (λ (l : List ℕ). field 2 8 l) ex in
       rw (eq-eqb (firstOf (stateRows v m s [])) 0 e, ne-eqb (s .pending) 0 ne) (
-        ap (λ (q : State). record { answer = Done; state = q }) (et ∙ ap (λ (h : Geometry). forcedState s (h .pages) page) eg ∙ ap (forcedState s (geometryOf v .pages)) p),
-        ap (λ (h : Geometry). splice v (start h (recordAt (s .durable + 1))) x) eg ∙ ap (splice v (start (geometryOf v) (recordAt (s .durable + 1)))) ex,
+        ap (λ (q : State). record { answer = Done; state = q })
+            (et ∙ ap (λ (h : Geometry). forcedState s (h .pages) page) eg ∙ ap (forcedState s (geometryOf v .pages)) p),
+        ap (λ (h : Geometry). splice v (start h (logSlot h (s .durable + 1))) x) eg ∙ ap
+            (splice v (start (geometryOf v) (logSlot (geometryOf v) (s .durable + 1)))) ex,
       )
 
   -- the record as the code lends it
@@ -74,14 +77,16 @@ module _ (v m : List ℕ) (s : State) where
   lent-is : (from : ℕ) → from ≡ pendingAt (s .durable + 1) → lent from ≡ pendingBytes m (s .durable + 1)
   lent-is from e = part-lent m from 64 (from + 64) refl ∙ ap (λ (k : ℕ). part m k 64) e
 
-  pub lent-fits : (g : Geometry) (from at : ℕ) → Room g → from ≡ pendingAt (s .durable + 1) → at ≡ start g (recordAt (s .durable + 1)) → at + length (lent from) ≤ length v
+  pub lent-fits : (g : Geometry) (from at : ℕ) → Room g → from ≡ pendingAt (s .durable + 1) → at ≡ start g (logSlot g (s .durable + 1))
+      → at + length (lent from) ≤ length v
   lent-fits g from at r ef ea =
       let l : length (part m from 64) ≡ 64 = part-length m from 64 (omega (arith, r .memory)) in
       let k : length (lent from) ≡ 64 = ap length (part-lent m from 64 (from + 64) refl) ∙ l in
       omega (arith, r .place)
 
-  pub finish : (g : Geometry) (from at page : ℕ) (t : State) (w : List ℕ) → g ≡ geometryOf v → firstOf (stateRows v m s []) ≡ 0 → (s .pending ≡ 0 → ⊥)
-      → from ≡ pendingAt (s .durable + 1) → at ≡ start g (recordAt (s .durable + 1)) → page ≡ field 2 8 (lent from)
+  pub finish : (g : Geometry) (from at page : ℕ) (t : State) (w : List ℕ) → g ≡ geometryOf v → firstOf (stateRows v m s []) ≡ 0 →
+      (s .pending ≡ 0 → ⊥)
+      → from ≡ pendingAt (s .durable + 1) → at ≡ start g (logSlot g (s .durable + 1)) → page ≡ field 2 8 (lent from)
       → t ≡ forcedState s (g .pages) page → w ≡ splice v at (lent from)
       → (_≡_ {A = Reply} (record { answer = Done; state = t }) (replyOf (forceOf v m s))) × (w ≡ volumeAfter v (forceOf v m s .stored))
   finish g from at page t w eg e ne ef ea ep et ew =

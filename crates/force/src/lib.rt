@@ -7,18 +7,20 @@ use model::answer::Answer;
 use model::answer::Reply;
 use model::state::State;
 use state::next;
-use state::rows;
 use volume::heading;
 use volume::memory;
 use volume::place;
 
-// Rules out, for example: Nothing with records pending; a later record stored, or only the count lowered; an entry that keeps its old durable
-// number.
-pub fn force(s: State, v: &mut [u8], m: &[u8]) -> Reply
-    ensures reply { λ r. ⌜ r ≡ replyOf (forceOf (now (v .entry)) (now (m .entry)) s) ⌝ }
-    ensures volume { λ _. ⌜ now (v .exit) ≡ volumeAfter (now (v .entry)) (forceOf (now (v .entry)) (now (m .entry)) s .stored) ⌝ }
+// Stores the oldest pending record and lowers the pending count; Nothing where none is pending.
+// Ruled out: Nothing with records pending; a later record stored, or only the count lowered; an entry left with its old
+// durable number.
+pub fn force(s: State, volume: &mut [u8], memory: &[u8]) -> Reply
+    ensures reply { λ r. ⌜ r ≡ replyOf (forceOf (now (volume .entry)) (now (memory .entry)) s) ⌝ }
+    ensures volume { λ _.
+        ⌜ now (volume .exit)
+        ≡ volumeAfter (now (volume .entry)) (forceOf (now (volume .entry)) (now (memory .entry)) s .stored) ⌝ }
 {
-    let no = rows::refusal(v, m.len(), s);
+    let no = state::rows::refusal(s, volume, memory.len());
     if no != 0 {
         return Reply {
             answer: Answer::Refused(no),
@@ -31,13 +33,13 @@ pub fn force(s: State, v: &mut [u8], m: &[u8]) -> Reply
             state: s,
         };
     }
-    let g = heading::geometry(v);
+    let g = heading::geometry(volume);
     let n = s.durable + 1;
-    let from = memory::pendingat(n);
+    let from = memory::pending_at(n);
     let end = from + 64;
-    let record = &m[from..end];
-    let page = field::u16at(record, 8);
-    part::put(v, place::recordat(g, n), record);
+    let record = &memory[from..end];
+    let page = field::u16_at(record, 8);
+    part::put(volume, place::log_slot(g, n), record);
     Reply {
         answer: Answer::Done,
         state: next::forced(s, g.pages, page as u32),

@@ -8,9 +8,9 @@ use native.Mathlib.Omega.{arith}
 use lib.ListN.{length, take, replicate}
 use lib.Dec.{eqb}
 use borrow.Author.Tests.{eqb-true, eqb-false, leb-false, not-false}
-use Rattle.laws.proofs.Tests.{true-not-false}
+use Rattle.laws.proofs.Tables.{true-not-false}
 use Rattle.laws.proofs.Changes.{apply-length, apply-take, fits-facts}
-use Rattle.model.specs.Tests.{firstOf}
+use Rattle.model.specs.Tables.{firstOf}
 use Rattle.model.specs.Bytes.{splice}
 use Rattle.model.specs.Geometry.{geometryOf}
 use Rattle.model.specs.Change.{kindOf, lengthOf, offsetOf, fillOf, changeFits, fits, applyChange}

@@ -6,8 +6,8 @@ use Prim.Native.Nat.{ℕ, _+_}
 use lib.ListN.{length}
 use lib.Dec.{eqb}
 use borrow.Author.Tests.{eqb-true, not-true}
-use Rattle.laws.proofs.Tests.{byCases, and-left, and-right}
-use Rattle.model.specs.Tests.{Row, firstOf}
+use Rattle.laws.proofs.Tables.{byCases, and-left, and-right}
+use Rattle.model.specs.Tables.{Row, firstOf}
 use Rattle.model.specs.Checksum.{sealImage}
 use Rattle.model.specs.Geometry.{Place, pageAt, slotAt, recordAt, noteAt, width, geometryOf}
 use Rattle.model.specs.Item.{noteBytes}

@@ -9,8 +9,8 @@ use native.Mathlib.Omega.{arith}
 use lib.ListN.{length, List·getD-append}
 use lib.Dec.{eqb}
 use borrow.Author.Tests.{eqb-true, ltb-true, ltb-false, not-false}
-use Rattle.laws.proofs.Tests.{byCases, within-bounds}
-use Rattle.model.specs.Tests.{Row, firstOf, within}
+use Rattle.laws.proofs.Tables.{byCases, within-bounds}
+use Rattle.model.specs.Tables.{Row, firstOf, within}
 use Rattle.model.specs.Geometry.{geometryOf}
 use Rattle.model.specs.Index.{entryOf}
 use Rattle.model.specs.State.{frameBytes, holder, held}

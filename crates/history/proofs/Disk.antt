@@ -8,7 +8,7 @@ use native.Mathlib.Omega.{arith}
 use lib.ListN.{length}
 use lib.Dec.{eqb, leb}
 use borrow.Author.Tests.{eq-eqb, le-leb}
-use Rattle.laws.proofs.Tests.{byCases, and-both, or-left, or-right, every-all, within-holds}
+use Rattle.laws.proofs.Tables.{byCases, and-both, or-left, or-right, every-all, within-holds}
 use Rattle.model.specs.Bytes.{part}
 use Rattle.model.specs.Change.{kindOf}
 use Rattle.model.specs.Geometry.{pageAt, slotAt, recordAt, noteAt, start, item}

@@ -16,7 +16,7 @@ use Rattle.model.specs.declared.state.Entry.{Entry}
 use Rattle.model.specs.Item.{isWritten}
 use Rattle.model.specs.Index.{emptyEntry, emptyIndex, entryOf, setEntry, withNote, slotUsed}
 use Rattle.model.specs.AbstractLog.{Logged}
-use Rattle.laws.proofs.Tests.{byCases}
+use Rattle.laws.proofs.Tables.{byCases}
 use Rattle.history.proofs.Logs.{at, lastAt, last-ge, last-zero}
 
 -- ---- what notes say of a page

@@ -10,8 +10,8 @@ use lib.ListN.{length, getD, replicate, length-replicate, getD-replicate}
 use lib.Dec.{eqb}
 use native.Mathlib.Nat.{le-of-suc-le-suc}
 use borrow.Author.Tests.{eqb-true, eq-eqb}
-use Rattle.laws.proofs.Tests.{byCases, and-both, or-neither, true-not-false, within-bounds, within-holds}
-use Rattle.model.specs.Tests.{firstOf}
+use Rattle.laws.proofs.Tables.{byCases, and-both, or-neither, true-not-false, within-bounds, within-holds}
+use Rattle.model.specs.Tables.{firstOf}
 use Rattle.model.specs.Geometry.{Place, pageAt, slotAt, recordAt, noteAt, item, store}
 use Rattle.model.specs.Item.{validImage, validSomewhere, isWritten}
 use Rattle.model.specs.Index.{emptyEntry, slotUsed}

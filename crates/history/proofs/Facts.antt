@@ -8,7 +8,7 @@ use native.Mathlib.Omega.{arith}
 use lib.ListN.{length}
 use lib.Dec.{eqb, ltb}
 use borrow.Author.Tests.{le-ltb}
-use Rattle.laws.proofs.Tests.{byCases}
+use Rattle.laws.proofs.Tables.{byCases}
 use Rattle.model.specs.Geometry.{Place, pageAt, slotAt, item}
 use Rattle.model.specs.Item.{imageLsn, validImage}
 use Rattle.model.specs.Index.{entryOf}

@@ -5,7 +5,7 @@ use mathlib.Core.List.{List, _∷_}
 use Prim.Native.Nat.{ℕ, zero, suc, _+_, _-_, _≤_}
 use native.Mathlib.Omega.{arith}
 use lib.ListN.{length}
-use Rattle.laws.proofs.Tests.{true-not-false}
+use Rattle.laws.proofs.Tables.{true-not-false}
 use Rattle.laws.proofs.Items.{sealImage-valid, frameImage-page, frameImage-zeros}
 use Rattle.model.specs.Checksum.{imageSealed, sealImage}
 use Rattle.model.specs.Geometry.{Place, pageAt, slotAt, width, store}

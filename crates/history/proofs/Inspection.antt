@@ -8,8 +8,8 @@ use native.Mathlib.Omega.{arith}
 use lib.ListN.{length}
 use lib.Dec.{eqb}
 use borrow.Author.Tests.{eq-eqb, ne-eqb}
-use Rattle.laws.proofs.Tests.{within-holds}
-use Rattle.model.specs.Tests.{firstOf}
+use Rattle.laws.proofs.Tables.{within-holds}
+use Rattle.model.specs.Tables.{firstOf}
 use Rattle.model.specs.Bytes.{bytesOf, part}
 use Rattle.model.specs.Checksum.{sealImage}
 use Rattle.model.specs.Index.{entryOf}

@@ -9,7 +9,7 @@ use native.Mathlib.Omega.{arith}
 use lib.ListN.{length, getD, length-append, List·getD-append}
 use lib.Dec.{eqb}
 use borrow.Author.Tests.{eqb-true}
-use Rattle.laws.proofs.Tests.{and-left, and-right, or-cases, true-not-false}
+use Rattle.laws.proofs.Tables.{and-left, and-right, or-cases, true-not-false}
 use Rattle.model.specs.Bytes.{sameBytes}
 use Rattle.model.specs.Geometry.{Place, pageAt, slotAt, recordAt, noteAt, item}
 use Rattle.model.specs.Item.{validImage, frameImage, isWritten}

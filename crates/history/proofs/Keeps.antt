@@ -7,9 +7,9 @@ use native.Mathlib.Omega.{arith}
 use lib.ListN.{length}
 use lib.Dec.{eqb}
 use borrow.Author.Tests.{eq-eqb, ne-eqb, leb-false, ltb-false}
-use Rattle.laws.proofs.Tests.{byCases, true-not-false, within-holds}
+use Rattle.laws.proofs.Tables.{byCases, true-not-false, within-holds}
 use Rattle.laws.proofs.Notes.{note-length}
-use Rattle.model.specs.Tests.{firstOf}
+use Rattle.model.specs.Tables.{firstOf}
 use Rattle.model.specs.Bytes.{field}
 use Rattle.model.specs.Checksum.{sealImage}
 use Rattle.model.specs.Geometry.{pageAt, slotAt, recordAt, noteAt, logSlot, geometryOf, store}

@@ -7,8 +7,8 @@ use Prim.Native.Nat.{ℕ, zero, suc, _-_, _≤_, _<_}
 use native.Mathlib.Omega.{arith}
 use lib.ListN.{length}
 use borrow.Author.Tests.{eqb-false}
-use Rattle.laws.proofs.Tests.{true-not-false}
-use Rattle.model.specs.Tests.{Row, firstOf, within}
+use Rattle.laws.proofs.Tables.{true-not-false}
+use Rattle.model.specs.Tables.{Row, firstOf, within}
 use Rattle.model.specs.Bytes.{splice}
 use Rattle.model.specs.Geometry.{geometryOf, validVolume}
 use Rattle.model.specs.Item.{frameImage}

@@ -8,7 +8,7 @@ use native.Mathlib.Omega.{arith}
 use lib.ListN.{length, replicate}
 use lib.Dec.{eqb}
 use borrow.Author.Tests.{eqb-true, not-true}
-use Rattle.laws.proofs.Tests.{byCases, and-left, and-right, or-cases, true-not-false}
+use Rattle.laws.proofs.Tables.{byCases, and-left, and-right, or-cases, true-not-false}
 use Rattle.laws.proofs.Zeros.{zero-replicate, zero-fails}
 use Rattle.laws.proofs.EmptyVolume.{empty-geometry, empty-valid, empty-item}
 use Rattle.model.specs.Checksum.{sealed}

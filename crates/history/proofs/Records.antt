@@ -8,7 +8,7 @@ use native.Mathlib.Decide.{decLt}
 use lib.ListN.{length, length-append, length-replicate, List·getD-append}
 use lib.Dec.{eqb}
 use borrow.Author.Tests.{eqb-true}
-use Rattle.laws.proofs.Tests.{byCases}
+use Rattle.laws.proofs.Tables.{byCases}
 use Rattle.model.specs.declared.geometry.Geometry.{Geometry}
 use Rattle.model.specs.Change.{kindOf, lengthOf, fits}
 use Rattle.model.specs.Item.{imageLsn, imageBody, validImage, encodeChange}

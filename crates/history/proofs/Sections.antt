@@ -8,7 +8,7 @@ use native.Mathlib.Omega.{arith}
 use lib.ListN.{length, take, drop}
 use lib.Seq.{take-add, drop-drop}
 use lib.Dec.{eqb}
-use Rattle.laws.proofs.Tests.{and-left, and-right}
+use Rattle.laws.proofs.Tables.{and-left, and-right}
 use Rattle.laws.proofs.Checksums.{run-stops, run-goes}
 use Rattle.laws.proofs.Places.{total, In, valid-facts, item-store-same, item-store-other, geometry-store, valid-store}
 use Rattle.model.specs.Bytes.{part, allZero}

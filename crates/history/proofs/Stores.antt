@@ -7,7 +7,7 @@ use Prim.Native.Nat.{ℕ, suc, _≤_, _<_}
 use native.Mathlib.Omega.{arith}
 use native.Mathlib.Decide.{decLt, ℕ-discrete}
 use lib.ListN.{length, List·getD-append}
-use Rattle.laws.proofs.Tests.{byCases}
+use Rattle.laws.proofs.Tables.{byCases}
 use Rattle.laws.proofs.Places.{In, item-length}
 use Rattle.laws.proofs.Zeros.{zero-is, zero-fails}
 use Rattle.laws.proofs.Notes.{note-length}

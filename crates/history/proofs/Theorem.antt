@@ -9,9 +9,9 @@ use lib.ListN.{length}
 use lib.Seq.{take-append-seam}
 use lib.Dec.{eqb}
 use borrow.Author.Tests.{eqb-true}
-use Rattle.laws.proofs.Tests.{byCases}
+use Rattle.laws.proofs.Tables.{byCases}
 use Rattle.laws.proofs.Fields.{read-back}
-use Rattle.model.specs.Tests.{firstOf}
+use Rattle.model.specs.Tables.{firstOf}
 use Rattle.model.specs.Bytes.{le, bytesOf}
 use Rattle.model.specs.Item.{frameImage}
 use Rattle.model.specs.State.{frameBytes}

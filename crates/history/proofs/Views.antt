@@ -8,7 +8,7 @@ use native.Mathlib.Omega.{arith}
 use lib.ListN.{length}
 use lib.Dec.{eqb}
 use borrow.Author.Tests.{eqb-false}
-use Rattle.laws.proofs.Tests.{byCases}
+use Rattle.laws.proofs.Tables.{byCases}
 use Rattle.model.specs.Repair.{View, viewOf, walkOf, isBroken, rebuiltBody}
 use Rattle.model.specs.AbstractLog.{Logged}
 use Rattle.model.specs.declared.geometry.Geometry.{Geometry}

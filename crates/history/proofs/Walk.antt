@@ -8,7 +8,7 @@ use native.Mathlib.Omega.{arith}
 use lib.ListN.{length}
 use lib.Dec.{eqb, leb}
 use borrow.Author.Tests.{eq-eqb, eqb-true, lt-ltb, le-leb}
-use Rattle.laws.proofs.Tests.{byCases, and-left, and-right, or-right, or-left, true-not-false}
+use Rattle.laws.proofs.Tables.{byCases, and-left, and-right, or-right, or-left, true-not-false}
 use Rattle.model.specs.declared.geometry.Geometry.{Geometry}
 use Rattle.model.specs.declared.answer.Stop.the-variants.{Format}
 use Rattle.model.specs.Change.{kindOf, zeroBody, applyChange}

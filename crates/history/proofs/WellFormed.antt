@@ -9,8 +9,8 @@ use native.Mathlib.Decide.{decLt}
 use lib.ListN.{length, getD}
 use lib.Dec.{eqb, ltb}
 use borrow.Author.Tests.{eq-eqb, ne-eqb, eqb-true, eqb-false, le-leb, lt-ltb, le-ltb}
-use Rattle.laws.proofs.Tests.{byCases, and-both, or-left, or-right, every-all, within-holds}
-use Rattle.model.specs.Tests.{all, within}
+use Rattle.laws.proofs.Tables.{byCases, and-both, or-left, or-right, every-all, within-holds}
+use Rattle.model.specs.Tables.{all, within}
 use Rattle.model.specs.Geometry.{geometryOf, validVolume}
 use Rattle.model.specs.Item.{isWritten, noteLayout}
 use Rattle.model.specs.Index.{emptyEntry, entryRow, entryOf}

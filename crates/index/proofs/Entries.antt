@@ -9,7 +9,7 @@ use lib.Dec.{leb, eqb, lit<}
 use lib.ListN.{length, drop, getD, set, drop-of-length-le}
 use lib.Seq.{drop-cons}
 use borrow.Author.Tests.{le-leb, leb-true, eq-eqb, ne-eqb}
-use Rattle.laws.proofs.Tests.{byCases, when-true, when-false}
+use Rattle.laws.proofs.Tables.{byCases, when-true, when-false}
 use Rattle.model.specs.Index.{emptyEntry, entryOf, slotUsed, withNote, enterNote}
 use Rattle.model.specs.declared.item.Note.{Note}
 use Rattle.model.specs.declared.state.Entry.{Entry}

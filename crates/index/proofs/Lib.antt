@@ -1,5 +1,6 @@
 -- Laws that belong to no one function.
 pub mod Entries
+pub mod ColumnLaws
 pub mod Pass
 pub mod LogPass
 pub mod NotePass

@@ -1,21 +1,19 @@
 -- Laws of a pass over a section, the log's and the notes' alike: its items have right checksums and fit, one by one, up to the first
--- that has not, and what the whole section then is.
+-- that has not, and whether the whole section then keeps the restart rule.
 use mathlib.Core.Path.{_≡_, refl, sym, ap, _∙_}
 use mathlib.Core.Bool.{Bool, true, false, cond, _&&_}
 use mathlib.Core.List.{List, [], _∷_}
 use Prim.Native.Nat.{ℕ, zero, suc, _+_, _-_, _*_, _≤_, _<_}
 use native.Mathlib.Nat.{add-zero, zero-add, mul-zero, mul-add, mul-one, mul-sub, mul-le-mul-left, sub-zero}
 use native.Mathlib.Omega.{arith}
-use lib.ListN.{length, take, drop, set}
-use Rattle.laws.proofs.Tests.{every-none, every-more, every-fails, when-true, when-false}
+use lib.ListN.{length, take, drop}
+use Rattle.laws.proofs.Tables.{every-none, every-more, every-fails, when-true, when-false}
 use Rattle.laws.proofs.Parts.{part-lent}
-use Rattle.laws.proofs.Checksums.{run-none, run-stops}
-use Rattle.codec.proofs.Runs.{run-on}
-use Rattle.model.specs.Tests.{every}
+use Rattle.laws.proofs.Checksums.{run-none, run-stops, run-goes}
+use Rattle.model.specs.Tables.{every}
 use Rattle.model.specs.Bytes.{part, allZero}
 use Rattle.model.specs.Checksum.{sealed, sealedRun}
 use Rattle.model.specs.Scan.{restZero}
-use Rattle.model.specs.declared.state.Entry.{Entry}
 use Rattle.index.specs.Section.{sectionOf, brokenSection}
 use Rattle.index.specs.declared.section.Section.{Section}
 
@@ -24,15 +22,13 @@ pub guarded : (a b c t u : Bool) → (c ≡ true → t ≡ u) → (a && (b && (c
 guarded a b true t u h = rw (h refl)
 guarded a b false t u h = refl
 
--- A section of the volume v: `most` items of `size` bytes and a checksum from place base on, with the bytes and the test of
--- item i + 1 and the index after i items.
+-- A section of the volume v: `most` items of `size` bytes and a checksum from place base on, with the bytes and the test of item i + 1.
 pub record Items (v : List ℕ) : Type 0 where
   pub size : ℕ
   pub most : ℕ
   pub base : ℕ
   pub bytes : ℕ → List ℕ
   pub fit : ℕ → Bool
-  pub rows : ℕ → List Entry
 
 -- the items are parts at equal distances
 abbrev pub Spaced : (v : List ℕ) → Items v → Type 0
@@ -43,32 +39,25 @@ module _ (v : List ℕ) (s : Items v) where
   abbrev pub run : ℕ
   run = sealedRun (s .size) (s .most) v (s .base)
 
-  -- the section as a scan finds it
-  abbrev pub whole : Section
-  whole = sectionOf (every run (s .fit) && restZero (s .size + 4) (s .most) v (s .base) run) run (s .rows run)
+  -- the section keeps the restart rule
+  abbrev pub keeps : Bool
+  keeps = every run (s .fit) && restZero (s .size + 4) (s .most) v (s .base) run
 
-  -- i items are passed and gave the index
-  pub record Passed (i : ℕ) (index : List Entry) : Type 0 where
+  -- i items are passed
+  pub record Passed (i : ℕ) : Type 0 where
     pub below : i ≤ s .most
     pub held : every i (s .fit) ≡ true
     pub left : i + sealedRun (s .size) (s .most - i) v (s .base + (s .size + 4) * i) ≡ run
-    pub same : index ≡ s .rows i
 
-  -- item i + 1, judged after items that gave the index: its test, and the entry that it leaves in a row
-  pub record Judged (i : ℕ) (index : List Entry) (row : ℕ) (ok : Bool) (after : Entry) : Type 0 where
-    pub test : ok ≡ s .fit i
-    pub entered : ok ≡ true → set index row after ≡ s .rows (i + 1)
-
-  pub passed-none : (index : List Entry) → index ≡ s .rows 0 → Passed 0 index
-  passed-none index e =
+  pub passed-none : Passed 0
+  passed-none =
       record {
         below = omega arith;
         held = every-none (s .fit);
         left = rw (sub-zero, mul-zero, add-zero (s .base), zero-add);
-        same = e;
       }
 
-  module _ (i : ℕ) (index : List Entry) (p : Passed i index) where
+  module _ (i : ℕ) (p : Passed i) where
     -- there is no next item
     pub run-full : s .most ≤ i → run ≡ i
     run-full h =
@@ -94,40 +83,43 @@ module _ (v : List ℕ) (s : Items v) where
         next =
             let q : (s .size + 4) * (i + 1) ≡ (s .size + 4) * i + (s .size + 4) = rw (mul-add, mul-one) in
             let d : at + (s .size + 4) ≡ s .base + (s .size + 4) * (i + 1) = omega arith in
-            run-on (s .size) (s .most) i v at h (ap (sealed (s .size)) (spaced i) ∙ e)
+            let m : s .most - i ≡ suc (s .most - (i + 1)) = omega arith in
+            ap (λ (k : ℕ). sealedRun (s .size) k v at) m
+            ∙ run-goes (s .size) v (s .most - (i + 1)) at (ap (sealed (s .size)) (spaced i) ∙ e)
             ∙ ap (λ (k : ℕ). suc (sealedRun (s .size) (s .most - (i + 1)) v k)) d
 
-        module _ (row : ℕ) (ok : Bool) (after : Entry) (j : Judged i index row ok after) where
-          pub passed-more : ok ≡ true → (x : Entry) → x ≡ after → Passed (i + 1) (set index row x)
-          passed-more t x ex =
+        module _ (ok : Bool) (test : ok ≡ s .fit i) where
+          pub passed-more : ok ≡ true → Passed (i + 1)
+          passed-more t =
               record {
                 below = omega arith;
-                held = every-more (s .fit) i (p .held) (sym (j .test) ∙ t);
+                held = every-more (s .fit) i (p .held) (sym test ∙ t);
                 left = omega (arith, next, p .left);
-                same = ap (set index row) ex ∙ j .entered t;
               }
 
-          pub whole-unfit : ok ≡ false → brokenSection ≡ whole
-          whole-unfit f =
+          pub unfit-breaks : ok ≡ false → keeps ≡ false
+          unfit-breaks f =
               let l : i < run = omega (arith, next, p .left) in
-              sym
-              (when-false _ _
-              (ap (λ (t : Bool). t && restZero (s .size + 4) (s .most) v (s .base) run) (every-fails (s .fit) run i l (sym (j .test) ∙ f))))
+              ap (λ (t : Bool). t && restZero (s .size + 4) (s .most) v (s .base) run) (every-fails (s .fit) run i l (sym test ∙ f))
 
-    -- the run ends here
-    module _ (e : run ≡ i) where
-      keeps : (every run (s .fit) && restZero (s .size + 4) (s .most) v (s .base) run) ≡ restZero (s .size + 4) (s .most) v (s .base) i
-      keeps = rw (e, p .held)
+    -- the run ends here: the rest decides
+    pub rest-decides : run ≡ i → (r : Bool) → restZero (s .size + 4) (s .most) v (s .base) i ≡ r → keeps ≡ r
+    rest-decides e r q = rw (e, p .held, q)
 
-      pub whole-rest : restZero (s .size + 4) (s .most) v (s .base) i ≡ false → brokenSection ≡ whole
-      whole-rest r = sym (when-false _ _ (keeps ∙ r))
+-- a broken section is not valid
+pub never : {A : Type 0} (s : Section) → s ≡ brokenSection → s .valid ≡ true → A
+never s e h =
+    let f : false ≡ true = sym (ap (λ (x : Section). x .valid) e) ∙ h in
+    let z : _≡_ {A = ℕ} 0 1 = cc in
+    absurd (omega arith)
 
-      pub whole-kept : restZero (s .size + 4) (s .most) v (s .base) i ≡ true
-          → _≡_ {A = Section} (record { valid = true; count = i; index = index }) whole
-      whole-kept r =
-          ap (λ (l : List Entry). record { valid = true; count = i; index = l }) (p .same)
-          ∙ ap (λ (k : ℕ). record { valid = true; count = k; index = s .rows k }) (sym e)
-          ∙ sym (when-true _ _ (keeps ∙ r))
+-- what a section is found to be
+module _ (keeps : Bool) (n : ℕ) where
+  pub section-broken : keeps ≡ false → brokenSection ≡ sectionOf keeps n
+  section-broken h = sym (when-false _ _ h)
+
+  pub section-kept : keeps ≡ true → (i : ℕ) → n ≡ i → _≡_ {A = Section} (record { valid = true; count = i }) (sectionOf keeps n)
+  section-kept h i e = ap (λ (k : ℕ). record { valid = true; count = k }) (sym e) ∙ sym (when-true _ _ h)
 
 -- ---- the slots past the run
 

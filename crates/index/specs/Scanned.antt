@@ -1,24 +1,30 @@
--- The scan of a volume, with its refusals.
+-- The scan of a volume, with its refusals, and what a clean one gives.
 use Prim.Native.Nat.{ℕ}
-use mathlib.Core.Bool.{Bool, cond, not}
+use mathlib.Core.Bool.{not}
 use mathlib.Core.List.{List, [], _∷_}
-use lib.Dec.{eqb}
-use Rattle.model.specs.Tests.{Row, firstOf}
+use Rattle.model.specs.Tables.{Row, firstOf}
 use Rattle.model.specs.Geometry.{geometryOf, validVolume}
-use Rattle.model.specs.Index.{emptyIndex}
 use Rattle.model.specs.Scan.{validLog, durableCount, validNotes, noteCount, indexOf}
+use Rattle.model.specs.declared.state.Entry.{Entry}
+use Rattle.index.specs.declared.Counts.{Counts}
 use Rattle.index.specs.declared.Scanned.{Scanned}
 
 unfoldable pub scanRows : List ℕ → List Row
 scanRows v =
     (not (validVolume v), 1) ∷ (not (validLog (geometryOf v) v), 17) ∷ (not (validNotes (geometryOf v) v), 18) ∷ []
 
-abbrev pub refusedScan : ℕ → Scanned
-refusedScan n = record { refusal = n; durable = 0; notes = 0; index = emptyIndex }
+-- 0, or the refusal of a scan
+abbrev pub scanRefusal : List ℕ → ℕ
+scanRefusal v = firstOf (scanRows v)
 
-unfoldable pub scanOf : List ℕ → Scanned
-scanOf v =
-    let g = geometryOf v in
-    cond (eqb (firstOf (scanRows v)) 0)
-    (record { refusal = 0; durable = durableCount g v; notes = noteCount g v; index = indexOf g v })
-    (refusedScan (firstOf (scanRows v)))
+-- the index that a clean scan gives
+abbrev pub scannedIndex : List ℕ → List Entry
+scannedIndex v = indexOf (geometryOf v) v
+
+-- what a clean scan counts, and what it gives
+abbrev pub countsOf : List ℕ → Counts
+countsOf v = record { refusal = 0; durable = durableCount (geometryOf v) v; notes = noteCount (geometryOf v) v }
+
+abbrev pub scannedOf : List ℕ → Scanned
+scannedOf v =
+    record { refusal = 0; durable = durableCount (geometryOf v) v; notes = noteCount (geometryOf v) v; index = scannedIndex v }

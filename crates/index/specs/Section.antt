@@ -5,11 +5,10 @@ use mathlib.Core.Bool.{Bool, true, false, cond, _&&_, not}
 use mathlib.Core.List.{List, [], _∷_}
 use lib.Dec.{eqb, leb}
 use lib.ListN.{length}
-use Rattle.model.specs.Tests.{all, within}
+use Rattle.model.specs.Tables.{all, within}
 use Rattle.model.specs.Geometry.{lengthFor}
 use Rattle.model.specs.Item.{firstIsFormat, noteLayout, isWritten}
-use Rattle.model.specs.Index.{emptyIndex}
-use Rattle.model.specs.Scan.{validLog, durableCount, logIndex, validNotes, noteCount, indexOf}
+use Rattle.model.specs.Scan.{validLog, durableCount, validNotes, noteCount}
 use Rattle.model.specs.declared.geometry.Geometry.{Geometry}
 use Rattle.model.specs.declared.item.LogRecord.{LogRecord}
 use Rattle.model.specs.declared.item.Note.{Note}
@@ -31,10 +30,6 @@ abbrev pub recordFollows : Bool → LogRecord → ℕ → ℕ → ℕ → Bool
 recordFollows layout e pages last n =
     all (layout ∷ eqb (e .lsn) n ∷ within pages (e .page) ∷ eqb (e .prev) last ∷ firstIsFormat e ∷ [])
 
--- a page's entry with its record n, as enterRecord leaves it
-abbrev pub loggedEntry : Entry → ℕ → Entry
-loggedEntry e n = record { last = n; durable = n; written = e .written; slot = e .slot; backup = e .backup }
-
 -- noteFollows, of its page's entry and whether its slot is in the index
 abbrev pub noteAfter : Entry → Note → ℕ → Bool → Bool
 noteAfter e n slots used =
@@ -49,14 +44,14 @@ noteAgrees n k pages durable page follows =
 -- ---- a section
 
 abbrev pub brokenSection : Section
-brokenSection = record { valid = false; count = 0; index = emptyIndex }
+brokenSection = record { valid = false; count = 0 }
 
--- the section keeps the rule: the count of its items and the index after them
-abbrev pub sectionOf : Bool → ℕ → List Entry → Section
-sectionOf keeps n index = cond keeps (record { valid = true; count = n; index = index }) brokenSection
+-- the section keeps the rule, and the count of its items
+abbrev pub sectionOf : Bool → ℕ → Section
+sectionOf keeps n = cond keeps (record { valid = true; count = n }) brokenSection
 
 unfoldable pub logSection : Geometry → List ℕ → Section
-logSection g v = sectionOf (validLog g v) (durableCount g v) (logIndex g v (durableCount g v))
+logSection g v = sectionOf (validLog g v) (durableCount g v)
 
 unfoldable pub noteSection : Geometry → List ℕ → Section
-noteSection g v = sectionOf (validNotes g v) (noteCount g v) (indexOf g v)
+noteSection g v = sectionOf (validNotes g v) (noteCount g v)

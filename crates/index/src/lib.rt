@@ -1,7 +1,11 @@
 // The scan of a volume's log and notes into the page recovery index, for any bytes and without memory or state.
 ghost use mathlib.Core.Path.{_≡_};
-ghost use Rattle.index.specs.Scanned.{scanOf, refusedScan};
+ghost use lib.ListN.{replicate};
+ghost use Rattle.model.specs.Index.{entryOf};
+ghost use Rattle.index.specs.Columns.{Blank, Columns};
+ghost use Rattle.index.specs.Scanned.{scanRefusal, scannedIndex, countsOf, scannedOf};
 
+pub mod columns;
 pub mod log;
 pub mod notes;
 pub mod rows;
@@ -10,7 +14,14 @@ pub mod section;
 use model::state::Entry;
 use volume::heading;
 
-// What a scan gives: 0 or the refusal, the counts of durable log records and of notes, and the index.
+// What a scan counts: 0 or the refusal, and the counts of durable log records and of notes.
+pub struct Counts {
+    pub refusal: u32,
+    pub durable: u32,
+    pub notes: u32,
+}
+
+// What a scan gives: its counts, and the index.
 pub struct Scanned {
     pub refusal: u32,
     pub durable: u32,
@@ -18,40 +29,89 @@ pub struct Scanned {
     pub index: [Entry; 64],
 }
 
-fn refused(n: u32) -> Scanned
-    ensures { λ r. ⌜ r ≡ refusedScan n ⌝ }
+// What a scan gives of one page.
+pub struct Found {
+    pub refusal: u32,
+    pub entry: Entry,
+}
+
+fn refused(n: u32) -> Counts
+    ensures { λ r. ⌜ r .refusal ≡ n ⌝ }
 {
-    Scanned {
+    Counts {
         refusal: n,
         durable: 0,
         notes: 0,
-        index: [rows::EMPTY; 64],
     }
 }
 
-// Scans a volume: refused 1, 17 or 18, or the counts and the index that its log and notes give.
-pub fn scan(v: &[u8]) -> Scanned
-    ensures { λ r. ⌜ r ≡ scanOf (now (v .entry)) ⌝ }
+// Scans a volume into columns: refused 1, 17 or 18, or the counts and the columns that its log and notes give.
+fn fill(
+    volume: &[u8],
+    last: &mut [u32],
+    written: &mut [u32],
+    slots: &mut [u8],
+    backup: &mut [u32],
+) -> Counts
+    requires { ⌜ now last ≡ replicate 64 0 ⌝ }
+    requires { ⌜ Blank (now written) (now slots) (now backup) ⌝ }
+    ensures refusal { λ r. ⌜ r .refusal ≡ scanRefusal (now (volume .entry)) ⌝ }
+    ensures counts { λ r. ⌜ (r .refusal ≡ 0 → r ≡ countsOf (now (volume .entry))) ⌝ }
+    ensures columns { λ r. ⌜ (r .refusal ≡ 0
+        → Columns (scannedIndex (now (volume .entry)))
+        (now (last .exit)) (now (written .exit)) (now (slots .exit)) (now (backup .exit))) ⌝ }
 {
-    if !heading::valid(v) {
+    if !heading::valid(volume) {
         return refused(1);
     }
-    let g = heading::geometry(v);
-    let logged = log::scan(v, g);
+    let g = heading::geometry(volume);
+    let logged = log::scan(volume, g, last);
     if !logged.valid {
         return refused(17);
     }
-    let durable = logged.count;
-    let index = logged.index;
-    let noted = notes::scan(v, g, durable, index);
+    let noted = notes::scan(volume, g, logged.count, written, slots, backup);
     if !noted.valid {
         return refused(18);
     }
-    let index = noted.index;
-    Scanned {
+    Counts {
         refusal: 0,
-        durable,
+        durable: logged.count,
         notes: noted.count,
+    }
+}
+
+// Scans a volume. What a refused scan gives besides its number means nothing.
+pub fn scan(volume: &[u8]) -> Scanned
+    ensures refusal { λ r. ⌜ r .refusal ≡ scanRefusal (now (volume .entry)) ⌝ }
+    ensures clean { λ r. ⌜ (r .refusal ≡ 0 → r ≡ scannedOf (now (volume .entry))) ⌝ }
+{
+    let mut last = [0u32; 64];
+    let mut written = [0u32; 64];
+    let mut slots = [0u8; 64];
+    let mut backup = [0u32; 64];
+    let counts = fill(volume, &mut last, &mut written, &mut slots, &mut backup);
+    let index = columns::gather(&last, &written, &slots, &backup);
+    Scanned {
+        refusal: counts.refusal,
+        durable: counts.durable,
+        notes: counts.notes,
         index,
+    }
+}
+
+// Scans a volume for one page's entry, without an array of all entries.
+pub fn find(volume: &[u8], page: u32) -> Found
+    ensures refusal { λ r. ⌜ r .refusal ≡ scanRefusal (now (volume .entry)) ⌝ }
+    ensures clean { λ r. ⌜ (r .refusal ≡ 0 → r .entry ≡ entryOf (scannedIndex (now (volume .entry))) page) ⌝ }
+{
+    let mut last = [0u32; 64];
+    let mut written = [0u32; 64];
+    let mut slots = [0u8; 64];
+    let mut backup = [0u32; 64];
+    let counts = fill(volume, &mut last, &mut written, &mut slots, &mut backup);
+    let entry = columns::entry(&last, &written, &slots, &backup, page);
+    Found {
+        refusal: counts.refusal,
+        entry,
     }
 }

@@ -1,6 +1,10 @@
-// The log: its records judged one by one and entered in the index.
+// The log: its records judged one by one, and the last number of each page.
 ghost use mathlib.Core.Path.{_≡_};
-ghost use Rattle.index.specs.Section.{Sized, loggedEntry, recordFollows, logSection};
+ghost use mathlib.Core.Bool.{true};
+ghost use lib.ListN.{replicate};
+ghost use Rattle.model.specs.Scan.{logIndex};
+ghost use Rattle.index.specs.Columns.{lasts};
+ghost use Rattle.index.specs.Section.{Sized, recordFollows, logSection};
 use crate::rows;
 use crate::section;
 use crate::section::Section;
@@ -8,7 +12,6 @@ use codec::checksum;
 use item::record;
 use model::geometry::Geometry;
 use model::item::LogRecord;
-use model::state::Entry;
 use volume::place;
 
 // Record n of a volume with these pages, of a page whose last earlier record is `last`.
@@ -20,49 +23,36 @@ fn fits(layout: bool, e: LogRecord, pages: u32, last: u32, n: u32) -> bool
     layout & ((e.lsn == n) & (inside & ((e.prev == last) & ((e.kind == 1) | (1 <= e.prev)))))
 }
 
-// A page's entry with its record n.
-fn logged(e: Entry, n: u32) -> Entry
-    ensures { λ r. ⌜ r ≡ loggedEntry e n ⌝ }
-{
-    Entry {
-        last: n,
-        durable: n,
-        written: e.written,
-        slot: e.slot,
-        backup: e.backup,
-    }
-}
-
-// Scans the log.
-pub fn scan(v: &[u8], g: Geometry) -> Section
-    requires { ⌜ Sized g (now v) ⌝ }
-    ensures { λ r. ⌜ r ≡ logSection g (now (v .entry)) ⌝ }
+// Scans the log into the column of last numbers.
+pub fn scan(volume: &[u8], g: Geometry, last: &mut [u32]) -> Section
+    requires { ⌜ Sized g (now volume) ⌝ }
+    requires { ⌜ now last ≡ replicate 64 0 ⌝ }
+    ensures section { λ r. ⌜ r ≡ logSection g (now (volume .entry)) ⌝ }
+    ensures last { λ r. ⌜ (r .valid ≡ true → now (last .exit) ≡ lasts (logIndex g (now (volume .entry)) (r .count))) ⌝ }
 {
     let records = g.records;
     let pages = g.pages;
-    let mut index = [rows::EMPTY; 64];
     let mut n: u32 = 0;
     while n < records {
-        let r = place::record(v, g, n + 1);
+        let r = place::record(volume, g, n + 1);
         if !checksum::holds(r, 60) {
             break;
         }
         let e = record::read(r);
         let i = rows::row(e.page as u32);
-        let was = index[i];
-        if !fits(record::layout(r), e, pages, was.last, n + 1) {
+        let was = last[i];
+        if !fits(record::layout(r), e, pages, was, n + 1) {
             return section::broken();
         }
-        index[i] = logged(was, n + 1);
+        last[i] = n + 1;
         n += 1;
     }
-    let at = place::recordat(g, 1);
-    if !section::rest(v, at, 64, records as usize, n as usize) {
+    let at = place::record_at(g, 1);
+    if !section::rest(volume, at, 64, records as usize, n as usize) {
         return section::broken();
     }
     Section {
         valid: true,
         count: n,
-        index,
     }
 }

@@ -1,7 +1,10 @@
-// The notes: judged one by one and entered in the index that the log gave.
+// The notes: judged one by one, and what they say of each page.
 ghost use mathlib.Core.Path.{_≡_};
-ghost use Rattle.model.specs.Scan.{logRecord, durableCount, logIndex};
+ghost use mathlib.Core.Bool.{true};
+ghost use Rattle.model.specs.Scan.{logRecord, durableCount, noteIndex};
+ghost use Rattle.index.specs.Columns.{Blank, Noted, earlierEntry};
 ghost use Rattle.index.specs.Section.{Sized, noteAfter, noteAgrees, noteSection};
+use crate::columns;
 use crate::rows;
 use crate::section;
 use crate::section::Section;
@@ -14,10 +17,23 @@ use model::state::Entry;
 use volume::place;
 
 // The page of record n.
-fn page(v: &[u8], g: Geometry, n: u32) -> u16
-    ensures { λ r. ⌜ r ≡ logRecord g (now (v .entry)) n .page ⌝ }
+fn page(volume: &[u8], g: Geometry, n: u32) -> u16
+    ensures { λ r. ⌜ r ≡ logRecord g (now (volume .entry)) n .page ⌝ }
 {
-    field::u16at(v, place::recordat(g, n) + 8)
+    field::u16_at(volume, place::log_slot(g, n) + 8)
+}
+
+// An entry as earlier notes left it; no note reads or changes the numbers of its records.
+fn earlier(written: u32, slot: u8, backup: u32) -> Entry
+    ensures { λ r. ⌜ r ≡ earlierEntry written slot backup ⌝ }
+{
+    Entry {
+        last: 0,
+        durable: 0,
+        written,
+        slot,
+        backup,
+    }
 }
 
 // A note may follow those that gave its page's entry; `used`: its slot is in the index.
@@ -41,40 +57,52 @@ fn fits(n: Note, k: u32, pages: u32, durable: u32, page: u16, follows: bool) -> 
     note::layout(n) & ((n.number == k) & (inside & (known & ((page == n.page) & follows))))
 }
 
-// Scans the notes after a log of `durable` records that gave the index.
-pub fn scan(v: &[u8], g: Geometry, durable: u32, mut index: [Entry; 64]) -> Section
-    requires { ⌜ Sized g (now v) ⌝ }
-    requires { ⌜ durable ≡ durableCount g (now v) ⌝ }
-    requires { ⌜ index ≡ logIndex g (now v) (durableCount g (now v)) ⌝ }
-    ensures { λ r. ⌜ r ≡ noteSection g (now (v .entry)) ⌝ }
+// Scans the notes after a log of `durable` records into the columns of written numbers, slots and backups.
+pub fn scan(
+    volume: &[u8],
+    g: Geometry,
+    durable: u32,
+    written: &mut [u32],
+    slots: &mut [u8],
+    backup: &mut [u32],
+) -> Section
+    requires { ⌜ Sized g (now volume) ⌝ }
+    requires { ⌜ durable ≡ durableCount g (now volume) ⌝ }
+    requires { ⌜ Blank (now written) (now slots) (now backup) ⌝ }
+    ensures section { λ r. ⌜ r ≡ noteSection g (now (volume .entry)) ⌝ }
+    ensures columns { λ r. ⌜ (r .valid ≡ true
+        → Noted (noteIndex g (now (volume .entry)) (r .count))
+        (now (written .exit)) (now (slots .exit)) (now (backup .exit))) ⌝ }
 {
     let notes = g.notes;
     let pages = g.pages;
-    let slots = g.slots;
+    let count = g.slots;
     let mut k: u32 = 0;
     while k < notes {
-        let r = place::note(v, g, k + 1);
+        let r = place::note(volume, g, k + 1);
         if !checksum::holds(r, 12) {
             break;
         }
         let n = note::read(r);
         let i = rows::row(n.page as u32);
-        let was = index[i];
-        let used = rows::used(index, n.slot as u32);
-        let follows = follows(was, n, slots, used);
-        if !fits(n, k + 1, pages, durable, page(v, g, n.lsn), follows) {
+        let was = earlier(written[i], slots[i], backup[i]);
+        let used = columns::used(slots, n.slot as u32);
+        let follows = follows(was, n, count, used);
+        if !fits(n, k + 1, pages, durable, page(volume, g, n.lsn), follows) {
             return section::broken();
         }
-        index[i] = rows::noted(was, n);
+        let e = rows::noted(was, n);
+        written[i] = e.written;
+        slots[i] = e.slot;
+        backup[i] = e.backup;
         k += 1;
     }
-    let at = place::noteat(g, 1);
-    if !section::rest(v, at, 16, notes as usize, k as usize) {
+    let at = place::note_at(g, 1);
+    if !section::rest(volume, at, 16, notes as usize, k as usize) {
         return section::broken();
     }
     Section {
         valid: true,
         count: k,
-        index,
     }
 }

@@ -4,15 +4,12 @@ ghost use Prim.Native.Nat.{_+_, _*_, _≤_};
 ghost use lib.ListN.{length};
 ghost use Rattle.model.specs.Scan.{restZero};
 ghost use Rattle.index.specs.Section.{brokenSection};
-use crate::rows;
 use codec::part;
-use model::state::Entry;
 
-// Whether the section keeps the restart rule, and if so the count of its items and the index after them.
+// Whether the section keeps the restart rule, and if so the count of its items.
 pub struct Section {
     pub valid: bool,
     pub count: u32,
-    pub index: [Entry; 64],
 }
 
 // A section that breaks the rule.
@@ -22,19 +19,18 @@ pub fn broken() -> Section
     Section {
         valid: false,
         count: 0,
-        index: [rows::EMPTY; 64],
     }
 }
 
 // The slots past slot n + 1 are zero, of `count` slots of `size` bytes that start at a place.
-pub fn rest(v: &[u8], at: usize, size: usize, count: usize, n: usize) -> bool
-    requires { ⌜ at + size * count ≤ length (now v) ⌝ }
-    ensures { λ r. ⌜ r ≡ restZero size count (now (v .entry)) at n ⌝ }
+pub fn rest(volume: &[u8], at: usize, size: usize, count: usize, n: usize) -> bool
+    requires { ⌜ at + size * count ≤ length (now volume) ⌝ }
+    ensures { λ r. ⌜ r ≡ restZero size count (now (volume .entry)) at n ⌝ }
 {
     if count <= n {
         return true;
     }
     let from = at + size * (n + 1);
     let end = at + size * count;
-    part::zero(&v[from..end])
+    part::zero(&volume[from..end])
 }

@@ -7,13 +7,13 @@ use native.Mathlib.Omega.{arith}
 use lib.Dec.{eqb}
 use lib.ListN.{length}
 use borrow.Author.Tests.{eq-eqb, ne-eqb, eqb-true, eqb-false, not-false}
-use Rattle.laws.proofs.Tests.{Numbered, none-at, byCases, within-bounds}
+use Rattle.laws.proofs.Tables.{Numbered, none-at, within-bounds}
 use Rattle.repair.proofs.Scanned.{scanned-ready}
-use Rattle.model.specs.Tests.{Row, firstOf, within}
+use Rattle.model.specs.Tables.{Row, firstOf, within}
 use Rattle.model.specs.Checksum.{seal}
 use Rattle.model.specs.Geometry.{geometryOf, validVolume}
 use Rattle.model.specs.Index.{entryOf}
-use Rattle.model.specs.Scan.{validLog, validNotes, indexOf, durableCount, noteCount}
+use Rattle.model.specs.Scan.{validLog, validNotes, indexOf}
 use Rattle.model.specs.Repair.{viewOf, repairOf, rebuilt}
 use Rattle.model.specs.Refusals.{inspectRows}
 use Rattle.model.specs.Calls.{Inspected, inspectOf}
@@ -22,9 +22,9 @@ use Rattle.model.specs.declared.state.Entry.{Entry}
 use Rattle.model.specs.declared.answer.Answer.{Answer}
 use Rattle.model.specs.declared.answer.Answer.the-variants.{Refused, Repaired}
 use Rattle.model.specs.declared.answer.Repair.{Repair}
-use Rattle.index.specs.Scanned.{scanRows, scanOf, refusedScan}
-use Rattle.index.specs.declared.Scanned.{Scanned}
-use Rattle.repair.specs.Chain.{Ready}
+use Rattle.index.specs.Scanned.{scanRows, scanRefusal, scannedIndex}
+use Rattle.index.proofs.Whole.{clean}
+use Rattle.repair.specs.Walked.{Ready}
 
 -- the scan's number and the call's own tests, in the table's order
 tests : (a b c t u : Bool) (d d′ : ℕ) → (a ≡ true → b ≡ true → c ≡ true → d ≡ d′)
@@ -41,28 +41,16 @@ pub chained : (t₁ t₂ t₃ t₄ t₅ : Bool) (n a b c d e : ℕ) → a ≡ co
 chained t₁ t₂ t₃ t₄ t₅ n a b c d e ea eb ec ed ee = rw (ee, ed, ec, eb, ea)
 
 module _ (v : List ℕ) (page : ℕ) (b : List ℕ) where
-  -- the index of a scan that is not refused
-  pub index-is : validVolume v ≡ true → validLog (geometryOf v) v ≡ true → validNotes (geometryOf v) v ≡ true → scanOf v .index ≡ indexOf (geometryOf v) v
-  unfolding scanOf scanRows
-  index-is x y z = rw (x, y, z)
-
-  scan-number : scanOf v .refusal ≡ firstOf (scanRows v)
-  unfolding scanOf
-  scan-number = by (firstOf (scanRows v))
-    where
-      by : (n : ℕ) → _≡_ {A = ℕ} (cond (eqb n 0) (record { refusal = 0; durable = durableCount (geometryOf v) v; notes = noteCount (geometryOf v) v; index = indexOf (geometryOf v) v }) (refusedScan n) .refusal) n
-      by n = byCases (eqb n 0) (λ t. rw t (sym (eqb-true n 0 t))) (λ t. rw t)
-
-  pub refusal-is : (scanned : Scanned) (g : Geometry) (e : Entry) (n : ℕ) → scanned ≡ scanOf v → g ≡ geometryOf v → e ≡ entryOf (scanned .index) page
-      → n ≡ cond (eqb (scanned .refusal) 1) 1 (cond (not (eqb (length b) 256)) 2 (cond (not (within (g .pages) page)) 3
-      (cond (not (eqb (scanned .refusal) 0)) (scanned .refusal) (cond (eqb (e .durable) 0) 7 0))))
+  pub refusal-is : (scan : ℕ) (g : Geometry) (e : Entry) (n : ℕ) → scan ≡ scanRefusal v → g ≡ geometryOf v
+      → (scan ≡ 0 → e ≡ entryOf (scannedIndex v) page)
+      → n ≡ cond (eqb scan 1) 1 (cond (not (eqb (length b) 256)) 2 (cond (not (within (g .pages) page)) 3
+      (cond (not (eqb scan 0)) scan (cond (eqb (e .durable) 0) 7 0))))
       → n ≡ firstOf (inspectRows v page (length b))
   unfolding inspectRows scanRows
-  refusal-is scanned g e n es eg ee en =
-      let r : scanned .refusal ≡ firstOf (scanRows v) = ap (λ (s : Scanned). s .refusal) es ∙ scan-number in
-      let d : validVolume v ≡ true → validLog (geometryOf v) v ≡ true → validNotes (geometryOf v) v ≡ true → e .durable ≡ entryOf (indexOf (geometryOf v) v) page .durable =
-      λ x y z. ap (λ (q : Entry). q .durable) ee ∙ ap (λ (s : Scanned). entryOf (s .index) page .durable) es ∙ ap (λ (i : List Entry). entryOf i page .durable) (index-is x y z) in
-      en ∙ rw (r, eg) (tests (validVolume v) (validLog (geometryOf v) v) (validNotes (geometryOf v) v) (not (eqb (length b) 256)) (not (within (geometryOf v .pages) page)) (e .durable) _ d)
+  refusal-is scan g e n es eg ee en =
+      en ∙ rw (es, eg)
+      (tests (validVolume v) (validLog (geometryOf v) v) (validNotes (geometryOf v) v) (not (eqb (length b) 256)) (not (within (geometryOf v .pages) page)) (e .durable) _
+      (λ x y z. ap (λ (q : Entry). q .durable) (ee (es ∙ clean v x y z))))
 
   pub refused : (n : ℕ) → n ≡ firstOf (inspectRows v page (length b)) → (n ≡ 0 → ⊥) → (Refused n ≡ inspectOf v page b .answer) × (b ≡ inspectOf v page b .buffer)
   unfolding inspectOf
@@ -72,24 +60,23 @@ module _ (v : List ℕ) (page : ℕ) (b : List ℕ) where
   pub record Open (g : Geometry) (e : Entry) : Type 0 where
     pub ready : Ready v g e page
     pub size : length b ≡ 256
-    pub entry : e ≡ entryOf (indexOf (geometryOf v) v) page
+    pub entry : e ≡ entryOf (scannedIndex v) page
 
-  pub opened : (scanned : Scanned) (g : Geometry) (e : Entry) → scanned ≡ scanOf v → g ≡ geometryOf v → e ≡ entryOf (scanned .index) page
+  pub opened : (scan : ℕ) (g : Geometry) (e : Entry) → scan ≡ scanRefusal v → g ≡ geometryOf v → (scan ≡ 0 → e ≡ entryOf (scannedIndex v) page)
       → firstOf (inspectRows v page (length b)) ≡ 0 → Open g e
   unfolding inspectRows
-  opened scanned g e es eg ee h =
+  opened scan g e es eg ee h =
       let own : Numbered (inspectRows v page (length b)) =
       (eqb-false 1 0 refl, (eqb-false 2 0 refl, (eqb-false 3 0 refl, (eqb-false 17 0 refl, (eqb-false 18 0 refl, (eqb-false 7 0 refl, tt)))))) in
       let none = none-at (inspectRows v page (length b)) own h in
       let valid = not-false (validVolume v) (none 0) in
+      let log = not-false (validLog (geometryOf v) v) (none 3) in
       let notes = not-false (validNotes (geometryOf v) v) (none 4) in
       let w = within-bounds (geometryOf v .pages) page (not-false _ (none 2)) in
-      let i : e ≡ entryOf (indexOf (geometryOf v) v) page =
-      ee ∙ ap (λ (s : Scanned). entryOf (s .index) page) es ∙ ap (λ (x : List Entry). entryOf x page) (index-is valid (not-false _ (none 3)) notes) in
-      let log : validLog g v ≡ true = rw eg (not-false _ (none 3)) in
+      let i : e ≡ entryOf (scannedIndex v) page = ee (es ∙ clean v valid log notes) in
       let same : e ≡ entryOf (indexOf g v) page = i ∙ ap (λ (k : Geometry). entryOf (indexOf k v) page) (sym eg) in
       record {
-        ready = subst (λ (q : Entry). Ready v g q page) (sym same) (scanned-ready v g valid eg log page (rw eg notes) (w .0) (rw eg (w .1)));
+        ready = subst (λ (q : Entry). Ready v g q page) (sym same) (scanned-ready v g valid eg (rw eg log) page (rw eg notes) (w .0) (rw eg (w .1)));
         size = eqb-true _ _ (not-false _ (none 1));
         entry = i;
       }

@@ -2,51 +2,49 @@
 ghost use mathlib.Core.Path.{_≡_};
 ghost use mathlib.Core.Bool.{cond, not};
 ghost use lib.Dec.{eqb};
-ghost use Rattle.model.specs.Tests.{within};
+ghost use Rattle.model.specs.Tables.{within};
 ghost use Rattle.model.specs.Calls.{inspectOf, refusalOf};
 use codec::checksum;
-use index::rows;
 use model::answer::Answer;
+use repair::answer;
+use repair::rebuild;
+use repair::walk;
 use volume::heading;
-
-// n where t holds, else rest.
-fn first(t: bool, n: u32, rest: u32) -> u32
-    ensures { λ r. ⌜ r ≡ cond t n rest ⌝ }
-{
-    if t { n } else { rest }
-}
+use volume::rows;
 
 // The refusal: rows 1, 2, 3, then the scan's 17 or 18, then 7.
 fn refusal(scan: u32, pages: u32, page: u32, size: usize, durable: u32) -> u32
-    ensures { λ r. ⌜ r ≡ cond (eqb scan 1) 1 (cond (not (eqb size 256)) 2 (cond (not (within pages page)) 3 (cond (not (eqb scan 0)) scan (cond (eqb durable 0) 7 0)))) ⌝ }
+    ensures { λ r. ⌜ r
+        ≡ cond (eqb scan 1) 1 (cond (not (eqb size 256)) 2 (cond (not (within pages page)) 3
+        (cond (not (eqb scan 0)) scan (cond (eqb durable 0) 7 0)))) ⌝ }
 {
     let inside = (1 <= page) & (page <= pages);
-    let rest = first(!(scan == 0), scan, first(durable == 0, 7, 0));
-    first(
+    let rest = rows::first(!(scan == 0), scan, rows::first(durable == 0, 7, 0));
+    rows::first(
         scan == 1,
         1,
-        first(!(size == 256), 2, first(!inside, 3, rest)),
+        rows::first(!(size == 256), 2, rows::first(!inside, 3, rest)),
     )
 }
 
-// Inspects a page. Rules out, for example: the disk's image handed over unrepaired; a made-up count; every page blank; a refusal that wrote to
-// the buffer.
-pub fn inspect(v: &[u8], page: u32, buffer: &mut [u8]) -> Answer
-    ensures answer { λ r. ⌜ r ≡ inspectOf (now (v .entry)) page (now (buffer .entry)) .answer ⌝ }
-    ensures buffer { λ _. ⌜ now (buffer .exit) ≡ inspectOf (now (v .entry)) page (now (buffer .entry)) .buffer ⌝ }
+// Inspects a page.
+// Ruled out: the disk's image handed over unrepaired; a made-up count; every page blank (tried); every call refused
+// (tried); a refusal that wrote to the buffer.
+pub fn inspect(volume: &[u8], page: u32, buffer: &mut [u8]) -> Answer
+    ensures answer { λ r. ⌜ r ≡ inspectOf (now (volume .entry)) page (now (buffer .entry)) .answer ⌝ }
+    ensures buffer { λ _. ⌜ now (buffer .exit) ≡ inspectOf (now (volume .entry)) page (now (buffer .entry)) .buffer ⌝ }
 {
-    let scanned = index::scan(v);
-    let g = heading::geometry(v);
-    let index = scanned.index;
-    let e = rows::entry(index, page);
-    let no = refusal(scanned.refusal, g.pages, page, buffer.len(), e.durable);
+    let found = index::find(volume, page);
+    let g = heading::geometry(volume);
+    let e = found.entry;
+    let no = refusal(found.refusal, g.pages, page, buffer.len(), e.durable);
     if no != 0 {
         return Answer::Refused(no);
     }
-    let chain = repair::walk(v, g, e, page);
-    repair::rebuild(v, g, e, page, chain, buffer);
+    let walked = walk::walk(volume, g, e, page);
+    rebuild::rebuild(volume, g, e, page, walked, buffer);
     checksum::set(buffer, 252);
-    Answer::Repaired(repair::answer(v, g, e, page, chain))
+    Answer::Repaired(answer::answer(volume, g, e, page, walked))
 }
 
 // The number that stands for an answer.
@@ -61,7 +59,8 @@ fn number(a: Answer) -> u32
     }
 }
 
-// Inspection for C: 0 or the refusal. `include/pagestore.h` declares it. Rules out, for example: 0 with an untouched buffer; 19.
+// Inspection for C: 0 or the refusal. `include/pagestore.h` declares it.
+// Ruled out: 0 with an untouched buffer; 19.
 #[no_mangle]
 pub extern "C" fn pagestore_inspect(volume: &[u8], page: u32, buffer: &mut [u8]) -> u32
     ensures answer { λ r. ⌜ r ≡ refusalOf (inspectOf (now (volume .entry)) page (now (buffer .entry)) .answer) ⌝ }

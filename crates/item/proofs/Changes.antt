@@ -8,9 +8,9 @@ use lib.Dec.{leb, eqb, lit≤}
 use lib.ListN.{length, take, drop, replicate}
 use lib.Seq.{take-append-le, drop-at, take-take, length-take-le}
 use borrow.Author.Tests.{le-leb}
-use Rattle.laws.proofs.Tests.{and-left, and-right, and-both, byCases}
+use Rattle.laws.proofs.Tables.{and-left, and-right, and-both, byCases}
 use Rattle.laws.proofs.Changes.{fits-facts}
-use Rattle.model.specs.Tests.{within}
+use Rattle.model.specs.Tables.{within}
 use Rattle.model.specs.Bytes.{splice}
 use Rattle.model.specs.Change.{changeFits, fits, changeOf, kindOf, offsetOf, lengthOf, fillOf, applyChange}
 use Rattle.model.specs.declared.change.Change.{Change}

@@ -5,7 +5,7 @@ use mathlib.Core.List.{List}
 use mathlib.Core.Bool.{Bool, true, _&&_}
 use lib.Dec.{eqb}
 use Rattle.model.specs.Bytes.{byteAt, part, allZero}
-use Rattle.laws.proofs.Tests.{and-left}
+use Rattle.laws.proofs.Tables.{and-left}
 use Rattle.item.proofs.Changes.{Obeys, held-obeys}
 use Rattle.model.specs.Change.{changeFits, applyChange}
 use Rattle.model.specs.Item.{recordOf, recordLayout, payloadOf, changeIn, applyRecord}

@@ -14,15 +14,15 @@ use model::geometry::Geometry;
 pub fn lsn(x: &[u8]) -> u32
     ensures { λ r. ⌜ r ≡ imageLsn (now (x .entry)) ⌝ }
 {
-    field::u32at(x, 4)
+    field::u32_at(x, 4)
 }
 
 // The image is valid as the page's: checksum and page number are right, bytes 2 and 3 are zero.
 pub fn valid(g: Geometry, p: u32, x: &[u8]) -> bool
     ensures { λ r. ⌜ r ≡ validImage g p (now (x .entry)) ⌝ }
 {
-    let page = field::u16at(x, 0) as u32;
-    let zero = field::u16at(x, 2);
+    let page = field::u16_at(x, 0) as u32;
+    let zero = field::u16_at(x, 2);
     checksum::holds(x, 252) & ((page == p) & (zero == 0))
 }
 
@@ -31,10 +31,10 @@ pub fn build(dst: &mut [u8], page: u32, lsn: u32)
     requires { ⌜ (length (now dst) ≡ 256) × (page < 65536) ⌝ }
     ensures { λ _. ⌜ now (dst .exit) ≡ frameImage page lsn (part (now (dst .entry)) 8 244) ⌝ }
 {
-    field::put16(dst, 0, page as u16);
-    field::put16(dst, 2, 0);
-    field::put32(dst, 4, lsn);
-    field::put32(dst, 252, 0);
+    field::put_u16(dst, 0, page as u16);
+    field::put_u16(dst, 2, 0);
+    field::put_u32(dst, 4, lsn);
+    field::put_u32(dst, 252, 0);
 }
 
 // Stores a frame's image with its checksum. The geometry says how images are summed.

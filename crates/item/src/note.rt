@@ -11,11 +11,11 @@ pub fn read(r: &[u8]) -> Note
     ensures { λ e. ⌜ e ≡ noteOf (now (r .entry)) ⌝ }
 {
     Note {
-        number: field::u32at(r, 0),
-        page: field::u16at(r, 4),
+        number: field::u32_at(r, 0),
+        page: field::u16_at(r, 4),
         kind: field::byte(r, 6),
         slot: field::byte(r, 7),
-        lsn: field::u32at(r, 8),
+        lsn: field::u32_at(r, 8),
     }
 }
 
@@ -31,10 +31,10 @@ pub fn encode(dst: &mut [u8], n: Note)
     requires { ⌜ length (now dst) ≡ 16 ⌝ }
     ensures { λ _. ⌜ now (dst .exit) ≡ noteBytes n ⌝ }
 {
-    field::put32(dst, 0, n.number);
-    field::put16(dst, 4, n.page);
+    field::put_u32(dst, 0, n.number);
+    field::put_u16(dst, 4, n.page);
     dst[6] = n.kind;
     dst[7] = n.slot;
-    field::put32(dst, 8, n.lsn);
+    field::put_u32(dst, 8, n.lsn);
     checksum::set(dst, 12);
 }

@@ -19,12 +19,12 @@ pub fn read(r: &[u8]) -> LogRecord
     ensures { λ e. ⌜ e ≡ recordOf (now (r .entry)) ⌝ }
 {
     LogRecord {
-        lsn: field::u32at(r, 0),
-        prev: field::u32at(r, 4),
-        page: field::u16at(r, 8),
+        lsn: field::u32_at(r, 0),
+        prev: field::u32_at(r, 4),
+        page: field::u16_at(r, 8),
         kind: field::byte(r, 10),
         length: field::byte(r, 11),
-        offset: field::u16at(r, 12),
+        offset: field::u16_at(r, 12),
         fill: field::byte(r, 14),
     }
 }
@@ -122,12 +122,12 @@ fn fields(dst: &mut [u8], e: LogRecord)
     requires { ⌜ length (now dst) ≡ 64 ⌝ }
     ensures { λ _. ⌜ now (dst .exit) ≡ splice (now (dst .entry)) 0 (headOf e) ⌝ }
 {
-    field::put32(dst, 0, e.lsn);
-    field::put32(dst, 4, e.prev);
-    field::put16(dst, 8, e.page);
+    field::put_u32(dst, 0, e.lsn);
+    field::put_u32(dst, 4, e.prev);
+    field::put_u16(dst, 8, e.page);
     dst[10] = e.kind;
     dst[11] = e.length;
-    field::put16(dst, 12, e.offset);
+    field::put_u16(dst, 12, e.offset);
     dst[14] = e.fill;
     dst[15] = 0;
 }

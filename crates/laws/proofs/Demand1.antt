@@ -9,13 +9,13 @@ use native.Mathlib.Omega.{arith}
 use lib.Dec.{eqb, leb, ltb}
 use lib.ListN.{length, getD}
 use borrow.Author.Tests.{eqb-true, eqb-false, eq-eqb, ne-eqb, not-false}
-use Rattle.laws.proofs.Tests.{Numbered, none-at, when-true, when-false, byCases, bool-cases, within-bounds, true-not-false}
+use Rattle.laws.proofs.Tables.{Numbered, none-at, when-true, when-false, byCases, bool-cases, within-bounds, true-not-false}
 use Rattle.laws.proofs.Parts.{splice-length, splice-before, splice-after}
-use Rattle.laws.proofs.Places.{In, place-fits, valid-facts, Valid}
+use Rattle.laws.proofs.Places.{In, in-item, item-in, place-fits, valid-facts, Valid}
 use Rattle.laws.proofs.Items.{sealImage-length}
 use Rattle.laws.proofs.Notes.{note-length}
 use Rattle.laws.proofs.WellFormed.{Formed, FormedNote, formed-note, Ready, ready, Memory, pending-length, frame-length, holder-low, holder-within}
-use Rattle.model.specs.Tests.{Row, firstOf, within}
+use Rattle.model.specs.Tables.{Row, firstOf, within}
 use Rattle.model.specs.Bytes.{splice}
 use Rattle.model.specs.Checksum.{sealImage}
 use Rattle.model.specs.Item.{noteBytes}
@@ -26,7 +26,7 @@ use Rattle.model.specs.State.{frameCount, frameBytes, pendingBytes, holder, hel
 use Rattle.model.specs.Refusals.{stateRows, pageDirty, frameBlocked, notDurable, chainBroken, makeRows, restartRows, beginRows, loadRows, changeRows, forceRows, writeRows, backupRows, noteRows, inspectRows}
 use Rattle.model.specs.Index.{slotUsed}
 use Rattle.model.specs.Calls.{StoredItem, nothing, oneItem, Outcome, volumeAfter, unchanged, decided, beginOf, loadOf, changeCall, forceOf, writeOf, backupOf, noteCall, noteStored, restartOf, makeOf, inspectOf, refusalOf, Call, begin, load, change, force, write, backup, note, rowsOf, outcomeOf, Made, Inspected}
-use Rattle.model.specs.Demand1.{Decides, ByTable, DiffersAt, AtMostOneItem, Keeps, Arrays, Demand1}
+use Rattle.model.specs.Demand1.{Decides, ByTable, StoresItem, DiffersAt, AtMostOneItem, Keeps, Arrays, Demand1}
 use Rattle.model.specs.declared.geometry.Geometry.{Geometry}
 use Rattle.model.specs.declared.state.State.{State}
 use Rattle.model.specs.declared.state.PendingNote.{PendingNote}
@@ -100,23 +100,26 @@ module _ (rows : List Row) (m : List ℕ) (s : State) (done : Outcome) (accepted
 
 -- one item stored in its place
 stored-within : (v : List ℕ) → validVolume v ≡ true → (at : Place) (xs : List ℕ) → In (geometryOf v) at → length xs ≡ width at
-    → AtMostOneItem v (volumeAfter v (oneItem at xs))
+    → StoresItem v (oneItem at xs)
+stored-within v ok at xs h e = (ok, item-in (geometryOf v) at h, e)
+
+-- it is all that differs
+at-most-one : (v : List ℕ) (x : StoredItem) → StoresItem v x → AtMostOneItem v (volumeAfter v x)
 unfolding volumeAfter store
-stored-within v ok at xs h e =
+at-most-one v nothing h = inl refl
+at-most-one v (oneItem at xs) h =
     let g = geometryOf v in
-    let f : start g at + width at ≤ length v = place-fits g v (valid-facts v ok .size) at h in
+    let f : start g at + width at ≤ length v = place-fits g v (valid-facts v (h .0) .size) at (in-item g at (h .1)) in
+    let e : length xs ≡ width at = h .2 in
     let k : start g at + length xs ≤ length v = omega arith in
     inr (
       at,
       record {
+        item = h .1;
         size = splice-length v (start g at) xs k;
         outside = λ i d. ⊎-elim (λ l. splice-before v (start g at) xs k i l) (λ l. splice-after v (start g at) xs k i (omega arith)) d;
       },
     )
-
-none-stored : (v : List ℕ) → AtMostOneItem v (volumeAfter v nothing)
-unfolding volumeAfter
-none-stored v = inl refl
 
 -- what holds of an outcome that is decided by a table
 record KeepsBy (rows : List Row) (v m : List ℕ) (s : State) (o : Outcome) : Type 0 where
@@ -124,10 +127,10 @@ record KeepsBy (rows : List Row) (v m : List ℕ) (s : State) (o : Outcome) : Ty
   state : refusalOf (o .answer) ≢ 0 → o .state ≡ s
   memory : refusalOf (o .answer) ≢ 0 → o .memory ≡ m
   volume : refusalOf (o .answer) ≢ 0 → volumeAfter v (o .stored) ≡ v
-  oneItem : AtMostOneItem v (volumeAfter v (o .stored))
+  stored : StoresItem v (o .stored)
 
 keeps-by : (rows : List Row) (v m : List ℕ) (s : State) (done : Outcome) → Numbered rows → refusalOf (done .answer) ≡ 0
-    → (firstOf rows ≡ 0 → AtMostOneItem v (volumeAfter v (done .stored))) → KeepsBy rows v m s (decided rows m s done)
+    → (firstOf rows ≡ 0 → StoresItem v (done .stored)) → KeepsBy rows v m s (decided rows m s done)
 unfolding volumeAfter
 keeps-by rows v m s done h a one =
     let same : refusalOf (decided rows m s done .answer) ≢ 0 → decided rows m s done ≡ unchanged (Refused (firstOf rows)) m s = refused-is rows m s done a in
@@ -136,7 +139,7 @@ keeps-by rows v m s done h a one =
       state = λ r. ap (λ (o : Outcome). o .state) (same r);
       memory = λ r. ap (λ (o : Outcome). o .memory) (same r);
       volume = λ r. ap (λ (o : Outcome). volumeAfter v (o .stored)) (same r);
-      oneItem = stores rows m s done a (λ x. AtMostOneItem v (volumeAfter v x)) (inl refl) one;
+      stored = stores rows m s done a (StoresItem v) tt one;
     }
 
 -- ---- the calls that store nothing
@@ -150,21 +153,21 @@ unfolding beginOf beginRows
 begin-keeps v m s page frame fill =
     let own : Numbered (beginRows v m s page frame) =
     (eqb-false 1 0 refl, (eqb-false 2 0 refl, (eqb-false 2 0 refl, (eqb-false 3 0 refl, (eqb-false 4 0 refl, (eqb-false 9 0 refl, (eqb-false 10 0 refl, (eqb-false 11 0 refl, (eqb-false 12 0 refl, tt))))))))) in
-    keeps-by _ v m s _ own refl (λ _. none-stored v)
+    keeps-by _ v m s _ own refl (λ _. tt)
 
 load-keeps : (v m : List ℕ) (s : State) (page frame : ℕ) → KeepsBy (loadRows v m s page frame) v m s (loadOf v m s page frame)
 unfolding loadOf loadRows
 load-keeps v m s page frame =
     let own : Numbered (loadRows v m s page frame) =
     (eqb-false 1 0 refl, (eqb-false 2 0 refl, (eqb-false 2 0 refl, (eqb-false 3 0 refl, (eqb-false 4 0 refl, (eqb-false 7 0 refl, (eqb-false 9 0 refl, (eqb-false 10 0 refl, (eqb-false 19 0 refl, tt))))))))) in
-    keeps-by _ v m s _ own refl (λ _. none-stored v)
+    keeps-by _ v m s _ own refl (λ _. tt)
 
 change-keeps : (v m : List ℕ) (s : State) (page : ℕ) (c : Change) (payload : List ℕ) → KeepsBy (changeRows v m s page c) v m s (changeCall v m s page c payload)
 unfolding changeCall changeRows
 change-keeps v m s page c payload =
     let own : Numbered (changeRows v m s page c) =
     (eqb-false 1 0 refl, (eqb-false 2 0 refl, (eqb-false 2 0 refl, (eqb-false 3 0 refl, (eqb-false 6 0 refl, (eqb-false 8 0 refl, (eqb-false 11 0 refl, (eqb-false 12 0 refl, tt)))))))) in
-    keeps-by _ v m s _ own refl (λ _. none-stored v)
+    keeps-by _ v m s _ own refl (λ _. tt)
 
 -- ---- the calls that store an item
 
@@ -181,7 +184,7 @@ force-keeps v m s =
     (λ h.
     let r = ready v m s [] h in
     let w = r .state in
-    either (eqb (s .pending) 0) _ _ (λ o. AtMostOneItem v (volumeAfter v (o .stored))) (λ _. none-stored v)
+    either (eqb (s .pending) 0) _ _ (λ o. StoresItem v (o .stored)) (λ _. tt)
     (λ f.
     let ne : s .pending ≢ 0 = eqb-false _ _ f in
     stored-within v (r .volume) (recordAt (s .durable + 1)) (pendingBytes m (s .durable + 1)) (omega arith, omega (arith, w .room))
@@ -209,9 +212,9 @@ write-keeps v m s page a =
     let r = ready v m s rest h in
     let none = none-at rest own (r .rest) in
     let w = within-bounds (g .pages) page (not-false _ (none 0)) in
-    either (pageDirty s page) _ _ (λ o. AtMostOneItem v (volumeAfter v (o .stored)))
-    (λ _. stored-within v (r .volume) (pageAt page) _ w (image-length v m s rest r a page (w .0) (not-false _ (none 1))))
-    (λ _. none-stored v))
+    either (pageDirty s page) _ _ (λ o. StoresItem v (o .stored))
+    (λ _. stored-within v (r .volume) (pageAt page) (sealImage g (frameBytes m (holder s page))) w (image-length v m s rest r a page (w .0) (not-false _ (none 1))))
+    (λ _. tt))
 
 backup-keeps : (v m : List ℕ) (s : State) (page slot : ℕ) → Arrays s → KeepsBy (backupRows v m s page slot) v m s (backupOf v m s page slot)
 unfolding backupOf backupRows
@@ -226,7 +229,8 @@ backup-keeps v m s page slot a =
     let r = ready v m s rest h in
     let none = none-at rest own (r .rest) in
     let w = within-bounds (g .pages) page (not-false _ (none 0)) in
-    stored-within v (r .volume) (slotAt slot) _ (within-bounds (g .slots) slot (not-false _ (none 1)))
+    stored-within v (r .volume) (slotAt slot) (sealImage g (frameBytes m (holder s page)))
+    (within-bounds (g .slots) slot (not-false _ (none 1)))
     (image-length v m s rest r a page (w .0) (not-false _ (none 2))))
 
 note-stored-accepts : (v m : List ℕ) (s : State) (n : PendingNote) → refusalOf (noteStored v m s n .answer) ≡ 0
@@ -234,8 +238,8 @@ note-stored-accepts v m s Absent = refl
 note-stored-accepts v m s (Present n) = refl
 
 note-stored-one : (v m : List ℕ) (s : State) → validVolume v ≡ true → (n : PendingNote) → pendingNoteFits (geometryOf v) (s .notes) (s .durable) n ≡ true
-    → AtMostOneItem v (volumeAfter v (noteStored v m s n .stored))
-note-stored-one v m s ok Absent h = none-stored v
+    → StoresItem v (noteStored v m s n .stored)
+note-stored-one v m s ok Absent h = tt
 note-stored-one v m s ok (Present n) h =
     let f = formed-note (geometryOf v) (s .notes) (s .durable) n h in
     stored-within v ok (noteAt (s .notes + 1)) (noteBytes n) (omega arith, omega (arith, f .room)) (note-length n)
@@ -249,7 +253,7 @@ note-keeps v m s =
 -- ---- the whole
 
 keeps : {c : Call} {v m : List ℕ} {s : State} → KeepsBy (rowsOf c v m s) v m s (outcomeOf c v m s) → Keeps c v m s
-keeps k = record { table = k .table; state = k .state; memory = k .memory; volume = k .volume; oneItem = k .oneItem }
+keeps {c} {v} {m} {s} k = record { table = k .table; state = k .state; memory = k .memory; volume = k .volume; stored = k .stored; oneItem = at-most-one v _ (k .stored) }
 
 call-keeps : (c : Call) (v m : List ℕ) (s : State) → Arrays s → Keeps c v m s
 call-keeps (begin page frame fill) v m s a = keeps (begin-keeps v m s page frame fill)
@@ -277,7 +281,7 @@ restart-keeps : (v m : List ℕ)
 unfolding restartOf restartRows
 restart-keeps v m =
     let own : Numbered (restartRows v m) = (eqb-false 1 0 refl, (eqb-false 2 0 refl, (eqb-false 17 0 refl, (eqb-false 18 0 refl, tt)))) in
-    let k = keeps-by (restartRows v m) v m zeroState _ own refl (λ _. none-stored v) in
+    let k = keeps-by (restartRows v m) v m zeroState _ own refl (λ _. tt) in
     (k .table, λ h. (k .state h, k .memory h), stores (restartRows v m) m zeroState _ refl (λ x. x ≡ nothing) refl (λ _. refl))
 
 numbered-inspect : (v : List ℕ) (page size : ℕ) → Numbered (inspectRows v page size)

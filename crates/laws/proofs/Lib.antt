@@ -1,4 +1,4 @@
-pub mod Tests
+pub mod Tables
 pub mod Parts
 pub mod Fields
 pub mod Checksums

@@ -11,12 +11,12 @@ use native.Mathlib.Decide.{decLt}
 use lib.Dec.{leb, eqb, lit<}
 use lib.ListN.{length, take, drop, getD}
 use borrow.Author.Tests.{leb-true, eqb-true, eq-eqb}
-use Rattle.laws.proofs.Tests.{all-at, all-holds, All, and-left, and-right, within-bounds}
+use Rattle.laws.proofs.Tables.{all-at, all-holds, All, and-left, and-right, within-bounds, within-holds}
 use Rattle.laws.proofs.Parts.{part-at, part-length, splice-length, part-splice, part-before, part-after, take-splice}
 use Rattle.laws.proofs.Fields.{le-take}
-use Rattle.model.specs.Tests.{all, within}
+use Rattle.model.specs.Tables.{all, within}
 use Rattle.model.specs.Bytes.{le, field, byteAt, part, splice, startsWith}
-use Rattle.model.specs.Geometry.{magic, slotCountAt, recordCountAt, noteCountAt, lengthFor, pagesOf, slotsOf, recordsOf, notesOf, geometryOf, validCounts, validVolume, Place, pageAt, slotAt, recordAt, noteAt, width, start, item, store}
+use Rattle.model.specs.Geometry.{magic, slotCountAt, recordCountAt, noteCountAt, lengthFor, pagesOf, slotsOf, recordsOf, notesOf, geometryOf, validCounts, validVolume, Place, pageAt, slotAt, recordAt, noteAt, itemOf, width, start, item, store}
 use Rattle.model.specs.declared.geometry.Geometry.{Geometry}
 
 -- the length of a volume of this geometry
@@ -29,6 +29,19 @@ In g (pageAt i) = (1 ≤ i) × (i ≤ g .pages)
 In g (slotAt i) = (1 ≤ i) × (i ≤ g .slots)
 In g (recordAt i) = (1 ≤ i) × (i ≤ g .records)
 In g (noteAt i) = (1 ≤ i) × (i ≤ g .notes)
+
+-- which is what `itemOf` tests
+pub in-item : (g : Geometry) (at : Place) → itemOf g at ≡ true → In g at
+in-item g (pageAt i) t = within-bounds (g .pages) i t
+in-item g (slotAt i) t = within-bounds (g .slots) i t
+in-item g (recordAt i) t = within-bounds (g .records) i t
+in-item g (noteAt i) t = within-bounds (g .notes) i t
+
+pub item-in : (g : Geometry) (at : Place) → In g at → itemOf g at ≡ true
+item-in g (pageAt i) h = within-holds (g .pages) i (h .0) (h .1)
+item-in g (slotAt i) h = within-holds (g .slots) i (h .0) (h .1)
+item-in g (recordAt i) h = within-holds (g .records) i (h .0) (h .1)
+item-in g (noteAt i) h = within-holds (g .notes) i (h .0) (h .1)
 
 -- two places that start differently do not overlap
 pub apart : (g : Geometry) (p q : Place) → In g p → In g q → start g q ≢ start g p → (start g q + width q ≤ start g p) ⊎ (start g p + width p ≤ start g q)

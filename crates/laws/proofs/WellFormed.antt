@@ -9,9 +9,9 @@ use native.Mathlib.Omega.{arith}
 use lib.Dec.{eqb, leb, ltb}
 use lib.ListN.{length, getD}
 use borrow.Author.Tests.{leb-true, ltb-true, eqb-true, eqb-false, not-false}
-use Rattle.laws.proofs.Tests.{all-at, none-at, Numbered, every-at, or-cases, not-true, byCases, when-true, when-false, within-bounds, true-not-false}
+use Rattle.laws.proofs.Tables.{all-at, none-at, Numbered, every-at, or-cases, not-true, byCases, when-true, when-false, within-bounds, true-not-false}
 use Rattle.laws.proofs.Parts.{part-length}
-use Rattle.model.specs.Tests.{all, Row, firstOf, every, within}
+use Rattle.model.specs.Tables.{all, Row, firstOf, every, within}
 use Rattle.model.specs.Bytes.{part}
 use Rattle.model.specs.Geometry.{geometryOf, validVolume}
 use Rattle.model.specs.Item.{noteLayout, isWritten}

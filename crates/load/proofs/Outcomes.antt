@@ -7,14 +7,14 @@ use native.Mathlib.Omega.{arith}
 use lib.ListN.{length, take, drop, getD}
 use borrow.Author.Tests.{eq-eqb, ne-eqb, eqb-false, not-false}
 use borrow.Rule.Slice.PartMut.{putMid}
-use Rattle.laws.proofs.Tests.{none-at, within-bounds}
+use Rattle.laws.proofs.Tables.{none-at, within-bounds}
 use Rattle.laws.proofs.Parts.{put-splice, part-lent, part-length}
 use Rattle.laws.proofs.Places.{valid-facts}
 use Rattle.laws.proofs.WellFormed.{ready, frame-within}
 use Rattle.state.proofs.Facts.{formed-page}
 use Rattle.load.specs.Rows.{loadTail, earlyRows}
 use Rattle.load.proofs.Rows.{early-refuses, walk-decides}
-use Rattle.model.specs.Tests.{firstOf}
+use Rattle.model.specs.Tables.{firstOf}
 use Rattle.model.specs.Bytes.{splice}
 use Rattle.model.specs.Geometry.{geometryOf}
 use Rattle.model.specs.Index.{entryOf}
@@ -28,8 +28,8 @@ use Rattle.model.specs.declared.state.State.{State}
 use Rattle.model.specs.declared.answer.Answer.the-variants.{Refused, Repaired}
 use Rattle.model.specs.declared.answer.Repair.{Repair}
 use Rattle.model.specs.declared.answer.Reply.{Reply}
-use Rattle.repair.specs.Chain.{Ready, chainOf}
-use Rattle.repair.specs.declared.Chain.{Chain}
+use Rattle.repair.specs.Walked.{Ready, walkedOf}
+use Rattle.repair.specs.declared.walk.Walked.{Walked}
 
 -- ---- the frame's bytes as they are lent
 
@@ -99,20 +99,20 @@ module _ (v m : List ℕ) (s : State) (page frame : ℕ) where
     same : {A : Type 0} (f : Geometry → Entry → A) → f g e ≡ f (geometryOf v) (entryOf (s .index) page)
     same f = ap (λ (k : Geometry). f k e) (o .geometry) ∙ ap (f (geometryOf v)) (o .entry)
 
-    decides : (c : Chain) (b : Bool) → c ≡ chainOf g page (viewOf g v e page) → b ≡ isBroken (c .stop) → firstOf (loadRows v m s page frame) ≡ cond b 19 0
-    unfolding chainOf
+    decides : (c : Walked) (b : Bool) → c ≡ walkedOf g page (viewOf g v e page) → b ≡ isBroken (c .stop) → firstOf (loadRows v m s page frame) ≡ cond b 19 0
+    unfolding walkedOf
     decides c b ec eb =
         let q : b ≡ chainBroken (geometryOf v) v s page =
-        eb ∙ ap (λ (x : Chain). isBroken (x .stop)) ec ∙ same (λ k x. isBroken (walkOf k page (viewOf k v x page) .stop)) in
+        eb ∙ ap (λ (x : Walked). isBroken (x .stop)) ec ∙ same (λ k x. isBroken (walkOf k page (viewOf k v x page) .stop)) in
         walk-decides v m s page frame (o .none) ∙ rw q
 
     -- the walk breaks
-    pub broken : (c : Chain) (b : Bool) → c ≡ chainOf g page (viewOf g v e page) → b ≡ isBroken (c .stop) → b ≡ true
+    pub broken : (c : Walked) (b : Bool) → c ≡ walkedOf g page (viewOf g v e page) → b ≡ isBroken (c .stop) → b ≡ true
         → (_≡_ {A = Reply} (record { answer = Refused 19; state = s }) (replyOf (loadOf v m s page frame))) × (m ≡ loadOf v m s page frame .memory)
     broken c b ec eb t = refuses 19 (sym (decides c b ec eb ∙ rw t)) (eqb-false 19 0 refl)
 
     -- it does not
-    pub done : (c : Chain) (b clean : Bool) (r : Repair) (w : List ℕ) (t : State) → c ≡ chainOf g page (viewOf g v e page)
+    pub done : (c : Walked) (b clean : Bool) (r : Repair) (w : List ℕ) (t : State) → c ≡ walkedOf g page (viewOf g v e page)
         → b ≡ isBroken (c .stop)
         → b ≡ false
         → r ≡ repairOf g page (viewOf g v e page)

@@ -6,10 +6,10 @@ use Prim.Native.Nat.{ℕ}
 use lib.Dec.{eqb}
 use lib.ListN.{length}
 use borrow.Author.Tests.{eqb-false, eq-eqb, ne-eqb}
-use Rattle.laws.proofs.Tests.{Numbered, when-true, when-false}
+use Rattle.laws.proofs.Tables.{Numbered, when-true, when-false}
 use Rattle.state.proofs.Fits.{refusal-then}
 use Rattle.load.specs.Rows.{loadTail, earlyRows}
-use Rattle.model.specs.Tests.{Row, firstOf, within}
+use Rattle.model.specs.Tables.{Row, firstOf, within}
 use Rattle.model.specs.Geometry.{geometryOf}
 use Rattle.model.specs.State.{frameCount, frameOf, held, blank}
 use Rattle.model.specs.Refusals.{chainBroken, stateRows, loadRows}

@@ -3,7 +3,7 @@ use Prim.Native.Nat.{ℕ}
 use mathlib.Core.Bool.{not}
 use mathlib.Core.List.{List, [], _∷_}
 use lib.ListN.{length}
-use Rattle.model.specs.Tests.{Row, within}
+use Rattle.model.specs.Tables.{Row, within}
 use Rattle.model.specs.Geometry.{geometryOf}
 use Rattle.model.specs.State.{frameCount, held, blank}
 use Rattle.model.specs.Refusals.{frameBlocked, stateRows}

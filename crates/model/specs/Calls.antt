@@ -5,7 +5,7 @@ use mathlib.Core.Bool.{Bool, true, false, cond, _&&_, not}
 use mathlib.Core.List.{List, [], _∷_, _++_}
 use lib.Dec.{eqb}
 use lib.ListN.{length, take, drop, set, replicate}
-use Rattle.model.specs.Tests.{Row, firstOf, within}
+use Rattle.model.specs.Tables.{Row, firstOf, within}
 use Rattle.model.specs.Bytes.{le, bytesOf, field, part, splice}
 use Rattle.model.specs.Checksum.{sealImage}
 use Rattle.model.specs.Geometry.{Place, pageAt, slotAt, logSlot, noteSlot, geometryOf, emptyVolume, store}

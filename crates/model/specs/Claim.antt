@@ -1,5 +1,7 @@
--- Demands 2 and 3 as types. States the last two paragraphs of document 01, "What is kept". The values of these types are proved in the
--- crate `history`.
+-- Demands 2 and 3 as types. States the last two paragraphs of document 01, "What is kept". The values of these types
+-- are proved in the crate `history`. The paragraph on demand 3 is in two types: its sentence on one history is
+-- `Demand2.inspects`, its sentence on two histories is `Demand3`. "Inspect changes no volume" is seen in
+-- `Calls.Inspected`, which holds an answer and a buffer.
 use Prim.Native.Nat.{ℕ, zero, suc, _+_, _≤_, _<_}
 use mathlib.Core.Path.{_≡_}
 use mathlib.Core.Logic.{_≢_, _⊎_, _↔_}
@@ -51,20 +53,22 @@ inspection h p buffer = refusalOf (inspectOf (reached h .volume) p buffer .answe
 abbrev pub shown : History → ℕ → List ℕ → List ℕ
 shown h p buffer = part (inspectOf (reached h .volume) p buffer .buffer) 4 248
 
--- "For a page 1 to P and a buffer of 256 bytes it answers 7 exactly if the page is blank; otherwise it isn't refused, and bytes 4 to 251 of
--- the buffer are the replay's number and body"
+-- "For a page 1 to P and a buffer of 256 bytes it answers 7 exactly if the page is blank; otherwise it isn't refused,
+-- and bytes 4 to 251 of the buffer are the replay's number and body"
 pub record Inspects (h : History) (p : ℕ) (buffer : List ℕ) : Type 0 where
   pub blank : (inspection h p buffer ≡ 7) ↔ (lastPlace p (durableOf h) ≡ 0)
   pub durable : lastPlace p (durableOf h) ≢ 0
-      → (inspection h p buffer ≡ 0) × (shown h p buffer ≡ bytesOf 4 (lastPlace p (durableOf h)) ++ replay p (durableOf h))
+      → (inspection h p buffer ≡ 0)
+      × (shown h p buffer ≡ bytesOf 4 (lastPlace p (durableOf h)) ++ replay p (durableOf h))
 
--- demand 2 of a Load in a machine that a history reaches: it is never refused 19, and where it is not refused the page has a durable change
--- and the frame holds exactly the replay of its changes, durable and pending, check bytes zero
+-- demand 2 of a Load in a machine that a history reaches: it is never refused 19, and where it is not refused the page
+-- has a durable change and the frame holds exactly the replay of its changes, durable and pending, check bytes zero
 pub record Loads (h : History) (m : List ℕ) (s : State) (p f : ℕ) : Type 0 where
   pub unbroken : refusalOf (loadOf (reached h .volume) m s p f .answer) ≢ 19
   pub loaded : refusalOf (loadOf (reached h .volume) m s p f .answer) ≡ 0
       → (lastPlace p (durableOf h) ≢ 0)
-      × (frameBytes (loadOf (reached h .volume) m s p f .memory) f ≡ frameImage p (lastPlace p (durableOf h)) (replay p (durableOf h)))
+      × (frameBytes (loadOf (reached h .volume) m s p f .memory) f
+      ≡ frameImage p (lastPlace p (durableOf h)) (replay p (durableOf h)))
       × (lastPlace p (durableOf h ++ logOf h .pending) ≡ lastPlace p (durableOf h))
       × (replay p (durableOf h ++ logOf h .pending) ≡ replay p (durableOf h))
 
@@ -73,7 +77,8 @@ pub record Loads (h : History) (m : List ℕ) (s : State) (p f : ℕ) : Type 0 w
 -- "all pages 1 to P agree in those bytes or give 7 in both", each with a buffer of its own
 abbrev pub Agree : History → History → List ℕ → List ℕ → ℕ → Type 0
 Agree h k x y p =
-    ((inspection h p x ≡ 7) × (inspection k p y ≡ 7)) ⊎ ((inspection h p x ≡ 0) × (inspection k p y ≡ 0) × (shown h p x ≡ shown k p y))
+    ((inspection h p x ≡ 7) × (inspection k p y ≡ 7))
+    ⊎ ((inspection h p x ≡ 0) × (inspection k p y ≡ 0) × (shown h p x ≡ shown k p y))
 
 -- a list is a beginning of another
 abbrev pub Begins : List Logged → List Logged → Type 0
@@ -82,11 +87,15 @@ Begins k l = (r : List Logged) × (k ++ r ≡ l)
 -- ---- the claims
 
 pub record Demand2 : Type 0 where
-  pub inspects : (h : History) → Legal h → (p : ℕ) → 1 ≤ p → p ≤ h .pages → (buffer : List ℕ) → length buffer ≡ 256 → Inspects h p buffer
-  pub loads : (h : History) → Legal h → (m : List ℕ) (s : State) → reached h .power ≡ on m s → (p f : ℕ) → Loads h m s p f
+  -- demand 3's sentence on one history; that on two histories is `Demand3`
+  pub inspects : (h : History) → Legal h → (p : ℕ) → 1 ≤ p → p ≤ h .pages
+      → (buffer : List ℕ) → length buffer ≡ 256 → Inspects h p buffer
+  pub loads : (h : History) → Legal h → (m : List ℕ) (s : State) → reached h .power ≡ on m s
+      → (p f : ℕ) → Loads h m s p f
 
--- "If both kept lists, pages included, are beginnings of one list, then all pages 1 to P agree in those bytes or give 7 in both, exactly
--- when the kept lists are equally long." The counts of slots, log records and notes, the memories and the buffers may differ.
+-- "If both kept lists, pages included, are beginnings of one list, then all pages 1 to P agree in those bytes or give 7
+-- in both, exactly when the kept lists are equally long." The counts of slots, log records and notes, the memories and
+-- the buffers may differ. What each history's inspection shows by itself stands in `Demand2.inspects`.
 abbrev pub Demand3 : Type 0
 Demand3 =
     (h k : History) → Legal h → Legal k → h .pages ≡ k .pages

@@ -1,17 +1,18 @@
--- Demand 1 as a type, for any volume, memory, state and arguments: a call is refused exactly if a row of its table holds, with the first such
--- row's number; a refused call changes nothing; a call stores at most one item. (That every call ends and does nothing undefined is what the
--- checker shows of the code.) States document 01, "Refusal by place": "Each is given under its condition and only then."
+-- Demand 1 as a type, for any volume, memory, state and arguments: a call is refused exactly if a row of its table
+-- holds, with the first such row's number; a refused call changes nothing; a call stores at most one item. (That every
+-- call ends and does nothing undefined is what the checker shows of the code.) States document 01, "Refusal by place":
+-- "Each is given under its condition and only then."
 use Prim.Native.Nat.{ℕ, zero, suc, _+_, _≤_, _<_}
 use mathlib.Core.Path.{_≡_}
 use mathlib.Core.Logic.{_≢_, _⊎_, _↔_}
 use mathlib.Core.Bool.{Bool, true, false}
 use mathlib.Core.List.{List, [], _∷_}
 use lib.ListN.{length, getD}
-use Rattle.model.specs.Tests.{Row}
-use Rattle.model.specs.Geometry.{Place, width, start, geometryOf}
+use Rattle.model.specs.Tables.{Row}
+use Rattle.model.specs.Geometry.{Place, itemOf, width, start, geometryOf, validVolume}
 use Rattle.model.specs.State.{zeroState}
 use Rattle.model.specs.Refusals.{makeRows, restartRows, inspectRows}
-use Rattle.model.specs.Calls.{StoredItem, nothing, Outcome, volumeAfter, refusalOf, Call, rowsOf, outcomeOf, makeOf, restartOf, inspectOf}
+use Rattle.model.specs.Calls.{StoredItem, nothing, oneItem, Outcome, volumeAfter, refusalOf, Call, rowsOf, outcomeOf, makeOf, restartOf, inspectOf}
 use Rattle.model.specs.declared.state.State.{State}
 
 -- a row of the table holds, has the number, and no row before it holds
@@ -28,12 +29,19 @@ pub record ByTable (rows : List Row) (n : ℕ) : Type 0 where
   pub only : (k : ℕ) → Decides rows k → n ≡ k
   pub numbered : (k : ℕ) → Decides rows k → k ≢ 0
 
--- two volumes have one length and differ at most within the place of one item
-pub record DiffersAt (v w : List ℕ) (at : Place) : Type 0 where
-  pub size : length w ≡ length v
-  pub outside : (i : ℕ) → (i < start (geometryOf v) at) ⊎ (start (geometryOf v) at + width at ≤ i) → getD w i 0 ≡ getD v i 0
+-- what a call may store: nothing, or one item of a valid volume, as many bytes as the item has
+abbrev pub StoresItem : List ℕ → StoredItem → Type 0
+StoresItem v nothing = Unit {0}
+StoresItem v (oneItem at xs) = (validVolume v ≡ true) × (itemOf (geometryOf v) at ≡ true) × (length xs ≡ width at)
 
--- the same volume, or one item stored
+-- two volumes have one length and differ at most within the place of one item of the first
+pub record DiffersAt (v w : List ℕ) (at : Place) : Type 0 where
+  pub item : itemOf (geometryOf v) at ≡ true
+  pub size : length w ≡ length v
+  pub outside : (i : ℕ) → (i < start (geometryOf v) at) ⊎ (start (geometryOf v) at + width at ≤ i)
+      → getD w i 0 ≡ getD v i 0
+
+-- the same volume, or one item of it stored
 abbrev pub AtMostOneItem : List ℕ → List ℕ → Type 0
 AtMostOneItem v w = (w ≡ v) ⊎ ((at : Place) × DiffersAt v w at)
 
@@ -43,6 +51,7 @@ pub record Keeps (c : Call) (v m : List ℕ) (s : State) : Type 0 where
   pub state : refusalOf (outcomeOf c v m s .answer) ≢ 0 → outcomeOf c v m s .state ≡ s
   pub memory : refusalOf (outcomeOf c v m s .answer) ≢ 0 → outcomeOf c v m s .memory ≡ m
   pub volume : refusalOf (outcomeOf c v m s .answer) ≢ 0 → volumeAfter v (outcomeOf c v m s .stored) ≡ v
+  pub stored : StoresItem v (outcomeOf c v m s .stored)
   pub oneItem : AtMostOneItem v (volumeAfter v (outcomeOf c v m s .stored))
 
 -- the state's arrays have their declared lengths, as every value of the code's type has

@@ -1,11 +1,12 @@
--- A volume's heading, counts and length, and the place of each item in it. States document 01, "The volume and the memory":
--- the four bytes 43 48 50 56, then each section after its count; P 1 to 64, B 0 to 128, L 1 to 1,024, N 0 to 1,024; the length.
+-- A volume's heading, counts and length, and the place of each item in it. States document 01, "The volume and the
+-- memory": the four bytes 43 48 50 56, then each section after its count; P 1 to 64, B 0 to 128, L 1 to 1,024, N 0 to
+-- 1,024; the length.
 use Prim.Native.Nat.{ℕ, _+_, _-_, _*_}
 use mathlib.Core.Bool.{Bool, true, false, _&&_}
 use mathlib.Core.List.{List, [], _∷_, _++_}
 use lib.Dec.{eqb, leb}
 use lib.ListN.{length, replicate}
-use Rattle.model.specs.Tests.{all, within}
+use Rattle.model.specs.Tables.{all, within}
 use Rattle.model.specs.Bytes.{le, bytesOf, field, byteAt, part, splice, startsWith}
 use Rattle.model.specs.declared.geometry.Geometry.{Geometry}
 
@@ -72,6 +73,13 @@ width (pageAt i) = 256
 width (slotAt i) = 256
 width (recordAt i) = 64
 width (noteAt i) = 16
+
+-- the place is an item of a volume of this geometry: page 1 to P, slot 1 to B, log slot 1 to L or note slot 1 to N
+abbrev pub itemOf : Geometry → Place → Bool
+itemOf g (pageAt i) = within (g .pages) i
+itemOf g (slotAt i) = within (g .slots) i
+itemOf g (recordAt i) = within (g .records) i
+itemOf g (noteAt i) = within (g .notes) i
 
 -- where an item starts
 abbrev pub start : Geometry → Place → ℕ

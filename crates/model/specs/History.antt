@@ -5,7 +5,7 @@ use mathlib.Core.Bool.{Bool, true, false, cond, _&&_, _||_, not}
 use mathlib.Core.List.{List, [], _∷_, _++_}
 use lib.Dec.{eqb, leb, ltb}
 use lib.ListN.{length}
-use Rattle.model.specs.Tests.{all, firstOf, within}
+use Rattle.model.specs.Tables.{all, firstOf, within}
 use Rattle.model.specs.Bytes.{sameBytes}
 use Rattle.model.specs.Checksum.{sealed, imageSealed}
 use Rattle.model.specs.Geometry.{Place, pageAt, slotAt, recordAt, noteAt, width, geometryOf, store}

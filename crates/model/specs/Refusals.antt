@@ -5,7 +5,7 @@ use mathlib.Core.Bool.{Bool, true, false, _&&_, not}
 use mathlib.Core.List.{List, [], _∷_}
 use lib.Dec.{eqb, leb, ltb}
 use lib.ListN.{length}
-use Rattle.model.specs.Tests.{Row, within}
+use Rattle.model.specs.Tables.{Row, within}
 use Rattle.model.specs.Geometry.{geometryOf, validCounts, validVolume, lengthFor}
 use Rattle.model.specs.Change.{fits}
 use Rattle.model.specs.Item.{imageLsn}

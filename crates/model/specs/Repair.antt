@@ -5,7 +5,7 @@ use mathlib.Core.Bool.{Bool, true, false, cond, _&&_}
 use mathlib.Core.List.{List, [], _∷_}
 use lib.Dec.{eqb, ltb}
 use lib.ListN.{length}
-use Rattle.model.specs.Tests.{all}
+use Rattle.model.specs.Tables.{all}
 use Rattle.model.specs.Checksum.{sealed}
 use Rattle.model.specs.Geometry.{Place, pageAt, slotAt, item, logSlot}
 use Rattle.model.specs.Change.{zeroBody}

@@ -5,7 +5,7 @@ use mathlib.Core.Bool.{Bool, true, false, cond, _&&_, not}
 use mathlib.Core.List.{List, [], _∷_}
 use lib.Dec.{eqb, leb}
 use lib.ListN.{replicate}
-use Rattle.model.specs.Tests.{all, every, within}
+use Rattle.model.specs.Tables.{all, every, within}
 use Rattle.model.specs.Bytes.{part, allZero}
 use Rattle.model.specs.Checksum.{sealedRun}
 use Rattle.model.specs.Geometry.{Place, recordAt, noteAt, width, start, item, logSlot, noteSlot}

@@ -5,7 +5,7 @@ use mathlib.Core.Bool.{Bool, true, false, cond, _&&_, _||_, not}
 use mathlib.Core.List.{List, [], _∷_}
 use lib.Dec.{eqb, leb, ltb}
 use lib.ListN.{length, getD, replicate}
-use Rattle.model.specs.Tests.{all, every, within}
+use Rattle.model.specs.Tables.{all, every, within}
 use Rattle.model.specs.Bytes.{part}
 use Rattle.model.specs.Item.{noteLayout, isWritten}
 use Rattle.model.specs.Index.{emptyEntry, emptyIndex, entryRow, entryOf}

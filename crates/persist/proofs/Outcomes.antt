@@ -4,15 +4,16 @@ use mathlib.Core.Bool.{Bool, true, false}
 use mathlib.Core.List.{List, []}
 use Prim.Native.Nat.{ℕ, _+_}
 use borrow.Author.Tests.{eq-eqb, ne-eqb}
-use Rattle.laws.proofs.Tests.{when-true, when-false}
-use Rattle.model.specs.Tests.{Row, firstOf}
+use Rattle.laws.proofs.Tables.{when-true, when-false}
+use Rattle.model.specs.Tables.{Row, firstOf}
 use Rattle.model.specs.Bytes.{splice}
 use Rattle.model.specs.Checksum.{sealImage}
 use Rattle.model.specs.Item.{imageLsn, noteBytes}
-use Rattle.model.specs.Geometry.{Place, pageAt, slotAt, noteAt, start, store, geometryOf}
+use Rattle.model.specs.Geometry.{Place, pageAt, slotAt, noteSlot, start, store, geometryOf}
 use Rattle.model.specs.State.{frameBytes, frameOf, holder}
 use Rattle.model.specs.Refusals.{stateRows, pageDirty, writeRows, backupRows, noteRows}
-use Rattle.model.specs.Calls.{Outcome, oneItem, unchanged, decided, withFrame, withFrames, nextNote, writeOf, backupOf, notedState, noteStored, noteCall, replyOf, volumeAfter}
+use Rattle.model.specs.Calls.{Outcome, oneItem, unchanged, decided, withFrame, withFrames, nextNote}
+use Rattle.model.specs.Calls.{writeOf, backupOf, notedState, noteStored, noteCall, replyOf, volumeAfter}
 use Rattle.model.specs.declared.geometry.Geometry.{Geometry}
 use Rattle.model.specs.declared.item.Note.{Note}
 use Rattle.model.specs.declared.state.Frame.{Frame}
@@ -43,7 +44,8 @@ unfolding volumeAfter
 idle v m s = (refl, refl)
 
 -- an item stored at a place; the code's geometry and offset
-stored : (v m : List ℕ) (t u : State) (g : Geometry) (k : ℕ) (w x y : List ℕ) (at : Place) → t ≡ u → x ≡ y → g ≡ geometryOf v → k ≡ start g at
+stored : (v m : List ℕ) (t u : State) (g : Geometry) (k : ℕ) (w x y : List ℕ) (at : Place) → t ≡ u → x ≡ y → g ≡ geometryOf v → k
+    ≡ start g at
     → w ≡ splice v k x
     → Gives v Done t w (record { answer = Done; state = u; memory = m; stored = oneItem at y })
 unfolding volumeAfter store
@@ -56,7 +58,8 @@ module _ (v m : List ℕ) (s : State) (page : ℕ) where
   unfolding writeOf
   write-refused n = refused v m s (writeRows v m s page) _ n
 
-  pub backup-refused : (slot n : ℕ) → n ≡ firstOf (backupRows v m s page slot) → (n ≡ 0 → ⊥) → Gives v (Refused n) s v (backupOf v m s page slot)
+  pub backup-refused : (slot n : ℕ) → n ≡ firstOf (backupRows v m s page slot) → (n ≡ 0 → ⊥) → Gives v (Refused n) s v
+      (backupOf v m s page slot)
   unfolding backupOf
   backup-refused slot n = refused v m s (backupRows v m s page slot) _ n
 
@@ -66,9 +69,11 @@ module _ (v m : List ℕ) (s : State) (page : ℕ) where
 
   pub write-idle : firstOf (writeRows v m s page) ≡ 0 → pageDirty s page ≡ false → Gives v Nothing s v (writeOf v m s page)
   unfolding writeOf
-  write-idle e d = gives-is v Nothing s v (unchanged Nothing m s) _ (sym (when-false _ _ d) ∙ passed v m s (writeRows v m s page) _ e) (idle v m s)
+  write-idle e d = gives-is v Nothing s v (unchanged Nothing m s) _ (sym (when-false _ _ d) ∙ passed v m s (writeRows v m s page) _ e)
+      (idle v m s)
 
-  module _ (g : Geometry) (f lsn k : ℕ) (t : State) (w : List ℕ) (eg : g ≡ geometryOf v) (ef : f ≡ holder s page) (el : lsn ≡ imageLsn (frameBytes m f))
+  module _ (g : Geometry) (f lsn k : ℕ) (t : State) (w : List ℕ) (eg : g ≡ geometryOf v) (ef : f ≡ holder s page)
+      (el : lsn ≡ imageLsn (frameBytes m f))
       (ew : w ≡ splice v k (sealImage g (frameBytes m f))) where
     image-is : sealImage g (frameBytes m f) ≡ sealImage (geometryOf v) (frameBytes m (holder s page))
     image-is = ap (λ (i : ℕ). sealImage g (frameBytes m i)) ef ∙ ap (λ (h : Geometry). sealImage h (frameBytes m (holder s page))) eg
@@ -100,12 +105,13 @@ module _ (v m : List ℕ) (s : State) where
   note-idle e d =
       gives-is v Nothing s v (unchanged Nothing m s) _ (sym (ap (noteStored v m s) d) ∙ passed v m s (stateRows v m s []) _ e) (idle v m s)
 
-  pub note-done : (n : Note) (g : Geometry) (k : ℕ) (t : State) (w : List ℕ) → firstOf (stateRows v m s []) ≡ 0 → s .note ≡ Present n → g ≡ geometryOf v
-      → k ≡ start g (noteAt (s .notes + 1))
+  pub note-done : (n : Note) (g : Geometry) (k : ℕ) (t : State) (w : List ℕ) → firstOf (stateRows v m s []) ≡ 0 → s .note ≡ Present n → g
+      ≡ geometryOf v
+      → k ≡ start g (noteSlot g (s .notes + 1))
       → t ≡ notedState s n
       → w ≡ splice v k (noteBytes n)
       → Gives v Done t w (noteCall v m s)
   unfolding noteCall noteRows
   note-done n g k t w e d eg ek et ew =
       gives-is v Done t w _ _ (sym (ap (noteStored v m s) d) ∙ passed v m s (stateRows v m s []) _ e)
-      (stored v m t _ g k w (noteBytes n) _ (noteAt (s .notes + 1)) et refl eg ek ew)
+      (stored v m t _ g k w (noteBytes n) _ (noteSlot (geometryOf v) (s .notes + 1)) et refl eg ek ew)

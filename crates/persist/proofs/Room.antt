@@ -7,13 +7,13 @@ use native.Mathlib.Omega.{arith}
 use lib.Dec.{leb}
 use lib.ListN.{length, getD}
 use borrow.Author.Tests.{leb-false, eqb-false, not-false}
-use Rattle.laws.proofs.Tests.{none-at, within-bounds}
+use Rattle.laws.proofs.Tables.{none-at, within-bounds}
 use Rattle.laws.proofs.Places.{valid-facts, place-fits, In}
 use Rattle.laws.proofs.WellFormed.{Ready, ready, formed-note, holder-low, holder-high, holder-within, frame-within}
 use Rattle.persist.specs.Rows.{writeTail, backupTail}
-use Rattle.model.specs.Tests.{Row, firstOf, within}
+use Rattle.model.specs.Tables.{Row, firstOf, within}
 use Rattle.model.specs.Item.{imageLsn}
-use Rattle.model.specs.Geometry.{geometryOf, Place, pageAt, slotAt, noteAt, width, start}
+use Rattle.model.specs.Geometry.{geometryOf, Place, pageAt, slotAt, noteSlot, width, start}
 use Rattle.model.specs.State.{frameCount, frameAt, frameBytes, lastNote, holder, held, pendingNoteFits}
 use Rattle.model.specs.Refusals.{stateRows, pageDirty, writeRows, backupRows}
 use Rattle.model.specs.declared.geometry.Geometry.{Geometry}
@@ -58,9 +58,11 @@ module _ (v m : List ℕ) (s : State) (g : Geometry) (page : ℕ) (sixteen : len
       let rows = writeTail (geometryOf v) s page (holder s page) (imageLsn (frameBytes m (holder s page))) in
       let k = ready v m s rows h in
       let none : (i : ℕ) → getD rows i (false, 0) .0 ≡ false =
-      none-at rows (eqb-false 3 0 refl, (eqb-false 8 0 refl, (eqb-false 13 0 refl, (eqb-false 14 0 refl, (eqb-false 15 0 refl, tt))))) (k .rest) in
+      none-at rows (eqb-false 3 0 refl, (eqb-false 8 0 refl, (eqb-false 13 0 refl, (eqb-false 14 0 refl, (eqb-false 15 0 refl, tt)))))
+      (k .rest) in
       let hp : within (geometryOf v .pages) page ≡ true = not-false _ (none 0) in
-      opened rows (pageAt page) k hp (not-false _ (none 1)) (sym (ap (λ (b : Bool). b && leb (geometryOf v .notes) (lastNote s)) d) ∙ none 3)
+      opened rows (pageAt page) k hp (not-false _ (none 1))
+      (sym (ap (λ (b : Bool). b && leb (geometryOf v .notes) (lastNote s)) d) ∙ none 3)
       (within-bounds (geometryOf v .pages) page hp)
 
   -- the slot, and the room of Backup
@@ -70,8 +72,13 @@ module _ (v m : List ℕ) (s : State) (g : Geometry) (page : ℕ) (sixteen : len
       let rows = backupTail (geometryOf v) s page slot (holder s page) (imageLsn (frameBytes m (holder s page))) in
       let k = ready v m s rows h in
       let none : (i : ℕ) → getD rows i (false, 0) .0 ≡ false =
-      none-at rows
-      (eqb-false 3 0 refl, (eqb-false 5 0 refl, (eqb-false 8 0 refl, (eqb-false 13 0 refl, (eqb-false 14 0 refl, (eqb-false 15 0 refl, (eqb-false 16 0 refl, tt)))))))
+      none-at rows (
+        eqb-false 3 0 refl,
+        (
+          eqb-false 5 0 refl,
+          (eqb-false 8 0 refl, (eqb-false 13 0 refl, (eqb-false 14 0 refl, (eqb-false 15 0 refl, (eqb-false 16 0 refl, tt))))),
+        ),
+      )
       (k .rest) in
       let w = within-bounds (geometryOf v .slots) slot (not-false _ (none 1)) in (
         omega (arith, w .1, valid-facts v (k .volume) .b-high),
@@ -83,9 +90,10 @@ pub record NoteRoom (v : List ℕ) (s : State) (g : Geometry) (n : Note) : Type 
   pub page-low : 1 ≤ n .page
   pub page-high : n .page ≤ 64
   pub notes : s .notes < 1024
-  pub place : start g (noteAt (s .notes + 1)) + 16 ≤ length v
+  pub place : start g (noteSlot g (s .notes + 1)) + 16 ≤ length v
 
-pub note-room : (v m : List ℕ) (s : State) (g : Geometry) (n : Note) → g ≡ geometryOf v → firstOf (stateRows v m s []) ≡ 0 → s .note ≡ Present n → NoteRoom v s g n
+pub note-room : (v m : List ℕ) (s : State) (g : Geometry) (n : Note) → g ≡ geometryOf v → firstOf (stateRows v m s []) ≡ 0 → s .note
+    ≡ Present n → NoteRoom v s g n
 note-room v m s g n eg h e =
     let k = ready v m s [] h in
     let f = valid-facts v (k .volume) in
@@ -95,5 +103,5 @@ note-room v m s g n eg h e =
       page-low = w .low;
       page-high = omega (arith, w .high, f .p-high);
       notes = omega (arith, w .room, f .n-high);
-      place = rw eg (place-fits (geometryOf v) v (f .size) (noteAt (s .notes + 1)) (omega arith, omega (arith, w .room)));
+      place = rw eg (place-fits (geometryOf v) v (f .size) (noteSlot (geometryOf v) (s .notes + 1)) (omega arith, omega (arith, w .room)));
     }

@@ -6,7 +6,7 @@ use Prim.Native.Nat.{ℕ}
 use lib.Dec.{eqb, ltb}
 use Rattle.state.proofs.Fits.{refusal-then}
 use Rattle.persist.specs.Rows.{noteTail, writeTail, backupTail}
-use Rattle.model.specs.Tests.{firstOf, within}
+use Rattle.model.specs.Tables.{firstOf, within}
 use Rattle.model.specs.Item.{imageLsn}
 use Rattle.model.specs.Index.{slotUsed}
 use Rattle.model.specs.Geometry.{geometryOf}
@@ -21,13 +21,15 @@ module _ (v m : List ℕ) (s : State) (g : Geometry) (n page f lsn rest r : ℕ)
   pub write-rows : rest ≡ firstOf (writeTail g s page f lsn) → r ≡ firstOf (writeRows v m s page)
   unfolding writeRows
   write-rows er =
-      ek ∙ refusal-then v m s (writeTail (geometryOf v) s page (holder s page) (imageLsn (frameBytes m (holder s page)))) n rest e (er ∙ rw (el, ef, eg))
+      ek ∙ refusal-then v m s (writeTail (geometryOf v) s page (holder s page) (imageLsn (frameBytes m (holder s page)))) n rest e
+      (er ∙ rw (el, ef, eg))
 
   pub backup-rows : (slot : ℕ) → rest ≡ firstOf (backupTail g s page slot f lsn) → r ≡ firstOf (backupRows v m s page slot)
   unfolding backupRows
   backup-rows slot er =
       ek
-      ∙ refusal-then v m s (backupTail (geometryOf v) s page slot (holder s page) (imageLsn (frameBytes m (holder s page)))) n rest e (er ∙ rw (el, ef, eg))
+      ∙ refusal-then v m s (backupTail (geometryOf v) s page slot (holder s page) (imageLsn (frameBytes m (holder s page)))) n rest e
+      (er ∙ rw (el, ef, eg))
 
 -- the tests of the rows that both have
 pub note-own : (g : Geometry) (s : State) (t pending : Bool) (lsn rest a b k : ℕ) → pending ≡ notePending (s .note)

@@ -1,7 +1,7 @@
-// Backup: stores a page's image in a backup slot and owes a note of it.
+// Backup: stores a page's image in a backup slot and leaves a note of it pending.
 ghost use mathlib.Core.Path.{_≡_};
 ghost use Rattle.persist.specs.Rows.{backupTail};
-ghost use Rattle.model.specs.Tests.{firstOf};
+ghost use Rattle.model.specs.Tables.{firstOf};
 ghost use Rattle.model.specs.Refusals.{backupRows};
 ghost use Rattle.model.specs.Calls.{backupOf, replyOf, volumeAfter};
 use crate::image;
@@ -12,43 +12,46 @@ use model::geometry::Geometry;
 use model::state::State;
 use state::frames;
 use state::next;
-use state::rows;
 use volume::heading;
 use volume::place;
+use volume::rows;
 
 // The rows of Backup's own, for the frame that holds the page, or 0, and the page lsn in it.
-fn own(g: Geometry, s: State, page: u32, slot: u32, f: u32, lsn: u32) -> u32
+fn own(s: State, g: Geometry, page: u32, slot: u32, f: u32, lsn: u32) -> u32
     ensures { λ r. ⌜ r ≡ firstOf (backupTail g s page slot f lsn) ⌝ }
 {
     let outside = !((1 <= page) & (page <= g.pages));
-    let noslot = !((1 <= slot) & (slot <= g.slots));
+    let no_slot = !((1 <= slot) & (slot <= g.slots));
     let index = s.index;
     let used = index::rows::used(index, slot);
-    let rest = noting::refusal(g, s, true, lsn, rows::first(used, 16, 0));
+    let rest = noting::refusal(s, g, true, lsn, rows::first(used, 16, 0));
     rows::first(
         outside,
         3,
-        rows::first(noslot, 5, rows::first(!(0 < f), 8, rest)),
+        rows::first(no_slot, 5, rows::first(!(0 < f), 8, rest)),
     )
 }
 
 // The refusal, the lowest that holds.
-fn refusal(s: State, v: &[u8], m: &[u8], page: u32, slot: u32) -> u32
-    ensures { λ r. ⌜ r ≡ firstOf (backupRows (now (v .entry)) (now (m .entry)) s page slot) ⌝ }
+fn refusal(s: State, volume: &[u8], memory: &[u8], page: u32, slot: u32) -> u32
+    ensures { λ r. ⌜ r ≡ firstOf (backupRows (now (volume .entry)) (now (memory .entry)) s page slot) ⌝ }
 {
-    let no = rows::refusal(v, m.len(), s);
-    let g = heading::geometry(v);
+    let no = state::rows::refusal(s, volume, memory.len());
+    let g = heading::geometry(volume);
     let f = frames::holder(s, page);
-    let lsn = image::lsn(m, f);
-    let rest = own(g, s, page, slot, f, lsn);
+    let lsn = image::lsn(memory, f);
+    let rest = own(s, g, page, slot, f, lsn);
     rows::first(no != 0, no, rest)
 }
 
-// Stores the image of a page that a frame holds in the slot; a note of it is owed.
+// Stores the image of a page that a frame holds in the slot; a note of it is pending.
 // Ruled out: a slot overwritten that the index names; a note of another slot than the image's.
 pub fn backup(s: State, volume: &mut [u8], memory: &[u8], page: u32, slot: u32) -> Reply
     ensures reply { λ r. ⌜ r ≡ replyOf (backupOf (now (volume .entry)) (now (memory .entry)) s page slot) ⌝ }
-    ensures volume { λ _. ⌜ now (volume .exit) ≡ volumeAfter (now (volume .entry)) (backupOf (now (volume .entry)) (now (memory .entry)) s page slot .stored) ⌝ }
+    ensures volume { λ _.
+        ⌜ now (volume .exit)
+        ≡ volumeAfter (now (volume .entry)) (backupOf (now (volume .entry))
+        (now (memory .entry)) s page slot .stored) ⌝ }
 {
     let no = refusal(s, volume, memory, page, slot);
     if no != 0 {
@@ -60,9 +63,9 @@ pub fn backup(s: State, volume: &mut [u8], memory: &[u8], page: u32, slot: u32) 
     let f = frames::holder(s, page);
     let g = heading::geometry(volume);
     let lsn = image::lsn(memory, f);
-    image::store(volume, place::slotat(g, slot), memory, f, g);
+    image::store(volume, memory, g, place::slot_at(g, slot), f);
     Reply {
         answer: Answer::Done,
-        state: next::backedup(s, page, slot, lsn),
+        state: next::backed_up(s, page, slot, lsn),
     }
 }

@@ -11,22 +11,23 @@ use model::geometry::Geometry;
 use volume::memory;
 
 // The page lsn of the image in frame f; past the memory's end bytes read as 0.
-pub fn lsn(m: &[u8], f: u32) -> u32
-    ensures { λ r. ⌜ r ≡ imageLsn (frameBytes (now (m .entry)) f) ⌝ }
+pub fn lsn(memory: &[u8], f: u32) -> u32
+    ensures { λ r. ⌜ r ≡ imageLsn (frameBytes (now (memory .entry)) f) ⌝ }
 {
-    let at = memory::frameat(f);
-    field::u32at(m, at + 4)
+    let at = memory::frame_at(f);
+    field::u32_at(memory, at + 4)
 }
 
 // Stores the image in frame f, its checksum set, at a place of the volume.
-pub fn store(v: &mut [u8], at: usize, m: &[u8], f: u32, g: Geometry)
-    requires { ⌜ (at + 256 ≤ length (now v)) × (frameAt f + 256 ≤ length (now m)) ⌝ }
-    ensures { λ _. ⌜ now (v .exit) ≡ splice (now (v .entry)) at (sealImage g (frameBytes (now (m .entry)) f)) ⌝ }
+pub fn store(volume: &mut [u8], memory: &[u8], g: Geometry, at: usize, f: u32)
+    requires { ⌜ (at + 256 ≤ length (now volume)) × (frameAt f + 256 ≤ length (now memory)) ⌝ }
+    ensures { λ _.
+        ⌜ now (volume .exit) ≡ splice (now (volume .entry)) at (sealImage g (frameBytes (now (memory .entry)) f)) ⌝ }
 {
-    let from = memory::frameat(f);
+    let from = memory::frame_at(f);
     let past = from + 256;
-    let frame = &m[from..past];
+    let frame = &memory[from..past];
     let end = at + 256;
-    let slot = &mut v[at..end];
+    let slot = &mut volume[at..end];
     item::image::store(slot, frame, g);
 }

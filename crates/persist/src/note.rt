@@ -1,4 +1,4 @@
-// Note: stores the owed note; only then does the index change.
+// Note: stores the pending note; only then does the index change.
 ghost use mathlib.Core.Path.{_≡_};
 ghost use Rattle.model.specs.Calls.{noteCall, replyOf, volumeAfter};
 use model::answer::Answer;
@@ -6,17 +6,19 @@ use model::answer::Reply;
 use model::state::PendingNote;
 use model::state::State;
 use state::next;
-use state::rows;
 use volume::heading;
 use volume::place;
 
-// Stores the owed note in the next note slot and enters it in the index. Nothing where none is owed.
-// Ruled out: a note stored over an earlier one; Nothing while a note is owed; an index with another number than the note's.
+// Stores the pending note in the next note slot and enters it in the index. Nothing where none is pending.
+// Ruled out: a note stored over an earlier one; Nothing while a note is pending; an index with another number than the
+// note's.
 pub fn note(s: State, volume: &mut [u8], memory: &[u8]) -> Reply
     ensures reply { λ r. ⌜ r ≡ replyOf (noteCall (now (volume .entry)) (now (memory .entry)) s) ⌝ }
-    ensures volume { λ _. ⌜ now (volume .exit) ≡ volumeAfter (now (volume .entry)) (noteCall (now (volume .entry)) (now (memory .entry)) s .stored) ⌝ }
+    ensures volume { λ _.
+        ⌜ now (volume .exit)
+        ≡ volumeAfter (now (volume .entry)) (noteCall (now (volume .entry)) (now (memory .entry)) s .stored) ⌝ }
 {
-    let no = rows::refusal(volume, memory.len(), s);
+    let no = state::rows::refusal(s, volume, memory.len());
     if no != 0 {
         return Reply {
             answer: Answer::Refused(no),
@@ -32,7 +34,7 @@ pub fn note(s: State, volume: &mut [u8], memory: &[u8]) -> Reply
     };
     let g = heading::geometry(volume);
     let number = s.notes + 1;
-    let at = place::noteat(g, number);
+    let at = place::note_slot(g, number);
     let end = at + 16;
     let slot = &mut volume[at..end];
     item::note::encode(slot, n);

@@ -1,4 +1,4 @@
-// The rows 13 to 15, which Write and Backup share: whether the state may owe a note of an image.
+// The rows 13 to 15, which Write and Backup share: whether a note of an image may be left pending.
 ghost use mathlib.Core.Path.{_≡_};
 ghost use mathlib.Core.Bool.{_&&_, cond};
 ghost use lib.Dec.{ltb};
@@ -6,7 +6,7 @@ ghost use Rattle.model.specs.State.{notePending, notesFull};
 use model::geometry::Geometry;
 use model::state::PendingNote;
 use model::state::State;
-use state::rows;
+use volume::rows;
 
 // A note is to be stored.
 fn present(p: PendingNote) -> bool
@@ -19,8 +19,11 @@ fn present(p: PendingNote) -> bool
 }
 
 // The first of the rows that holds, where t does, for an image of this page lsn; else rest.
-pub fn refusal(g: Geometry, s: State, t: bool, lsn: u32, rest: u32) -> u32
-    ensures { λ r. ⌜ r ≡ cond (t && notePending (s .note)) 13 (cond (t && notesFull g s) 14 (cond (t && ltb (s .durable) lsn) 15 rest)) ⌝ }
+pub fn refusal(s: State, g: Geometry, t: bool, lsn: u32, rest: u32) -> u32
+    ensures { λ r.
+        ⌜ r
+        ≡ cond (t && notePending (s .note)) 13 (cond (t && notesFull g s) 14
+        (cond (t && ltb (s .durable) lsn) 15 rest)) ⌝ }
 {
     let p = s.note;
     let pending = present(p);

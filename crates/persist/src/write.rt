@@ -1,7 +1,7 @@
-// Write: stores a dirty page's image and owes a note of it.
+// Write: stores a dirty page's image and leaves a note of it pending.
 ghost use mathlib.Core.Path.{_≡_};
 ghost use Rattle.persist.specs.Rows.{writeTail};
-ghost use Rattle.model.specs.Tests.{firstOf};
+ghost use Rattle.model.specs.Tables.{firstOf};
 ghost use Rattle.model.specs.Refusals.{writeRows};
 ghost use Rattle.model.specs.Calls.{writeOf, replyOf, volumeAfter};
 use crate::image;
@@ -12,37 +12,39 @@ use model::geometry::Geometry;
 use model::state::State;
 use state::frames;
 use state::next;
-use state::rows;
 use volume::heading;
 use volume::place;
+use volume::rows;
 
 // The rows of Write's own, for the frame that holds the page, or 0, and the page lsn in it.
-fn own(g: Geometry, s: State, page: u32, f: u32, lsn: u32) -> u32
+fn own(s: State, g: Geometry, page: u32, f: u32, lsn: u32) -> u32
     ensures { λ r. ⌜ r ≡ firstOf (writeTail g s page f lsn) ⌝ }
 {
     let outside = !((1 <= page) & (page <= g.pages));
     let dirty = frames::frame(s, f).dirty;
-    let rest = noting::refusal(g, s, dirty, lsn, 0);
+    let rest = noting::refusal(s, g, dirty, lsn, 0);
     rows::first(outside, 3, rows::first(!(0 < f), 8, rest))
 }
 
 // The refusal, the lowest that holds.
-fn refusal(s: State, v: &[u8], m: &[u8], page: u32) -> u32
-    ensures { λ r. ⌜ r ≡ firstOf (writeRows (now (v .entry)) (now (m .entry)) s page) ⌝ }
+fn refusal(s: State, volume: &[u8], memory: &[u8], page: u32) -> u32
+    ensures { λ r. ⌜ r ≡ firstOf (writeRows (now (volume .entry)) (now (memory .entry)) s page) ⌝ }
 {
-    let no = rows::refusal(v, m.len(), s);
-    let g = heading::geometry(v);
+    let no = state::rows::refusal(s, volume, memory.len());
+    let g = heading::geometry(volume);
     let f = frames::holder(s, page);
-    let lsn = image::lsn(m, f);
-    let rest = own(g, s, page, f, lsn);
+    let lsn = image::lsn(memory, f);
+    let rest = own(s, g, page, f, lsn);
     rows::first(no != 0, no, rest)
 }
 
-// Stores a dirty page's image; the page is clean, a note of it is owed. Nothing on a clean page.
+// Stores a dirty page's image; the page is clean, a note of it is pending. Nothing on a clean page.
 // Ruled out: a note of another page lsn than the image's; 13 to 15 on a clean page.
 pub fn write(s: State, volume: &mut [u8], memory: &[u8], page: u32) -> Reply
     ensures reply { λ r. ⌜ r ≡ replyOf (writeOf (now (volume .entry)) (now (memory .entry)) s page) ⌝ }
-    ensures volume { λ _. ⌜ now (volume .exit) ≡ volumeAfter (now (volume .entry)) (writeOf (now (volume .entry)) (now (memory .entry)) s page .stored) ⌝ }
+    ensures volume { λ _.
+        ⌜ now (volume .exit)
+        ≡ volumeAfter (now (volume .entry)) (writeOf (now (volume .entry)) (now (memory .entry)) s page .stored) ⌝ }
 {
     let no = refusal(s, volume, memory, page);
     if no != 0 {
@@ -61,7 +63,7 @@ pub fn write(s: State, volume: &mut [u8], memory: &[u8], page: u32) -> Reply
     }
     let g = heading::geometry(volume);
     let lsn = image::lsn(memory, f);
-    image::store(volume, place::pageat(g, page), memory, f, g);
+    image::store(volume, memory, g, place::page_at(g, page), f);
     Reply {
         answer: Answer::Done,
         state: next::written(s, page, f, lsn),

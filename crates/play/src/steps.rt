@@ -1,17 +1,22 @@
-// The store's calls, each with a word of what was called and what it answered, and the short runs of them that the checks share.
+// The store's calls, each with a word of what was called and what it answered, and the short runs of them that the
+// checks share.
 use crate::disk::Image;
 use crate::disk::Memory;
 use crate::disk::Volume;
-use crate::print::answer;
-use crate::print::number;
-use crate::print::say;
 use crate::text;
+use model::answer::Answer;
 use model::change::Change;
-use store::Outcome;
+use print::number;
+use print::say;
+use store::Returned;
 use store::Store;
 
+fn answer(a: Answer) {
+    print::answer(a, b"nothing to store", b"done");
+}
+
 // Prints a call's answer and hands on the store.
-fn told(o: Outcome, end: &[u8]) -> Store {
+fn told(o: Returned, end: &[u8]) -> Store {
     let a = o.answer;
     let s = o.store;
     answer(a);
@@ -93,7 +98,7 @@ pub fn change(s: Store, v: &Volume, m: &mut Memory, page: u32, c: Change, words:
     say(b" \"");
     say(words);
     say(b"\": ");
-    told(s.change(v, m, page, c, text::row(words, 0)), b".")
+    told(s.change(v, m, page, c, text::row(words)), b".")
 }
 
 // Change and Force: a line put at a place of the page.
@@ -124,13 +129,20 @@ pub fn slide(
     force(t, v, m)
 }
 
+// Shows the text in frame 1.
+fn show_frame(memory: &[u8]) {
+    if 1280 <= memory.len() {
+        text::show(&memory[1024..1280]);
+    }
+}
+
 // Load into the frame of the page's number, and the text that it left in frame 1.
 pub fn load(s: Store, v: &Volume, m: &mut Memory, page: u32) -> Store {
     say(b"    Load page ");
     number(page);
     say(b": ");
     let t = told(s.load(v, m, page, page), b".\n");
-    text::show(m, 1024);
+    show_frame(m);
     t
 }
 
@@ -163,5 +175,5 @@ pub fn inspect(v: &Volume, page: u32, buffer: &mut Image) {
     let a = Store::inspect(v, page, buffer);
     answer(a);
     say(b"\n");
-    text::show(buffer, 0);
+    text::show(buffer);
 }

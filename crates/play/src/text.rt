@@ -1,14 +1,16 @@
 // The text of a page: its image's body as five lines of 44 bytes. Bytes past the end of a slice read as 0.
-ghost use Prim.Native.Nat.{_+_, _<_, _≤_};
+ghost use mathlib.Core.Path.{_≡_};
+ghost use Prim.Native.Nat.{_<_, _≤_};
 ghost use lib.ListN.{length};
-use crate::print::number;
-use crate::print::one;
-use crate::print::say;
+ghost use Rattle.play.specs.Text.{sameBetween};
+use crate::one;
 use codec::checksum;
 use codec::field;
+use print::number;
+use print::say;
 
 // The 44 bytes from a place on.
-pub fn row(s: &[u8], at: usize) -> [u8; 44]
+fn row_at(s: &[u8], at: usize) -> [u8; 44]
     requires { ⌜ at < 4096 ⌝ }
 {
     let mut row = [0u8; 44];
@@ -18,6 +20,11 @@ pub fn row(s: &[u8], at: usize) -> [u8; 44]
         i += 1;
     }
     row
+}
+
+// The first 44 bytes.
+pub fn row(s: &[u8]) -> [u8; 44] {
+    row_at(s, 0)
 }
 
 // How many bytes there are before the zeros at the end.
@@ -52,34 +59,28 @@ pub fn line(s: &[u8]) {
 fn line_at(s: &[u8], at: usize)
     requires { ⌜ at < 4096 ⌝ }
 {
-    let r = row(s, at);
+    let r = row_at(s, at);
     line(&r);
 }
 
-// Shows the text of the image that stands at a place.
-pub fn show(s: &[u8], at: usize)
-    requires { ⌜ at < 2048 ⌝ }
-{
-    line_at(s, at + 8);
-    line_at(s, at + 52);
-    line_at(s, at + 96);
-    line_at(s, at + 140);
-    line_at(s, at + 184);
+// Shows the text of an image.
+pub fn show(image: &[u8]) {
+    line_at(image, 8);
+    line_at(image, 52);
+    line_at(image, 96);
+    line_at(image, 140);
+    line_at(image, 184);
 }
 
-// Shows the image that stands at a place of a volume, unrepaired: its text, and the two things that the store tests.
-pub fn held(v: &[u8], at: usize)
-    requires { ⌜ (at < 2048) × (at + 256 ≤ length (now v)) ⌝ }
-{
-    show(v, at);
-    let end = at + 256;
-    let image = &v[at..end];
+// Shows an image as the disk holds it, unrepaired: its text, and the two things that the store tests.
+pub fn held(image: &[u8]) {
+    show(image);
     if checksum::holds(image, 252) {
         say(b"      (checksum right, number ");
     } else {
         say(b"      (checksum wrong, number ");
     }
-    number(field::u32at(image, 4));
+    number(field::u32_at(image, 4));
     say(b")\n");
 }
 
@@ -88,38 +89,38 @@ fn holds(s: &[u8], at: usize) -> bool {
     field::byte(s, at) != 0
 }
 
-// How many lines the image that stands at a place has.
-pub fn lines(s: &[u8], at: usize) -> u32
-    requires { ⌜ at < 2048 ⌝ }
+// How many lines an image has.
+pub fn lines(image: &[u8]) -> u32
+    ensures { λ r. ⌜ r ≤ 5 ⌝ }
 {
-    one(holds(s, at + 8))
-        + one(holds(s, at + 52))
-        + one(holds(s, at + 96))
-        + one(holds(s, at + 140))
-        + one(holds(s, at + 184))
+    one(holds(image, 8))
+        + one(holds(image, 52))
+        + one(holds(image, 96))
+        + one(holds(image, 140))
+        + one(holds(image, 184))
 }
 
-// The last line that is not blank, or the first.
-pub fn newest(s: &[u8], at: usize) -> [u8; 44]
-    requires { ⌜ at < 2048 ⌝ }
-{
-    if holds(s, at + 184) {
-        return row(s, at + 184);
+// The last line of an image that is not blank, or the first.
+pub fn newest(image: &[u8]) -> [u8; 44] {
+    if holds(image, 184) {
+        return row_at(image, 184);
     }
-    if holds(s, at + 140) {
-        return row(s, at + 140);
+    if holds(image, 140) {
+        return row_at(image, 140);
     }
-    if holds(s, at + 96) {
-        return row(s, at + 96);
+    if holds(image, 96) {
+        return row_at(image, 96);
     }
-    if holds(s, at + 52) {
-        return row(s, at + 52);
+    if holds(image, 52) {
+        return row_at(image, 52);
     }
-    row(s, at + 8)
+    row_at(image, 8)
 }
 
 // The bytes from a place to another are the same in both.
-pub fn same(a: &[u8], b: &[u8], from: usize, to: usize) -> bool {
+pub fn same(a: &[u8], b: &[u8], from: usize, to: usize) -> bool
+    ensures { λ r. ⌜ r ≡ sameBetween (now (a .entry)) (now (b .entry)) from to ⌝ }
+{
     let mut i = from;
     while i < to {
         if field::byte(a, i) != field::byte(b, i) {
@@ -131,7 +132,9 @@ pub fn same(a: &[u8], b: &[u8], from: usize, to: usize) -> bool {
 }
 
 // Says whether the page is as it was before the damage: its number and its body.
-pub fn whole(before: &[u8], after: &[u8]) -> bool {
+pub fn whole(before: &[u8], after: &[u8]) -> bool
+    ensures { λ r. ⌜ r ≡ sameBetween (now (before .entry)) (now (after .entry)) 4 252 ⌝ }
+{
     let same = same(before, after, 4, 252);
     if same {
         say(b"  The text is whole: the same as before the damage.\n");

@@ -7,15 +7,15 @@ use native.Mathlib.Omega.{arith}
 use lib.Dec.{eqb, ltb, leb}
 use lib.ListN.{length, getD}
 use borrow.Author.Tests.{eqb-true, eq-eqb, ne-eqb, ltb-true, leb-true}
-use Rattle.laws.proofs.Tests.{all-at, byCases}
+use Rattle.laws.proofs.Tables.{all-at, byCases}
 use Rattle.model.specs.Checksum.{sealed}
 use Rattle.model.specs.Item.{recordOf, recordLayout, isFormat, firstIsFormat}
 use Rattle.model.specs.Repair.{Walk, stopAt, behind, chainRecord, walkFrom}
 use Rattle.model.specs.declared.answer.Stop.the-variants.{Own, Backup, Format, Broken}
 use Rattle.model.specs.declared.item.LogRecord.{LogRecord}
-use Rattle.repair.specs.Chain.{stepOf}
-use Rattle.repair.specs.declared.Step.{Step}
-use Rattle.repair.specs.declared.Step.the-variants.{Halt, Read}
+use Rattle.repair.specs.Walked.{stepOf}
+use Rattle.repair.specs.declared.walk.Step.{Step}
+use Rattle.repair.specs.declared.walk.Step.the-variants.{Halt, Read}
 
 -- a record that the walk for page p may read at number n
 pub record Link (p n : ℕ) (r : List ℕ) : Type 0 where

@@ -2,11 +2,11 @@
 use Prim.Native.Nat.{ℕ, zero, suc, _+_, _-_, _≤_, _<_}
 use mathlib.Core.Path.{_≡_, sym, ap, _∙_, subst}
 use mathlib.Core.Bool.{Bool, true}
-use mathlib.Core.List.{List, _++_}
+use mathlib.Core.List.{List}
 use native.Mathlib.Omega.{arith}
 use native.Mathlib.Numerals.{add-one}
-use lib.ListN.{length, getD, take, drop, length-append, length-take, length-drop}
-use lib.Seq.{drop-cons, drop-length, getD-take, length-take-le, take-at}
+use lib.ListN.{length, getD, take, drop, length-take, length-drop}
+use lib.Seq.{drop-cons, drop-length, getD-take, length-take-le}
 use borrow.Rule.Slice.PartMut.{putMid}
 use Rattle.laws.proofs.Zeros.{zeros}
 use Rattle.laws.proofs.Parts.{splice-length, part-splice, put-splice}
@@ -21,9 +21,10 @@ use Rattle.model.specs.declared.answer.Start.{Start}
 use Rattle.model.specs.declared.answer.Repair.{Repair}
 use Rattle.model.specs.declared.state.Entry.{Entry}
 use Rattle.model.specs.declared.geometry.Geometry.{Geometry}
-use Rattle.repair.specs.Chain.{chainOf}
-use Rattle.repair.specs.declared.Chain.{Chain}
+use Rattle.repair.specs.Walked.{walkedOf, chainFrom}
+use Rattle.repair.specs.declared.walk.Walked.{Walked}
 use Rattle.repair.proofs.Links.{link, Linked, linked-at, walk-none, walk-linked, walk-backup}
+use Rattle.repair.proofs.Walks.{walk-chain, walk-most}
 
 -- ---- a whole walk
 
@@ -49,30 +50,33 @@ module _ (g : Geometry) (p : ℕ) (w : View) where
           absurd (omega arith)
       go (suc n) q = walk-backup (w .log) p (ownStart g p w) (backupStart g p w) (suc n) (suc n) (omega arith) q
 
-  -- the struct that holds it
-  module _ (c : Chain) (c-is : c ≡ chainOf g p w) where
+  -- it is followed from number to number, and has no more of them than the newest
+  pub chain-is : walkOf g p w .chain ≡ chainFrom (length (walkOf g p w .chain)) (w .log) (w .durable)
+  unfolding walkOf chainFrom
+  chain-is = go (w .durable)
+    where
+      go : (n : ℕ) → walkFrom n (w .log) p (ownStart g p w) (backupStart g p w) n .chain
+          ≡ chainFrom (length (walkFrom n (w .log) p (ownStart g p w) (backupStart g p w) n .chain)) (w .log) n
+      go zero = rw (walk-none (w .log) p (ownStart g p w) (backupStart g p w) 0)
+      go (suc n) = walk-chain (w .log) p (ownStart g p w) (backupStart g p w) (suc n) (suc n) (omega arith)
+
+  pub chain-most : length (walkOf g p w .chain) ≤ w .durable
+  unfolding walkOf
+  chain-most = go (w .durable)
+    where
+      go : (n : ℕ) → length (walkFrom n (w .log) p (ownStart g p w) (backupStart g p w) n .chain) ≤ n
+      go zero = rw (walk-none (w .log) p (ownStart g p w) (backupStart g p w) 0) (omega arith)
+      go (suc n) = walk-most (w .log) p (ownStart g p w) (backupStart g p w) (suc n) (suc n) (omega arith)
+
+  -- the struct that holds its two numbers
+  module _ (c : Walked) (c-is : c ≡ walkedOf g p w) where
     pub stop-is : c .stop ≡ walkOf g p w .stop
-    unfolding chainOf
-    stop-is = ap (λ (k : Chain). k .stop) c-is
+    unfolding walkedOf
+    stop-is = ap (λ (k : Walked). k .stop) c-is
 
     pub count-is : c .count ≡ length (walkOf g p w .chain)
-    unfolding chainOf
-    count-is = ap (λ (k : Chain). k .count) c-is
-
-    pub lsns-are : c .lsns ≡ walkOf g p w .chain ++ zeros (1024 - length (walkOf g p w .chain))
-    unfolding chainOf
-    lsns-are = ap (λ (k : Chain). k .lsns) c-is
-
-    pub count-held : c .count ≤ length (c .lsns)
-    count-held =
-        omega (arith, count-is, ap length lsns-are, length-append (walkOf g p w .chain) (zeros (1024 - length (walkOf g p w .chain))))
-
-    pub front-is : take (c .count) (c .lsns) ≡ walkOf g p w .chain
-    front-is =
-        ap (take (c .count)) lsns-are ∙ take-at (walkOf g p w .chain) (zeros (1024 - length (walkOf g p w .chain))) (c .count) (sym count-is)
-
-    pub front-linked : Linked (w .log) p (w .durable) (take (c .count) (c .lsns))
-    front-linked = subst (Linked (w .log) p (w .durable)) (sym front-is) chain-linked
+    unfolding walkedOf
+    count-is = ap (λ (k : Walked). k .count) c-is
 
 -- ---- the loop
 
@@ -96,18 +100,16 @@ replay-none log c body = rw (drop-length c)
 pub record Replaying (log : ℕ → List ℕ) (k : ℕ) (lsns body₀ body : List ℕ) (i : ℕ) : Type 0 where
   pub below : i ≤ k
   pub held : k ≤ length lsns
-  pub few : length lsns ≡ 1024
   pub made : body ≡ replayChain log (drop i (take k lsns)) body₀
   pub size : length body ≡ 244
 
 module _ (log : ℕ → List ℕ) (k : ℕ) (lsns : List ℕ) where
-  pub replaying-start : (body : List ℕ) → k ≤ length lsns → length lsns ≡ 1024 → length body ≡ 244 → Replaying log k lsns body body k
-  replaying-start body h few size =
+  pub replaying-start : (body : List ℕ) → k ≤ length lsns → length body ≡ 244 → Replaying log k lsns body body k
+  replaying-start body h size =
       let l : length (take k lsns) ≡ k = length-take-le k lsns h in
       record {
         below = omega arith;
         held = h;
-        few = few;
         made = replay-none log (take k lsns) body ∙ ap (λ (x : ℕ). replayChain log (drop x (take k lsns)) body) l;
         size = size;
       }
@@ -126,7 +128,6 @@ module _ (log : ℕ → List ℕ) (k : ℕ) (lsns : List ℕ) where
         record {
           below = omega (arith, h .below);
           held = h .held;
-          few = h .few;
           made =
               x-is ∙ ap (λ (y : List ℕ). applyRecord y body) (r-is ∙ ap log (sym number-is))
               ∙ ap (applyRecord (log (getD (take k lsns) (i - 1) 0))) (h .made ∙ ap (λ (n : ℕ). replayChain log (drop n (take k lsns)) body₀) e)
@@ -141,8 +142,8 @@ module _ (log : ℕ → List ℕ) (k : ℕ) (lsns : List ℕ) where
         subst (Replayed log top) number-is
         (record { layout = link p (getD (take k lsns) (i - 1) 0) (log (getD (take k lsns) (i - 1) 0)) (f .0) .layout; low = f .1; high = f .2 })
 
-    pub in-array : i - 1 < 1024
-    in-array = omega (arith, h .below, h .held, h .few)
+    pub in-array : i - 1 < length lsns
+    in-array = omega (arith, h .below, h .held)
 
 -- ---- the image
 
@@ -162,7 +163,7 @@ module _ (dst b : List ℕ) (size : length dst ≡ 256) (len : length b ≡ 244)
   around-body = rw (put-splice dst 8 244 b len) (ap (part (splice dst 8 b) 8) (sym len) ∙ part-splice dst 8 b fits)
 
 -- what was begun, replayed and built is the rebuilt image
-pub built : (g : Geometry) (p : ℕ) (w : View) (c : Chain) → c ≡ chainOf g p w → (dst first last out : List ℕ) → length dst ≡ 256 → length last ≡ 244
+pub built : (g : Geometry) (p : ℕ) (w : View) (c : Walked) → c ≡ walkedOf g p w → (dst first last out : List ℕ) → length dst ≡ 256 → length last ≡ 244
     → first ≡ startBody (c .stop) w → last ≡ replayChain (w .log) (walkOf g p w .chain) first
     → out ≡ frameImage p (w .durable) (part (putMid 8 244 dst last) 8 244) → out ≡ rebuilt g p w
 unfolding rebuiltBody
@@ -187,7 +188,7 @@ module _ (g : Geometry) (v : List ℕ) (e : Entry) (p : ℕ) (stop : Stop) (b : 
     pub begun-broken : stop ≡ Broken → b ≡ startBody stop (viewOf g v e p)
     begun-broken s = rw s (b-is ∙ ap zeros len)
 
-pub answered : (g : Geometry) (v : List ℕ) (e : Entry) (p : ℕ) (c : Chain) → c ≡ chainOf g p (viewOf g v e p) → (x : List ℕ) (valid : Bool) (n : ℕ) (k : Class) (s : Start)
+pub answered : (g : Geometry) (v : List ℕ) (e : Entry) (p : ℕ) (c : Walked) → c ≡ walkedOf g p (viewOf g v e p) → (x : List ℕ) (valid : Bool) (n : ℕ) (k : Class) (s : Start)
     → x ≡ item g v (pageAt p) → valid ≡ validImage g p x → n ≡ imageLsn x → k ≡ classOf valid n (e .durable) (e .written) → s ≡ startOf (c .stop)
     → _≡_ {A = Repair} (record { class = k; start = s; count = c .count }) (repairOf g p (viewOf g v e p))
 unfolding repairOf

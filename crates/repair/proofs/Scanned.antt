@@ -11,19 +11,19 @@ use lib.Dec.{eqb, leb}
 use lib.ListN.{length, getD, set, replicate, length-set, length-replicate}
 use lib.Seq.{getD-set-same, getD-set-other}
 use borrow.Author.Tests.{eqb-true}
-use Rattle.laws.proofs.Tests.{byCases, all-at, and-left, every-at, within-bounds}
+use Rattle.laws.proofs.Tables.{byCases, all-at, and-left, every-at, within-bounds}
 use Rattle.laws.proofs.Checksums.{run-none, run-stops, run-goes}
-use Rattle.model.specs.Tests.{every, within}
+use Rattle.model.specs.Tables.{every, within}
 use Rattle.model.specs.Bytes.{part}
 use Rattle.model.specs.Checksum.{sealed, sealedRun}
-use Rattle.model.specs.Geometry.{geometryOf, validVolume, recordAt, start, item}
+use Rattle.model.specs.Geometry.{geometryOf, validVolume, recordAt, logSlot, start, item}
 use Rattle.model.specs.Item.{recordLayout, firstIsFormat, noteLayout, isWritten}
 use Rattle.model.specs.Index.{emptyEntry, emptyIndex, entryRow, entryOf, withNote, enterNote, slotUsed}
 use Rattle.model.specs.Scan.{logRecord, noteRecord, durableCount, logIndex, recordFits, validLog, noteCount, noteIndex, noteFollows, noteFits, validNotes, indexOf}
 use Rattle.model.specs.declared.geometry.Geometry.{Geometry}
 use Rattle.model.specs.declared.item.Note.{Note}
 use Rattle.model.specs.declared.state.Entry.{Entry}
-use Rattle.repair.specs.Chain.{Ready}
+use Rattle.repair.specs.Walked.{Ready}
 use Rattle.repair.proofs.Starts.{sized}
 
 -- ---- the log's records
@@ -47,7 +47,7 @@ run-at n v (suc most) at i h =
 
 -- record i + 1, as the restart rule has it
 pub record Fit (g : Geometry) (v : List ℕ) (i : ℕ) : Type 0 where
-  pub layout : recordLayout (item g v (recordAt (suc i))) ≡ true
+  pub layout : recordLayout (item g v (logSlot g (suc i))) ≡ true
   pub lsn-is : logRecord g v (suc i) .lsn ≡ suc i
   pub low : 1 ≤ logRecord g v (suc i) .page
   pub high : logRecord g v (suc i) .page ≤ g .pages
@@ -58,7 +58,7 @@ pub fit : (g : Geometry) (v : List ℕ) (i : ℕ) → recordFits g v (logIndex g
 unfolding recordFits
 fit g v i h =
     let e = logRecord g v (suc i) in
-    let tests = recordLayout (item g v (recordAt (suc i))) ∷ eqb (e .lsn) (suc i) ∷ within (g .pages) (e .page)
+    let tests = recordLayout (item g v (logSlot g (suc i))) ∷ eqb (e .lsn) (suc i) ∷ within (g .pages) (e .page)
     ∷ eqb (e .prev) (entryOf (logIndex g v i) (e .page) .last) ∷ firstIsFormat e ∷ [] in
     let w = within-bounds (g .pages) (e .page) (all-at tests 2 h) in
     record {

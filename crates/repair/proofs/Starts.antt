@@ -8,12 +8,12 @@ use lib.Dec.{eqb}
 use lib.ListN.{length}
 use borrow.Author.Tests.{eq-eqb, ne-eqb}
 use Rattle.laws.proofs.Places.{total, valid-facts, place-fits, item-length}
-use Rattle.model.specs.Geometry.{geometryOf, validVolume, pageAt, slotAt, recordAt, start, item}
+use Rattle.model.specs.Geometry.{geometryOf, validVolume, pageAt, slotAt, logSlot, start, item}
 use Rattle.model.specs.Item.{imageLsn, validImage}
 use Rattle.model.specs.Repair.{viewOf, ownStart, backupStart}
 use Rattle.model.specs.declared.geometry.Geometry.{Geometry}
 use Rattle.model.specs.declared.state.Entry.{Entry}
-use Rattle.repair.specs.Chain.{Ready}
+use Rattle.repair.specs.Walked.{Ready}
 
 pub positive : (n : ℕ) → (n ≡ 0 → ⊥) → 1 ≤ n
 positive zero f = absurd (f refl)
@@ -32,11 +32,11 @@ sized v g ok e =
     subst (λ (k : Geometry). Sized k v) (sym e) (record { size = f .size; pages = f .p-high; records = f .l-high })
 
 module _ (v : List ℕ) (g : Geometry) (ok : validVolume v ≡ true) (e : g ≡ geometryOf v) (n : ℕ) (low : 1 ≤ n) (high : n ≤ g .records) where
-  pub record-fits : start g (recordAt n) + 64 ≤ length v
-  record-fits = place-fits g v (sized v g ok e .size) (recordAt n) (low, high)
+  pub record-fits : start g (logSlot g n) + 64 ≤ length v
+  record-fits = place-fits g v (sized v g ok e .size) (logSlot g n) (low, high)
 
-  pub record-length : length (item g v (recordAt n)) ≡ 64
-  record-length = item-length g v (sized v g ok e .size) (recordAt n) (low, high)
+  pub record-length : length (item g v (logSlot g n)) ≡ 64
+  record-length = item-length g v (sized v g ok e .size) (logSlot g n) (low, high)
 
 module _ (v : List ℕ) (g : Geometry) (e : Entry) (p : ℕ) (h : Ready v g e p) where
   pub ready-sized : Sized g v

@@ -7,15 +7,16 @@ use mathlib.Core.List.{List, [], _∷_}
 use native.Mathlib.Omega.{arith}
 use lib.Dec.{eqb, ltb}
 use borrow.Author.Tests.{eq-eqb, lt-ltb}
-use Rattle.laws.proofs.Tests.{byCases, all-holds}
+use Rattle.laws.proofs.Tables.{byCases, all-holds}
 use Rattle.model.specs.Bytes.{part}
 use Rattle.model.specs.Checksum.{sealed}
-use Rattle.model.specs.Geometry.{geometryOf, validVolume, recordAt, start, item}
+use Rattle.model.specs.Geometry.{geometryOf, validVolume, recordAt, logSlot, start, item}
 use Rattle.model.specs.Item.{recordLayout, isFormat, firstIsFormat}
 use Rattle.model.specs.Index.{entryOf}
 use Rattle.model.specs.Scan.{logRecord, durableCount, logIndex, validLog, indexOf}
 use Rattle.model.specs.Repair.{viewOf, ownStart, backupStart, chainRecord, walkFrom, walkOf, isBroken}
 use Rattle.model.specs.declared.geometry.Geometry.{Geometry}
+use Rattle.repair.specs.Walked.{logOf}
 use Rattle.repair.proofs.Links.{link, link-back}
 use Rattle.repair.proofs.Scanned.{run-at, Fit, Newest, newest, log-fits, scanned-newest, scanned-durable}
 use Rattle.repair.proofs.Starts.{sized}
@@ -29,20 +30,20 @@ module _ (g : Geometry) (v : List ℕ) (few : g .pages ≤ 64) (ok : (i : ℕ) �
     prev-is : logRecord g v (suc i) .prev ≡ entryOf (logIndex g v i) p .last
     prev-is = ok i b .prev-is ∙ ap (λ (q : ℕ). entryOf (logIndex g v i) q .last) page-is
 
-    sealed-is : sealed 60 (item g v (recordAt (suc i))) ≡ true
+    sealed-is : sealed 60 (item g v (logSlot g (suc i))) ≡ true
     unfolding item durableCount
     sealed-is =
-        let e : start g (recordAt 1) + 64 * i ≡ start g (recordAt (suc i)) = omega arith in
+        let e : start g (recordAt 1) + 64 * i ≡ start g (logSlot g (suc i)) = omega arith in
         ap (λ (k : ℕ). sealed 60 (part v k 64)) (sym e) ∙ run-at 60 v (g .records) (start g (recordAt 1)) i b
 
-    readable : chainRecord p (suc i) (item g v (recordAt (suc i))) ≡ true
+    readable : chainRecord p (suc i) (item g v (logSlot g (suc i))) ≡ true
     unfolding chainRecord
     readable =
         let f = ok i b in
         let e = logRecord g v (suc i) in
         let falls : e .prev < suc i = omega (arith, prev-is, before .high) in
         all-holds
-        (sealed 60 (item g v (recordAt (suc i))) ∷ eqb (e .lsn) (suc i) ∷ eqb (e .page) p ∷ recordLayout (item g v (recordAt (suc i)))
+        (sealed 60 (item g v (logSlot g (suc i))) ∷ eqb (e .lsn) (suc i) ∷ eqb (e .page) p ∷ recordLayout (item g v (logSlot g (suc i)))
         ∷ ltb (e .prev) (suc i) ∷ firstIsFormat e ∷ []) (
           sealed-is,
           (
@@ -59,7 +60,7 @@ module _ (g : Geometry) (v : List ℕ) (few : g .pages ≤ 64) (ok : (i : ℕ) �
 
   -- the walk from a record of page p
   unbroken-from : (own backup f i : ℕ) → i < f → i < durableCount g v → logRecord g v (suc i) .page ≡ p
-      → isBroken (walkFrom f (λ n. item g v (recordAt n)) p own backup (suc i) .stop) ≡ false
+      → isBroken (walkFrom f (logOf g v) p own backup (suc i) .stop) ≡ false
   unfolding walkFrom
   unbroken-from own backup zero i h b q = absurd (omega arith)
   unbroken-from own backup (suc f) i h b q =
@@ -70,9 +71,9 @@ module _ (g : Geometry) (v : List ℕ) (few : g .pages ≤ 64) (ok : (i : ℕ) �
     where
       go : isFormat (logRecord g v (suc i)) ≡ false → (n : ℕ) → logRecord g v (suc i) .prev ≡ n
           → ((k : ℕ) → k < f → k < durableCount g v → logRecord g v (suc k) .page ≡ p
-          → isBroken (walkFrom f (λ n. item g v (recordAt n)) p own backup (suc k) .stop) ≡ false)
-          → isBroken (walkFrom f (λ n. item g v (recordAt n)) p own backup n .stop) ≡ false
-      go m zero e ih = absurd (omega (arith, link-back p (suc i) (item g v (recordAt (suc i))) (link p (suc i) (item g v (recordAt (suc i))) (readable i b q)) m))
+          → isBroken (walkFrom f (logOf g v) p own backup (suc k) .stop) ≡ false)
+          → isBroken (walkFrom f (logOf g v) p own backup n .stop) ≡ false
+      go m zero e ih = absurd (omega (arith, link-back p (suc i) (item g v (logSlot g (suc i))) (link p (suc i) (item g v (logSlot g (suc i))) (readable i b q)) m))
       go m (suc k) e ih =
           let s : entryOf (logIndex g v i) p .last ≡ suc k = sym (prev-is i b q) ∙ e in
           let w = before i b q in
@@ -86,7 +87,7 @@ unfolding walkOf
 unbroken v g p valid g-is log low some = go (entryOf (indexOf g v) p .durable) refl
   where
     go : (d : ℕ) → entryOf (indexOf g v) p .durable ≡ d
-        → isBroken (walkFrom d (λ n. item g v (recordAt n)) p (ownStart g p (viewOf g v (entryOf (indexOf g v) p) p))
+        → isBroken (walkFrom d (logOf g v) p (ownStart g p (viewOf g v (entryOf (indexOf g v) p) p))
         (backupStart g p (viewOf g v (entryOf (indexOf g v) p) p)) d .stop) ≡ false
     go zero e = absurd (some e)
     go (suc i) e =

@@ -12,8 +12,8 @@ use model::state::Frame;
 use model::state::PendingNote;
 use model::state::State;
 use state::next;
-use state::rows;
 use volume::memory;
+use volume::rows;
 
 // The refusal: row 1, then 2, then the scan's 17 or 18.
 fn refusal(scan: u32, memory: bool) -> u32
@@ -41,21 +41,22 @@ fn resumed(scan: Scanned) -> State
     }
 }
 
-// Restarts from a volume. Rules out, for example: records of before the restart left in the memory; a durable count that is the notes';
-// a refusal that gives a state, or zeroes the memory.
-pub fn restart(v: &[u8], m: &mut [u8]) -> Reply
-    ensures reply { λ r. ⌜ r ≡ replyOf (restartOf (now (v .entry)) (now (m .entry))) ⌝ }
-    ensures memory { λ _. ⌜ now (m .exit) ≡ restartOf (now (v .entry)) (now (m .entry)) .memory ⌝ }
+// Restarts from a volume.
+// Ruled out: records of before the restart left in the memory (tried); a durable count that is the notes' (tried); every
+// call refused (tried); a refusal that gives a state, or zeroes the memory.
+pub fn restart(volume: &[u8], memory: &mut [u8]) -> Reply
+    ensures reply { λ r. ⌜ r ≡ replyOf (restartOf (now (volume .entry)) (now (memory .entry))) ⌝ }
+    ensures memory { λ _. ⌜ now (memory .exit) ≡ restartOf (now (volume .entry)) (now (memory .entry)) .memory ⌝ }
 {
-    let scanned = index::scan(v);
-    let no = refusal(scanned.refusal, memory::memory(m.len()));
+    let scanned = index::scan(volume);
+    let no = refusal(scanned.refusal, memory::memory(memory.len()));
     if no != 0 {
         return Reply {
             answer: Answer::Refused(no),
             state: next::zero(),
         };
     }
-    part::fill(m, 0);
+    part::fill(memory, 0);
     Reply {
         answer: Answer::Done,
         state: resumed(scanned),

@@ -1,49 +1,22 @@
-// The program of a field engineer: reads one volume of at most 32,768 bytes from standard input and prints, a line for each page, how Inspect
-// found it. A refusal, or a longer input, is the only line. All that matters is in `inspect`, which is proved; this file only prints.
+// The program of a field engineer: reads one volume of at most 32,768 bytes from standard input and prints, a line for
+// each page, how Inspect found it. A refusal, or a longer input, is the only line. All that matters is in `inspect`,
+// which is proved; this file only prints.
 use libc::STDIN_FILENO;
-use libc::STDOUT_FILENO;
 use model::answer::Answer;
-use model::answer::Class;
 use model::answer::Repair;
-use model::answer::Start;
-
-fn print_number(n: u32) {
-    io::print_decimal(STDOUT_FILENO, n as u64);
-}
+use print::number;
+use print::say;
 
 fn print_refused(n: u32) {
-    io::write_all(STDOUT_FILENO, b"REFUSED ");
-    print_number(n);
-    io::write_all(STDOUT_FILENO, b"\n");
-}
-
-fn print_class(c: Class) {
-    match c {
-        Class::Good => io::write_all(STDOUT_FILENO, b" GOOD"),
-        Class::Behind => io::write_all(STDOUT_FILENO, b" BEHIND"),
-        Class::Stale => io::write_all(STDOUT_FILENO, b" STALE"),
-        Class::Failed => io::write_all(STDOUT_FILENO, b" FAILED"),
-    }
-    ;
-}
-
-fn print_start(s: Start) {
-    match s {
-        Start::Own => io::write_all(STDOUT_FILENO, b" OWN "),
-        Start::Backup => io::write_all(STDOUT_FILENO, b" BACKUP "),
-        Start::Format => io::write_all(STDOUT_FILENO, b" FORMAT "),
-    }
-    ;
+    print::refused(n);
+    say(b"\n");
 }
 
 fn print_repair(page: u32, r: Repair) {
-    let class = r.class;
-    let start = r.start;
-    print_number(page);
-    print_class(class);
-    print_start(start);
-    print_number(r.count);
-    io::write_all(STDOUT_FILENO, b"\n");
+    number(page);
+    say(b" ");
+    print::repair(r);
+    say(b"\n");
 }
 
 // Prints a page's line; false where the volume is refused, and that is the only line.
@@ -56,8 +29,8 @@ fn print_page(volume: &[u8], page: u32) -> bool {
                 print_refused(n);
                 return false;
             }
-            print_number(page);
-            io::write_all(STDOUT_FILENO, b" BLANK\n");
+            number(page);
+            say(b" BLANK\n");
         }
         Answer::Nothing => {}
         Answer::Done => {}

@@ -8,12 +8,13 @@ use lib.Dec.{eqb, leb, ltb}
 use lib.ListN.{getD}
 use native.Mathlib.Omega.{arith}
 use borrow.Author.Tests.{leb-true, ltb-false, eqb-true, eqb-false, le-leb, lt-ltb, le-ltb, eq-eqb, ne-eqb, not-false}
-use Rattle.laws.proofs.Tests.{all-at, all-holds, every-at, every-all, not-true, when-true, when-false, within-bounds, true-not-false}
+use Rattle.laws.proofs.Tables.{all-at, all-holds, every-at, every-all, not-true, when-true, when-false, within-bounds, true-not-false}
 use Rattle.laws.proofs.WellFormed.{Formed}
-use Rattle.model.specs.Tests.{every, within}
+use Rattle.model.specs.Tables.{every, within}
 use Rattle.model.specs.Item.{noteLayout, isWritten}
 use Rattle.model.specs.Index.{emptyEntry, entryRow, entryOf}
-use Rattle.model.specs.State.{frameRow, lastNumber, held, blank, pendingNoteFits, firstHolder, frameFits, entryFits, entryZero, pageFits, wellFormed}
+use Rattle.model.specs.State.{frameRow, lastNumber, held, blank, pendingNoteFits}
+use Rattle.model.specs.State.{firstHolder, frameFits, entryFits, entryZero, pageFits, wellFormed}
 use Rattle.model.specs.declared.geometry.Geometry.{Geometry}
 use Rattle.model.specs.declared.item.Note.{Note}
 use Rattle.model.specs.declared.state.Entry.{Entry}
@@ -59,7 +60,9 @@ module _ (g : Geometry) (count : ℕ) (s : State) (i : ℕ) where
         page = leb-true _ _ (all-at frameTests 0 h);
         only = λ ne j l e.
             true-not-false (eq-eqb _ _ e)
-            (not-true _ (every-at (λ k. not (eqb (frameRow s k .page) (frameRow s i .page))) i (other empty _ (all-at frameTests 1 h) (ne-eqb _ _ ne)) j l));
+            (not-true _
+            (every-at (λ k. not (eqb (frameRow s k .page) (frameRow s i .page))) i
+            (other empty _ (all-at frameTests 1 h) (ne-eqb _ _ ne)) j l));
         used = λ ne. not-true _ (other empty _ (all-at frameTests 2 h) (ne-eqb _ _ ne));
         clean = λ e. not-true _ (other (not empty) _ (all-at frameTests 3 h) (not-both (eq-eqb _ _ e)));
         past = λ l. eqb-true _ _ (other (ltb i count) _ (all-at frameTests 4 h) (le-ltb _ _ l));
@@ -185,7 +188,8 @@ pub formed-holds : (g : Geometry) (count : ℕ) (s : State) → Formed g count s
 unfolding wellFormed
 formed-holds g count s w =
     all-holds
-    (leb (s .durable + s .pending) (g .records) ∷ leb (s .pending) 16 ∷ leb (s .notes) (g .notes) ∷ pendingNoteFits g (s .notes) (s .durable) (s .note)
+    (leb (s .durable + s .pending) (g .records) ∷ leb (s .pending) 16 ∷ leb (s .notes) (g .notes) ∷ pendingNoteFits g (s .notes)
+    (s .durable) (s .note)
     ∷ every 16 (frameFits g count s) ∷ every 64 (pageFits g s) ∷ []) (
       le-leb _ _ (w .room),
       (

@@ -1,18 +1,21 @@
 -- The tests of a state as the code makes them: what its callees give comes to the model's clauses.
-use Prim.Native.Nat.{ℕ, _+_}
-use mathlib.Core.Path.{_≡_, refl, _∙_}
+use Prim.Native.Nat.{ℕ, _+_, _-_, _%_}
+use mathlib.Core.Path.{_≡_, refl, ap, sym, _∙_}
 use mathlib.Core.List.{List, [], _∷_}
 use mathlib.Core.Bool.{Bool, true, false, _||_, not, cond}
 use lib.Dec.{eqb, leb, ltb}
-use lib.ListN.{length}
+use lib.ListN.{length, getD, List·getD-eq-default}
+use native.Mathlib.Nat.{mod-eq-of-lt}
 use native.Mathlib.Numerals.{add-one}
-use Rattle.laws.proofs.Tests.{every-same}
-use Rattle.model.specs.Tests.{Row, all, every, firstOf}
+use native.Mathlib.Omega.{arith}
+use borrow.Author.Tests.{ltb-true, ltb-false}
+use Rattle.laws.proofs.Tables.{byCases, every-same}
+use Rattle.model.specs.Tables.{Row, all, every, firstOf}
 use Rattle.model.specs.Geometry.{geometryOf, validVolume}
-use Rattle.model.specs.Index.{entryRow}
-use Rattle.model.specs.State.{holderFrom, frameCount, validMemory, frameRow, blank, pendingNoteFits, frameFits, entryFits, pageFits, wellFormed}
+use Rattle.model.specs.Index.{emptyEntry, entryRow, entryOf}
+use Rattle.model.specs.State.{emptyFrame, holderFrom, frameCount, validMemory, pendingNoteFits, frameFits, entryFits, pageFits, wellFormed}
 use Rattle.model.specs.Refusals.{stateRows}
-use Rattle.state.specs.Clauses.{firstIn, pageClauses, pageIn}
+use Rattle.state.specs.Clauses.{firstIn, frameClauses, frameIn, pageClauses, pageIn}
 use Rattle.model.specs.declared.geometry.Geometry.{Geometry}
 use Rattle.model.specs.declared.state.Entry.{Entry}
 use Rattle.model.specs.declared.state.Frame.{Frame}
@@ -25,41 +28,61 @@ pub page-is : (g : Geometry) (durable pending : ℕ) (table : List Frame) (index
     → r ≡ pageIn g durable pending table index i
 page-is g durable pending table index i k r ek er = er ∙ rw ek
 
-module _ (g : Geometry) (s : State) where
-  pub frame-is : (count i page : ℕ) (only none : Bool) → page ≡ frameRow s i .page → only ≡ firstIn (s .frames) i → none ≡ blank s page
-      → all
-      (leb page (g .pages) ∷ (eqb page 0 || only) ∷ (eqb page 0 || not none) ∷ (not (eqb page 0) || not (frameRow s i .dirty))
-      ∷ (ltb i count || eqb page 0) ∷ [])
-      ≡ frameFits g count s i
-  unfolding frameFits
-  frame-is count i page only none ep eo en = rw (en, eo, ep)
+-- the row of a page past the index is read as an empty one
+pub last-is : (index : List Entry) (page k : ℕ) → k ≡ page - 1 → length index ≡ 64
+    → cond (ltb k 64) (getD index (k % 64) emptyEntry .last) 0 ≡ entryOf index page .last
+last-is index page k e l =
+    byCases (ltb k 64)
+    (λ t. let z : k % 64 ≡ k = mod-eq-of-lt (ltb-true k 64 t) in rw (t, z, ← e))
+    (λ t. rw (t, ← e) (sym (ap (λ (x : Entry). x .last) (List·getD-eq-default index emptyEntry {n = k} (omega (arith, ltb-false k 64 t))))))
 
-  pub pages-are : every 64 (pageIn g (s .durable) (s .pending) (s .frames) (s .index)) ≡ every 64 (pageFits g s)
+-- what the callees give stands for what they compute
+pub frame-is : (g : Geometry) (count : ℕ) (table : List Frame) (index : List Entry) (i last : ℕ) (only r : Bool)
+    → only ≡ firstIn table i
+    → last ≡ entryOf index (getD table i emptyFrame .page) .last
+    → r ≡ frameClauses g count i (getD table i emptyFrame) only last
+    → r ≡ frameIn g count table index i
+frame-is g count table index i last only r eo el er = er ∙ rw (eo, el)
+
+module _ (g : Geometry) (s : State) where
+  frames-are : (count : ℕ) → every 16 (frameIn g count (s .frames) (s .index)) ≡ every 16 (frameFits g count s)
+  unfolding frameFits
+  frames-are count = every-same (frameIn g count (s .frames) (s .index)) (frameFits g count s) 16 (λ i l. refl)
+
+  pages-are : every 64 (pageIn g (s .durable) (s .pending) (s .frames) (s .index)) ≡ every 64 (pageFits g s)
   unfolding pageFits entryFits
   pages-are = every-same (pageIn g (s .durable) (s .pending) (s .frames) (s .index)) (pageFits g s) 64 (λ i l. rw add-one)
 
-  pub formed-is : (count : ℕ) (pending table index : Bool) → pending ≡ pendingNoteFits g (s .notes) (s .durable) (s .note)
-      → table ≡ every 16 (frameFits g count s)
-      → index ≡ every 64 (pageFits g s)
+  pub formed-is : (count : ℕ) (pending frames pages : Bool) → pending ≡ pendingNoteFits g (s .notes) (s .durable) (s .note)
+      → frames ≡ every 16 (frameIn g count (s .frames) (s .index))
+      → pages ≡ every 64 (pageIn g (s .durable) (s .pending) (s .frames) (s .index))
       → all
-      (leb (s .durable + s .pending) (g .records) ∷ leb (s .pending) 16 ∷ leb (s .notes) (g .notes) ∷ pending ∷ table ∷ index ∷ [])
+      (leb (s .durable + s .pending) (g .records) ∷ leb (s .pending) 16 ∷ leb (s .notes) (g .notes) ∷ pending ∷ frames ∷ pages ∷ [])
       ≡ wellFormed g count s
   unfolding wellFormed
-  formed-is count pending table index ep et ei = rw (ep, et, ei)
+  formed-is count pending frames pages ep ef ei = rw (ep, ef, ei, frames-are count, pages-are)
 
--- the code's tests, in the order in which it makes them, come to the rows 1, 2, 2
-pub refusal-is : (s : State) (v m : List ℕ) (size count : ℕ) (g : Geometry) (formed memory valid : Bool) (a b k : ℕ)
-    → g ≡ geometryOf v
-    → count ≡ frameCount size
-    → formed ≡ wellFormed g count s
-    → memory ≡ validMemory size
-    → valid ≡ validVolume v
-    → a ≡ cond (not formed) 2 0
-    → b ≡ cond (not memory) 2 a
-    → k ≡ cond (not valid) 1 b
-    → length m ≡ size
-    → k ≡ firstOf (stateRows v m s [])
-refusal-is s v m size count g formed memory valid a b k eg ec ef em ev ea eb ek en = rw (ek, eb, ea, ev, em, ef, ec, eg, ← en)
+-- the code's tests, in the table's order, come to the rows 1, 2, 2
+module _ (s : State) (v m : List ℕ) where
+  pub refused-1 : (valid : Bool) → valid ≡ validVolume v → not valid ≡ true → 1 ≡ firstOf (stateRows v m s [])
+  refused-1 valid ev t = sym (rw (← ev, t))
+
+  pub refused-2 : (size : ℕ) (valid memory : Bool) → valid ≡ validVolume v → memory ≡ validMemory size → not valid ≡ false → not memory
+      ≡ true
+      → length m ≡ size
+      → 2 ≡ firstOf (stateRows v m s [])
+  refused-2 size valid memory ev em tv tm en = sym (rw (← ev, tv, en, ← em, tm))
+
+  pub refusal-is : (size count : ℕ) (g : Geometry) (valid memory formed : Bool) (k : ℕ) → valid ≡ validVolume v → memory ≡ validMemory size
+      → not valid ≡ false
+      → not memory ≡ false
+      → g ≡ geometryOf v
+      → count ≡ frameCount size
+      → formed ≡ wellFormed g count s
+      → k ≡ cond (not formed) 2 0
+      → length m ≡ size
+      → k ≡ firstOf (stateRows v m s [])
+  refusal-is size count g valid memory formed k ev em tv tm eg ec ef ek en = sym (rw (← ev, tv, en, ← em, tm, ← eg, ← ec, ← ef, ek))
 
 -- a call's own rows come after them
 after : (a b c : Bool) (n : ℕ)
@@ -72,4 +95,5 @@ after false false false n = refl
 pub refusal-then : (v m : List ℕ) (s : State) (rows : List Row) (k rest : ℕ) → k ≡ firstOf (stateRows v m s []) → rest ≡ firstOf rows
     → cond (not (eqb k 0)) k rest ≡ firstOf (stateRows v m s rows)
 refusal-then v m s rows k rest ek er =
-    rw (ek, er) (after (not (validVolume v)) (not (validMemory (length m))) (not (wellFormed (geometryOf v) (frameCount (length m)) s)) (firstOf rows))
+    rw (ek, er)
+    (after (not (validVolume v)) (not (validMemory (length m))) (not (wellFormed (geometryOf v) (frameCount (length m)) s)) (firstOf rows))

@@ -3,8 +3,8 @@ use Prim.Native.Nat.{ℕ, _+_, _-_}
 use mathlib.Core.Path.{_≡_, ap, sym}
 use mathlib.Core.List.{List}
 use mathlib.Core.Bool.{true, false}
-use Rattle.laws.proofs.Tests.{when-true, when-false}
-use Rattle.model.specs.Tests.{within}
+use Rattle.laws.proofs.Tables.{when-true, when-false}
+use Rattle.model.specs.Tables.{within}
 use Rattle.model.specs.Index.{entryOf, setEntry, withDurable}
 use Rattle.model.specs.Calls.{forcedState}
 use Rattle.model.specs.declared.state.Entry.{Entry}

@@ -7,7 +7,7 @@ use lib.Dec.{eqb, ltb}
 use lib.ListN.{length, getD}
 use native.Mathlib.Omega.{arith}
 use borrow.Author.Tests.{ltb-true, ltb-false, eq-eqb}
-use Rattle.laws.proofs.Tests.{byCases}
+use Rattle.laws.proofs.Tables.{byCases}
 use Rattle.laws.proofs.WellFormed.{Formed, holder-finds}
 use Rattle.model.specs.State.{emptyFrame, frameRow, holderFrom, holder, held}
 use Rattle.model.specs.declared.geometry.Geometry.{Geometry}

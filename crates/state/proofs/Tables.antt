@@ -7,7 +7,7 @@ use lib.Seq.{drop-cons}
 use native.Mathlib.Numerals.{add-one}
 use native.Mathlib.Omega.{arith}
 use borrow.Author.Tests.{eq-eqb, ne-eqb}
-use Rattle.laws.proofs.Tests.{when-true, when-false}
+use Rattle.laws.proofs.Tables.{when-true, when-false}
 use Rattle.model.specs.State.{emptyFrame, holderFrom}
 use Rattle.model.specs.declared.state.Frame.{Frame}
 

@@ -3,7 +3,7 @@ pub mod entries;
 pub mod frames;
 pub mod next;
 pub mod rows;
-pub mod wellformed;
+pub mod well_formed;
 
 ghost use mathlib.Core.Path.{_≡_};
 ghost use Prim.Native.Nat.{_-_};

@@ -6,7 +6,6 @@ ghost use Rattle.model.specs.State.{zeroState};
 ghost use Rattle.model.specs.Calls.{withFrame, withFrames, nextNote, appendedState, forcedState, notedState};
 use index::rows;
 use model::item::Note;
-use model::state::Entry;
 use model::state::Frame;
 use model::state::PendingNote;
 use model::state::State;
@@ -19,13 +18,7 @@ pub fn zero() -> State
         page: 0,
         dirty: false,
     }; 16];
-    let index = [Entry {
-        last: 0,
-        durable: 0,
-        written: 0,
-        slot: 0,
-        backup: 0,
-    }; 64];
+    let index = [rows::EMPTY; 64];
     State {
         durable: 0,
         pending: 0,
@@ -38,7 +31,8 @@ pub fn zero() -> State
 
 // One more pending record, of the page, which frame f holds and is dirty.
 pub fn appended(s: State, page: u32, f: u32) -> State
-    requires { ⌜ (1 ≤ page) × (page ≤ 64) × (1 ≤ f) × (f ≤ 16) × (s .durable + s .pending < 4294967295) × (s .pending < 4294967295) ⌝ }
+    requires { ⌜ (1 ≤ page) × (page ≤ 64) × (1 ≤ f) × (f ≤ 16) × (s .durable + s .pending < 4294967295)
+        × (s .pending < 4294967295) ⌝ }
     ensures { λ r. ⌜ r ≡ appendedState s page f ⌝ }
 {
     let mut t = s;
@@ -114,7 +108,7 @@ pub fn written(s: State, page: u32, f: u32, lsn: u32) -> State
 }
 
 // The page is backed up into the slot: the note is to be stored.
-pub fn backedup(s: State, page: u32, slot: u32, lsn: u32) -> State
+pub fn backed_up(s: State, page: u32, slot: u32, lsn: u32) -> State
     requires { ⌜ (page ≤ 64) × (slot ≤ 255) × (s .notes < 4294967295) ⌝ }
     ensures { λ r. ⌜ r ≡ withFrames s (s .frames) (nextNote s page 2 slot lsn) ⌝ }
 {

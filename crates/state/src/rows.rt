@@ -1,29 +1,29 @@
 // The rows 1 and 2 of a refusal table, which every call on the state starts with.
 ghost use mathlib.Core.Path.{_≡_};
-ghost use mathlib.Core.Bool.{cond};
 ghost use mathlib.Core.List.{List, []};
 ghost use Prim.Native.Nat.{ℕ};
 ghost use lib.ListN.{length};
-ghost use Rattle.model.specs.Tests.{firstOf};
+ghost use Rattle.model.specs.Tables.{firstOf};
 ghost use Rattle.model.specs.Refusals.{stateRows};
-use crate::wellformed;
+use crate::well_formed;
 use model::state::State;
+use volume::heading;
+use volume::memory;
+use volume::rows;
 
-// n where t holds, else rest.
-pub fn first(t: bool, n: u32, rest: u32) -> u32
-    ensures { λ r. ⌜ r ≡ cond t n rest ⌝ }
+// The refusal of a call on the state that its own rows do not give, tested in the table's order, the magic first; size
+// is the memory's.
+pub fn refusal(s: State, volume: &[u8], size: usize) -> u32
+    ensures { λ r. ⌜ ((m : List ℕ) → length m ≡ size → r ≡ firstOf (stateRows (now (volume .entry)) m s [])) ⌝ }
 {
-    if t { n } else { rest }
-}
-
-// The refusal of a call on the state that its own rows do not give; size is the memory's.
-pub fn refusal(v: &[u8], size: usize, s: State) -> u32
-    ensures { λ r. ⌜ ((m : List ℕ) → length m ≡ size → r ≡ firstOf (stateRows (now (v .entry)) m s [])) ⌝ }
-{
-    let g = volume::heading::geometry(v);
-    let count = volume::memory::frames(size);
-    let formed = wellformed::wellformed(g, count, s);
-    let memory = volume::memory::memory(size);
-    let valid = volume::heading::valid(v);
-    first(!valid, 1, first(!memory, 2, first(!formed, 2, 0)))
+    if !heading::valid(volume) {
+        return 1;
+    }
+    if !memory::memory(size) {
+        return 2;
+    }
+    let g = heading::geometry(volume);
+    let count = memory::frames(size);
+    let formed = well_formed::well_formed(s, g, count);
+    rows::first(!formed, 2, 0)
 }

@@ -8,7 +8,7 @@ use borrow.Author.Tests.{eqb-true, not-true, not-false}
 use lib.Dec.{eqb}
 use lib.ListN.{length, take, drop, length-replicate}
 use lib.Seq.{take-append-le, drop-append-le}
-use Rattle.laws.proofs.Tests.{and-right}
+use Rattle.laws.proofs.Tables.{and-right}
 use Rattle.laws.proofs.Fields.{bytesOf-length}
 use Rattle.laws.proofs.Zeros.{zeros, take-zeros, drop-zeros}
 use Rattle.model.specs.Bytes.{bytesOf, splice}

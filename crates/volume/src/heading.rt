@@ -13,10 +13,10 @@ pub fn geometry(v: &[u8]) -> Geometry
     ensures { λ r. ⌜ r ≡ geometryOf (now (v .entry)) ⌝ }
 {
     let tag = field::byte(v, 3);
-    let pages = field::u32at(v, 4);
-    let slots = field::u32at(v, 8 + 256 * (pages as usize));
-    let records = field::u32at(v, 12 + 256 * (pages as usize) + 256 * (slots as usize));
-    let notes = field::u32at(
+    let pages = field::u32_at(v, 4);
+    let slots = field::u32_at(v, 8 + 256 * (pages as usize));
+    let records = field::u32_at(v, 12 + 256 * (pages as usize) + 256 * (slots as usize));
+    let notes = field::u32_at(
         v,
         16 + 256 * (pages as usize) + 256 * (slots as usize) + 64 * (records as usize),
     );

@@ -17,10 +17,10 @@ fn write(v: &mut [u8], p: u32, b: u32, l: u32, n: u32)
     let records = 12 + 256 * (p as usize) + 256 * (b as usize);
     let notes = 16 + 256 * (p as usize) + 256 * (b as usize) + 64 * (l as usize);
     part::fill(v, 0);
-    field::put32(v, notes, n);
-    field::put32(v, records, l);
-    field::put32(v, slots, b);
-    field::put32(v, 4, p);
+    field::put_u32(v, notes, n);
+    field::put_u32(v, records, l);
+    field::put_u32(v, slots, b);
+    field::put_u32(v, 4, p);
     part::put(v, 0, &heading::MAGIC);
 }
 

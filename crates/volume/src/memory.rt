@@ -18,7 +18,7 @@ pub fn memory(size: usize) -> bool
 }
 
 // Where pending record n lies; 0 has the place of 1.
-pub fn pendingat(n: u32) -> usize
+pub fn pending_at(n: u32) -> usize
     ensures { λ r. ⌜ r ≡ pendingAt n ⌝ }
 {
     if n == 0 {
@@ -28,7 +28,7 @@ pub fn pendingat(n: u32) -> usize
 }
 
 // Where frame f starts; 0 has the place of 1.
-pub fn frameat(f: u32) -> usize
+pub fn frame_at(f: u32) -> usize
     ensures { λ r. ⌜ r ≡ frameAt f ⌝ }
 {
     if f == 0 {

@@ -9,19 +9,15 @@ use Rattle.inspect.proofs.pagestore_inspect.Lts as lts
 use Rattle.inspect.proofs.inspect.Reads as inspect-reads
 use Rattle.inspect.proofs.number.Reads as number-reads
 
--- src/lib.rt:70:12
 inspect-requires : tie.Need-inspect-requires
 inspect-requires c κs = search needs
 
--- src/lib.rt:70:5
 number-requires : tie.Need-number-requires
 number-requires c κs = search needs
 
--- src/lib.rt:65:1
 same-length : tie.Need-same-length
 same-length c = search needs
 
--- src/lib.rt:65:1
 returns : tie.Need-returns
 returns c = let e = c .before .before .before .inspect .ensures in (c .number .ensures ∙ ap refusalOf (e .0), e .1)
 

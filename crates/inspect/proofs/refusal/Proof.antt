@@ -1,36 +1,27 @@
 -- `inspect::refusal` tests in the table's order.
 use mathlib.Core.Bool.{not}
 use lib.Dec.{eqb}
-use Rattle.model.specs.Tests.{within}
+use Rattle.model.specs.Tables.{within}
 use Rattle.inspect.proofs.Outcomes.{chained}
 use borrow.Author.Needs.{needs}
 use Rattle.inspect.proofs.refusal.Statement.{statement}
 use Rattle.inspect.proofs.refusal.Tie as tie
-use Rattle.inspect.proofs.refusal.Reads as reads
-use Rattle.inspect.proofs.refusal.Lts as lts
-use Rattle.inspect.proofs.first.Reads as first-reads
 
--- src/lib.rt:24:42
 first-requires : tie.Need-first-requires
 first-requires c κs = search needs
 
--- src/lib.rt:24:9
 first-requires-2 : tie.Need-first-requires-2
 first-requires-2 c κs = search needs
 
--- src/lib.rt:28:34
 first-requires-3 : tie.Need-first-requires-3
 first-requires-3 c κs = search needs
 
--- src/lib.rt:28:9
 first-requires-4 : tie.Need-first-requires-4
 first-requires-4 c κs = search needs
 
--- src/lib.rt:25:5
 first-requires-5 : tie.Need-first-requires-5
 first-requires-5 c κs = search needs
 
--- src/lib.rt:20:1
 returns : tie.Need-returns
 returns c =
     let a = c .before .before .before .before .before .args in

@@ -7,11 +7,11 @@ use Rattle.load.proofs.load.Statement.{statement}
 use Rattle.load.proofs.load.Tie as tie
 
 -- past the rows before the walk: what that tells
-known : (c : tie.After-entry) → let s = c .before .before .before .before .before .before in Open (now (s .args .v)) (now (s .args .m)) (s .args .s) (s .args .page) (s .args .frame) (c .before .geometry .result) (c .entry .result)
+known : (c : tie.After-entry) → let s = c .before .before .before .before .before .before in Open (now (s .args .volume)) (now (s .args .memory)) (s .args .s) (s .args .page) (s .args .frame) (c .before .geometry .result) (c .entry .result)
 known c =
     let i = c .before .before in
     let s = i .before .before .before .before in
-    opened _ _ _ _ _ _ _ (c .before .geometry .ensures) (c .entry .ensures) (sym (i .before .refusal .ensures (now (s .args .m)) refl) ∙ i .if1 .left)
+    opened _ _ _ _ _ _ _ (c .before .geometry .ensures) (c .entry .ensures) (sym (i .before .refusal .ensures (now (s .args .memory)) refl) ∙ i .if1 .left)
 
 refusal-requires : tie.Need-refusal-requires
 refusal-requires c κs = search needs
@@ -19,7 +19,7 @@ refusal-requires c κs = search needs
 returns : tie.Need-returns
 returns c =
     let s = c .before .before .before .before in
-    refused (now (s .args .v)) (now (s .args .m)) (s .args .s) (s .args .page) (s .args .frame) _ (c .before .refusal .ensures (now (s .args .m)) refl) (c .if1 .taken)
+    refused (now (s .args .volume)) (now (s .args .memory)) (s .args .s) (s .args .page) (s .args .frame) _ (c .before .refusal .ensures (now (s .args .memory)) refl) (c .if1 .taken)
 
 geometry-requires : tie.Need-geometry-requires
 geometry-requires c κs = search needs

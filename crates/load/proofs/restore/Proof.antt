@@ -6,8 +6,8 @@ use borrow.Author.Needs.{needs}
 use Rattle.load.proofs.restore.Statement.{statement}
 use Rattle.load.proofs.restore.Tie as tie
 
-frameat-requires : tie.Need-frameat-requires
-frameat-requires c κs = search needs
+frame-at-requires : tie.Need-frame-at-requires
+frame-at-requires c κs = search needs
 
 add-end : tie.Need-add-end
 add-end c = search needs
@@ -25,7 +25,7 @@ rebuild-requires : tie.Need-rebuild-requires
 rebuild-requires c κs =
     let b = c .before .before .before .before in
     let h = b .pre in
-    (h .0, (h .1 .0, lent-length (now (b .args .m)) _ _ (c .before .frameat .ensures) (h .1 .1)))
+    (h .0, (h .1 .0, lent-length (now (b .args .memory)) _ _ (c .before .frame-at .ensures) (h .1 .1)))
 
 answer-requires : tie.Need-answer-requires
 answer-requires c κs = search needs
@@ -39,15 +39,15 @@ returns c =
     let f = r .before .before in
     let b = f .before .before .before in (
       c .answer .ensures,
-      put-back (now (b .args .m)) _ _ _ _ (f .frameat .ensures)
-          (r .rebuild .kept .1 .1 .1 .1 .1 .0 ∙ lent-length (now (b .args .m)) _ _ (f .frameat .ensures) (b .pre .1 .1)) (r .rebuild .ensures),
+      put-back (now (b .args .memory)) _ _ _ _ (f .frame-at .ensures)
+          (r .rebuild .kept .1 .1 .1 .1 .1 .0 ∙ lent-length (now (b .args .memory)) _ _ (f .frame-at .ensures) (b .pre .1 .1)) (r .rebuild .ensures),
     )
 
 pub restore-spec : {M : Type 1} → statement M
 restore-spec =
     tie.close
     (tie.spec
-    frameat-requires
+    frame-at-requires
     add-end
     sub-rebuild
     part-rebuild-start

@@ -29,8 +29,10 @@ returns : tie.Need-returns
 returns c =
     let l = c .before .before .before .before in
     let s = l .before .before .before .before in
-    begin-own (s .args .g) (s .args .count) (s .args .s) (s .args .page) (s .args .frame) _ _ _ _ _ _ _ (l .before .before .blank .ensures) (l .before .frame .ensures)
-    (l .full .ensures) (c .before .before .before .first .ensures) (c .before .before .first2 .ensures) (c .before .first3 .ensures) (c .first4 .ensures)
+    begin-own (s .args .g) (s .args .count) (s .args .s) (s .args .page) (s .args .frame) _ _ _ _ _ _ _ (l .before .before .blank .ensures)
+    (l .before .frame .ensures)
+    (l .full .ensures) (c .before .before .before .first .ensures) (c .before .before .first2 .ensures) (c .before .first3 .ensures)
+    (c .first4 .ensures)
 
 pub own-spec : {M : Type 1} → statement M
 own-spec =

@@ -10,8 +10,8 @@ use borrow.Author.Needs.{needs}
 use Rattle.append.proofs.change.alter.Statement.{statement}
 use Rattle.append.proofs.change.alter.Tie as tie
 
-put32-requires : tie.Need-put32-requires
-put32-requires c κs = search needs
+put-u32-requires : tie.Need-put-u32-requires
+put-u32-requires c κs = search needs
 
 slice-aggregate-apply : tie.Need-slice-aggregate-apply
 slice-aggregate-apply c = search needs
@@ -29,8 +29,16 @@ apply-requires : tie.Need-apply-requires
 apply-requires c κs =
     let p = c .before .before .before .before in
     let s = p .before .before .before in
-    let l : length (s .args .t4) ≡ 44 = search needs in
-    (s .pre .1, omega (arith, l, fits-facts (kindOf (s .args .c)) (lengthOf (s .args .c)) (offsetOf (s .args .c)) (fillOf (s .args .c)) (s .pre .1) .length), simp (length-take, length-drop) (omega (arith, s .pre .0, p .put32 .kept)))
+    let l : length (s .args .t4) ≡ 44 = search needs in (
+      s .pre .1,
+      omega (
+        arith,
+        l,
+        fits-facts (kindOf (s .args .c)) (lengthOf (s .args .c)) (offsetOf (s .args .c)) (fillOf (s .args .c))
+            (s .pre .1) .length,
+      ),
+      simp (length-take, length-drop) (omega (arith, s .pre .0, p .put-u32 .kept)),
+    )
 
 same-length : tie.Need-same-length
 same-length c = search needs
@@ -41,13 +49,14 @@ returns c =
     let p = a .before .before .before .before .before in
     let s = p .before .before .before in
     let l : length (s .args .t4) ≡ 44 = search needs in
-    changed-is (now (s .args .x)) _ _ (s .args .t4) (s .args .c) (s .args .lsn) (s .pre .0) (s .pre .1) l (p .put32 .ensures) (a .apply .ensures)
+    changed-is (now (s .args .x)) _ _ (s .args .t4) (s .args .c) (s .args .lsn) (s .pre .0) (s .pre .1) l (p .put-u32 .ensures)
+    (a .apply .ensures)
 
 pub alter-spec : {M : Type 1} → statement M
 alter-spec =
     tie.close
     (tie.spec
-    put32-requires
+    put-u32-requires
     slice-aggregate-apply
     sub-apply
     part-apply-start

@@ -8,7 +8,7 @@ use Rattle.state.proofs.Tables.{length-mapped}
 use Rattle.append.proofs.Outcomes.{no-row, clauses, change-refused, change-done}
 use Rattle.append.proofs.Parts.{lent-length, altered-is}
 use Rattle.append.proofs.Open.{Open, change-open, change-fits}
-use Rattle.model.specs.Tests.{firstOf}
+use Rattle.model.specs.Tables.{firstOf}
 use Rattle.model.specs.Change.{fits}
 use Rattle.model.specs.State.{frameAt, holder}
 use Rattle.model.specs.Refusals.{changeRows}
@@ -18,13 +18,16 @@ use Rattle.append.proofs.change.change.Statement.{statement}
 use Rattle.append.proofs.change.change.Tie as tie
 
 -- past the test: no row holds, and what that tells
-none : (c : tie.Else1) → let s = c .before .before .before .before in firstOf (changeRows (now (s .args .volume)) (now (s .args .memory)) (s .args .s) (s .args .page) (s .args .change)) ≡ 0
+none : (c : tie.Else1) → let s = c .before .before .before .before in firstOf
+    (changeRows (now (s .args .volume)) (now (s .args .memory)) (s .args .s) (s .args .page) (s .args .change)) ≡ 0
 none c =
     let s = c .before .before .before .before in
-    no-row (c .before .refusal .result) (firstOf (changeRows (now (s .args .volume)) (now (s .args .memory)) (s .args .s) (s .args .page) (s .args .change)))
+    no-row (c .before .refusal .result)
+    (firstOf (changeRows (now (s .args .volume)) (now (s .args .memory)) (s .args .s) (s .args .page) (s .args .change)))
     (c .before .refusal .ensures (now (s .args .memory)) refl) (c .if1 .left)
 
-known : (c : tie.Else1) → let s = c .before .before .before .before in Open (now (s .args .memory)) (s .args .s) (s .args .page) (holder (s .args .s) (s .args .page))
+known : (c : tie.Else1) → let s = c .before .before .before .before in Open (now (s .args .memory)) (s .args .s) (s .args .page)
+    (holder (s .args .s) (s .args .page))
 known c =
     let s = c .before .before .before .before in
     let l : length (s .args .s .frames) ≡ 16 = search (needs, length-mapped) in
@@ -49,8 +52,8 @@ pend-requires c κs = let k = known (c .before) in (k .records, omega (arith, k 
 holder-requires : tie.Need-holder-requires
 holder-requires c κs = search needs
 
-frameat-requires : tie.Need-frameat-requires
-frameat-requires c κs = search needs
+frame-at-requires : tie.Need-frame-at-requires
+frame-at-requires c κs = search needs
 
 add-end : tie.Need-add-end
 add-end c = search needs
@@ -64,14 +67,14 @@ part-alter-start c = search needs
 part-alter-end : tie.Need-part-alter-end
 part-alter-end c =
     let p = c .before .before .before .before in
-    omega (arith, known (p .before .before) .room, c .frameat .ensures, c .before .holder .ensures, p .pend .kept)
+    omega (arith, known (p .before .before) .room, c .frame-at .ensures, c .before .holder .ensures, p .pend .kept)
 
 alter-requires : tie.Need-alter-requires
 alter-requires c κs =
     let p = c .before .before .before .before .before in
     let i = p .before .before in (
-      lent-length (p .pend .last .0) (c .before .frameat .result) 256
-          (omega (arith, known i .room, c .before .frameat .ensures, c .before .before .holder .ensures, p .pend .kept)),
+      lent-length (p .pend .last .1 .0) (c .before .frame-at .result) 256
+          (omega (arith, known i .room, c .before .frame-at .ensures, c .before .before .holder .ensures, p .pend .kept)),
       obeys i,
     )
 
@@ -79,8 +82,15 @@ appended-requires : tie.Need-appended-requires
 appended-requires c κs =
     let h = c .before .before .before .before .before in
     let k = known (h .before .before .before .before .before) in
-    let e = h .holder .ensures in
-    (k .page-low, k .page-high, omega (arith, k .frame-low, e), omega (arith, k .frame-high, e), omega (arith, k .last), omega (arith, k .pending))
+    let e = h .holder .ensures in (
+      k .page-low,
+      k .page-high,
+      omega (arith, k .frame-low, e),
+      omega (arith, k .frame-high, e),
+      omega (arith, k .last),
+      omega
+          (arith, k .pending),
+    )
 
 same-length : tie.Need-same-length
 same-length c = search needs
@@ -95,10 +105,12 @@ returns-2 c =
     let s = i .before .before .before .before in
     let l : length (s .args .payload) ≡ 44 = s .good .1 .1 .1 .1 .1 .0 .1 .0 .1 in
     clauses
-    (change-done (now (s .args .volume)) (now (s .args .memory)) (s .args .s) (s .args .page) (s .args .change) (s .args .payload) _ _ (none i)
+    (change-done (now (s .args .volume)) (now (s .args .memory)) (s .args .s) (s .args .page) (s .args .change) (s .args .payload) _ _
+    (none i)
     (c .appended .ensures ∙ ap (appendedState (s .args .s) (s .args .page)) (h .holder .ensures))
-    (altered-is (now (s .args .memory)) _ _ (s .args .payload) (s .args .s) (s .args .page) _ _ _ (s .args .change) (obeys i) l (known i .room)
-    (a .frameat .ensures ∙ ap frameAt (h .holder .ensures)) (p .pend .ensures .1) (p .pend .ensures .0) (f .alter .ensures)))
+    (altered-is (now (s .args .memory)) _ _ (s .args .payload) (s .args .s) (s .args .page) _ _ _ (s .args .change) (obeys i) l
+    (known i .room)
+    (a .frame-at .ensures ∙ ap frameAt (h .holder .ensures)) (p .pend .ensures .1) (p .pend .ensures .0) (f .alter .ensures)))
 
 pub change-spec : {M : Type 1} → statement M
 change-spec =
@@ -108,7 +120,7 @@ change-spec =
     returns
     pend-requires
     holder-requires
-    frameat-requires
+    frame-at-requires
     add-end
     sub-alter
     part-alter-start

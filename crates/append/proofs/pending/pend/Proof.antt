@@ -17,8 +17,8 @@ add-lsn-2 c = search needs
 entry-requires : tie.Need-entry-requires
 entry-requires c κs = search needs
 
-pendingat-requires : tie.Need-pendingat-requires
-pendingat-requires c κs = search needs
+pending-at-requires : tie.Need-pending-at-requires
+pending-at-requires c κs = search needs
 
 add-end : tie.Need-add-end
 add-end c = search needs
@@ -46,7 +46,7 @@ returns c =
     let l : length (s .args .payload) ≡ 44 = s .good .1 .1 .1 .1 .0 .1 .0 .1 in (
       refl,
       pended-is (s .args .c) (s .args .payload) (s .pre .2) l (now (s .args .memory)) _ (s .args .s) _ _ (s .args .page) _ refl
-          (ap (λ (x : Entry). x .last) (a .before .entry .ensures)) (a .pendingat .ensures) (e .encode .ensures),
+          (ap (λ (x : Entry). x .last) (a .before .entry .ensures)) (a .pending-at .ensures) (e .encode .ensures),
     )
 
 pub pend-spec : {M : Type 1} → statement M
@@ -56,7 +56,7 @@ pend-spec =
     add-lsn
     add-lsn-2
     entry-requires
-    pendingat-requires
+    pending-at-requires
     add-end
     sub-encode
     part-encode-start

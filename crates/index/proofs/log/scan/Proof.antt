@@ -1,3 +1,4 @@
+-- `index::log::scan` meets its contract. The loop keeps: the records passed fit, and gave the column of last numbers.
 use mathlib.Core.Path.{_≡_, refl, sym, ap, _∙_}
 use mathlib.Core.Bool.{true}
 use mathlib.Core.List.{List}
@@ -7,59 +8,58 @@ use native.Mathlib.Omega.{arith}
 use borrow.Author.Needs.{needs}
 use borrow.Author.Tests.{not-true, not-false}
 use denote.Ref.{now}
-use lib.ListN.{length, getD}
+use lib.ListN.{length, getD, length-set, length-replicate}
 use Rattle.model.specs.Checksum.{sealed}
-use Rattle.model.specs.Geometry.{recordAt, start, item}
-use Rattle.model.specs.Index.{emptyEntry, emptyIndex}
-use Rattle.model.specs.Scan.{restZero}
+use Rattle.model.specs.Geometry.{recordAt, logSlot, start, item}
+use Rattle.model.specs.Scan.{durableCount, logIndex, recordFits, restZero, validLog}
 use Rattle.model.specs.declared.geometry.Geometry.{Geometry}
-use Rattle.index.specs.Section.{loggedEntry}
+use Rattle.index.specs.Columns.{lasts}
+use Rattle.index.specs.Section.{logSection}
 use Rattle.index.proofs.Entries.{row-below}
-use Rattle.index.proofs.Pass.{Passed, Judged, run, run-full, run-here, passed-more, whole-unfit, whole-rest, whole-kept}
-use Rattle.index.proofs.LogPass.{logItems, log-spaced, log-whole, log-none, log-judged, record-length}
+use Rattle.index.proofs.ColumnLaws.{log-none}
+use Rattle.index.proofs.Pass.{Passed, run, keeps, passed-none, run-full, run-here, passed-more, unfit-breaks, rest-decides, never, section-broken, section-kept}
+use Rattle.index.proofs.LogPass.{logItems, log-spaced, log-keeps, log-run, log-judged, log-enters, record-length}
 use Rattle.index.proofs.log.scan.Statement.{statement}
 use Rattle.index.proofs.log.scan.Tie as tie
 
 abbrev Inv-loop : tie.InvT-loop
-Inv-loop v g records pages index₀ n₀ index n = Passed v (logItems g v) n index
+Inv-loop volume g last₀ records pages n₀ last n =
+    Passed volume (logItems g volume) n × (last ≡ lasts (logIndex g volume n)) × (length last ≡ 64)
 
 abbrev μ-loop : tie.MeasureT-loop
-μ-loop v g records pages index₀ n₀ index n = g .records - n
-
--- the row that is looked up is one of the index's
-row-at : (c : tie.After-row Inv-loop μ-loop) → c .row .result < 64
-row-at c = omega (arith, c .row .ensures, row-below (c .before .before .read .result .page))
+μ-loop volume g last₀ records pages n₀ last n = g .records - n
 
 -- the loop's head, with the volume and its geometry
 abbrev head : tie.After-fits2 Inv-loop μ-loop → tie.At-loop Inv-loop μ-loop
 head c = c .before .before .before .before .before .before .before .before .before .before
 
 abbrev vol : tie.At-loop Inv-loop μ-loop → List ℕ
-vol a = now (a .before .before .args .v)
+vol a = now (a .before .before .before .args .volume)
 
 abbrev geo : tie.At-loop Inv-loop μ-loop → Geometry
-geo a = a .before .before .args .g
+geo a = a .before .before .before .args .g
+
+-- the row that is looked up is one of the column's
+row-at : (c : tie.After-row Inv-loop μ-loop) → c .row .result < 64
+row-at c = omega (arith, c .row .ensures, row-below (c .before .before .read .result .page))
 
 -- the record has its checksum
-right : (c : tie.After-fits2 Inv-loop μ-loop) → sealed 60 (item (geo (head c)) (vol (head c)) (recordAt (head c .loop .n + 1))) ≡ true
-right c =
-    ap (sealed 60) (sym (c .before .before .before .before .before .before .before .before .«record» .ensures)) ∙ sym (c .before .before .before .before .before .before .before .holds .ensures)
-    ∙ not-false _ (c .before .before .before .before .before .before .if1 .left)
+right : (c : tie.After-fits2 Inv-loop μ-loop) → sealed 60 (item (geo (head c)) (vol (head c)) (logSlot (geo (head c)) (head c .loop .n + 1))) ≡ true
+right c = ap (sealed 60) (sym (c .before .before .before .before .before .before .before .before .«record» .ensures)) ∙ sym (c .before .before .before .before .before .before .before .holds .ensures) ∙ not-false _ (c .before .before .before .before .before .before .if1 .left)
 
 -- and is judged
 judged : (c : tie.After-fits2 Inv-loop μ-loop)
-    → Judged (vol (head c)) (logItems (geo (head c)) (vol (head c))) (head c .loop .n) (head c .loop .index) (c .before .before .before .row .result) (c .fits2 .result)
-    (loggedEntry (getD (head c .loop .index) (c .before .before .before .row .result) emptyEntry) (head c .loop .n + 1))
+    → c .fits2 .result ≡ recordFits (geo (head c)) (vol (head c)) (logIndex (geo (head c)) (vol (head c)) (head c .loop .n)) (suc (head c .loop .n))
 judged c =
-    log-judged _ _ (head c .before .before .pre .pages) _ _ (head c .loop .inv .same) _ (c .before .before .before .before .before .before .before .before .«record» .ensures) _ (c .before .before .before .before .before .read .ensures) _
+    log-judged _ _ (head c .before .before .before .pre .0 .pages) _ _ (head c .loop .inv .1) _ (c .before .before .before .before .before .before .before .before .«record» .ensures) _ (c .before .before .before .before .before .read .ensures) _
     (c .before .before .before .row .ensures) _ _ (c .before .layout .ensures) (c .fits2 .ensures)
 
 -- after the loop, its count is the run's
 ended : (c : tie.Left-loop Inv-loop μ-loop) → run (vol (c .before)) (logItems (geo (c .before)) (vol (c .before))) ≡ c .before .loop .n
 ended c =
-    ⊎-elim (λ w. run-full _ _ _ _ (c .before .loop .inv) (w .left))
+    ⊎-elim (λ w. run-full _ _ _ (c .before .loop .inv .0) (w .left))
     (λ w.
-    run-here _ _ _ _ (c .before .loop .inv) (log-spaced _ _) (w .0 .taken)
+    run-here _ _ _ (c .before .loop .inv .0) (log-spaced _ _) (w .0 .taken)
     (ap (sealed 60) (sym (w .1 .ensures)) ∙ sym (w .2 .ensures) ∙ not-true _ (w .3 .taken)))
     (c .loop-test .came)
 
@@ -67,11 +67,10 @@ rest-is : (c : tie.After-rest Inv-loop μ-loop)
     → let a = c .before .before .before in restZero 64 (geo a .records) (vol a) (start (geo a) (recordAt 1)) (a .loop .n) ≡ c .rest .result
 rest-is c =
     let a = c .before .before .before in
-    ap (λ (x : ℕ). restZero 64 (geo a .records) (vol a) x (a .loop .n)) (sym (c .before .recordat .ensures)) ∙ sym (c .rest .ensures)
+    ap (λ (x : ℕ). restZero 64 (geo a .records) (vol a) x (a .loop .n)) (sym (c .before .record-at .ensures)) ∙ sym (c .rest .ensures)
 
 loop-holds : tie.Need-loop-holds Inv-loop μ-loop
-unfolding emptyIndex
-loop-holds c = log-none _ _ _ refl
+loop-holds c = let h = c .before .before .pre in (passed-none _ _, h .1 ∙ sym (log-none _ _), ap length (h .1) ∙ length-replicate {A = ℕ} 64 0)
 
 add-record : tie.Need-add-record Inv-loop μ-loop
 add-record c = search needs
@@ -94,13 +93,14 @@ row-requires c κs = search needs
 mul-was : tie.Need-mul-was Inv-loop μ-loop
 mul-was c = omega (arith, row-at c)
 
-array-copy-out-was : tie.Need-array-copy-out-was Inv-loop μ-loop
-array-copy-out-was c = row-at c
+slice-read-was : tie.Need-slice-read-was Inv-loop μ-loop
+slice-read-was c = omega (arith, row-at (c .before), c .before .before .before .before .before .before .before .before .loop .inv .2)
 
 layout-requires : tie.Need-layout-requires Inv-loop μ-loop
 layout-requires c κs =
-    let a = c .before .before .before .before .before .before .before .before .before .before .args in
-    omega (arith, record-length (a .g) (now (a .v)) (c .before .before .before .before .before .before .before .before .before .before .pre) (c .before .before .before .before .before .before .before .before .loop .n) (c .before .before .before .before .before .before .before .loop-test .taken), ap length (c .before .before .before .before .before .before .«record» .ensures))
+    let s = c .before .before .before .before .before .before .before .before .before .before .before in
+    let l = c .before .before .before .before .before .before .before .before in
+    omega (arith, record-length (s .args .g) (now (s .args .volume)) (s .pre .0) (l .loop .n) (c .before .before .before .before .before .before .before .loop-test .taken), ap length (c .before .before .before .before .before .before .«record» .ensures))
 
 add-fits : tie.Need-add-fits Inv-loop μ-loop
 add-fits c = search needs
@@ -111,23 +111,24 @@ fits-requires c κs = search needs
 broken-requires : tie.Need-broken-requires Inv-loop μ-loop
 broken-requires c κs = search needs
 
+same-length : tie.Need-same-length Inv-loop μ-loop
+same-length c = let l = c .before .before .before .before .before .before .before .before .before .before .before .before in l .loop .inv .2 ∙ sym (ap length (l .before .before .before .pre .1) ∙ length-replicate {A = ℕ} 64 0)
+
 returns : tie.Need-returns Inv-loop μ-loop
+unfolding logSection
 returns c =
-    c .broken .ensures
-    ∙ whole-unfit _ _ _ _ (head (c .before .before) .loop .inv) (log-spaced _ _) (c .before .before .before .before .before .before .before .before .before .before .before .loop-test .taken) (right (c .before .before)) _ _ _ (judged (c .before .before))
-    (not-true _ (c .before .if2 .taken)) ∙ log-whole _ _
+    let f = c .before .before in
+    let k = unfit-breaks _ _ _ (head f .loop .inv .0) (log-spaced _ _) (f .before .before .before .before .before .before .before .before .before .loop-test .taken) (right f) _ (judged f) (not-true _ (c .before .if2 .taken)) in
+    (c .broken .ensures ∙ section-broken _ _ (sym (log-keeps _ _) ∙ k), never _ (c .broken .ensures))
 
-add-logged : tie.Need-add-logged Inv-loop μ-loop
-add-logged c = search needs
+add-last : tie.Need-add-last Inv-loop μ-loop
+add-last c = search needs
 
-logged-requires : tie.Need-logged-requires Inv-loop μ-loop
-logged-requires c κs = search needs
+mul-last : tie.Need-mul-last Inv-loop μ-loop
+mul-last c = omega (arith, row-at (c .before .before .before .before))
 
-mul-index : tie.Need-mul-index Inv-loop μ-loop
-mul-index c = omega (arith, row-at (c .before .before .before .before .before))
-
-array-set-from-index : tie.Need-array-set-from-index Inv-loop μ-loop
-array-set-from-index c = row-at (c .before .before .before .before .before)
+slice-write-last : tie.Need-slice-write-last Inv-loop μ-loop
+slice-write-last c = omega (arith, row-at (c .before .before .before .before), c .before .before .before .before .before .before .before .before .before .before .before .loop .inv .2)
 
 add-n : tie.Need-add-n Inv-loop μ-loop
 add-n c = search needs
@@ -137,11 +138,17 @@ loop-less c = search needs
 
 loop-again : tie.Need-loop-again Inv-loop μ-loop
 loop-again c =
-    passed-more _ _ _ _ (head (c .before .before) .loop .inv) (log-spaced _ _) (c .before .before .before .before .before .before .before .before .before .before .before .loop-test .taken) (right (c .before .before)) _ _ _ (judged (c .before .before))
-    (not-false _ (c .before .if2 .left)) _ (c .logged .ensures)
+    let f = c .before in
+    let l = head f in
+    let ok = not-false _ (c .if2 .left) in (
+      passed-more _ _ _ (l .loop .inv .0) (log-spaced _ _) (f .before .before .before .before .before .before .before .before .before .loop-test .taken) (right f) _ (judged f) ok,
+      log-enters _ _ (l .before .before .before .pre .0 .pages) _ _ (l .loop .inv .1) _ (f .before .before .before .before .before .before .before .before .«record» .ensures) _ (f .before .before .before .before .before .read .ensures) _
+          (f .before .before .before .row .ensures) _ _ (f .before .layout .ensures) (f .fits2 .ensures) ok,
+      length-set (l .loop .last) _ _ ∙ l .loop .inv .2,
+    )
 
-recordat-requires : tie.Need-recordat-requires Inv-loop μ-loop
-recordat-requires c κs = search needs
+record-at-requires : tie.Need-record-at-requires Inv-loop μ-loop
+record-at-requires c κs = search needs
 
 cast-rest : tie.Need-cast-rest Inv-loop μ-loop
 cast-rest c = search needs
@@ -155,14 +162,23 @@ rest-requires c κs = search needs
 broken-requires-2 : tie.Need-broken-requires-2 Inv-loop μ-loop
 broken-requires-2 c κs = search needs
 
+same-length-2 : tie.Need-same-length-2 Inv-loop μ-loop
+same-length-2 c = let l = c .before .before .before .before .before in l .loop .inv .2 ∙ sym (ap length (l .before .before .before .pre .1) ∙ length-replicate {A = ℕ} 64 0)
+
 returns-2 : tie.Need-returns-2 Inv-loop μ-loop
+unfolding logSection
 returns-2 c =
-    c .broken2 .ensures ∙ whole-rest _ _ _ _ (c .before .before .before .before .before .loop .inv) (ended (c .before .before .before .before)) (rest-is (c .before .before) ∙ not-true _ (c .before .if3 .taken))
-    ∙ log-whole _ _
+    let k = rest-decides _ _ _ (c .before .before .before .before .before .loop .inv .0) (ended (c .before .before .before .before)) _ (rest-is (c .before .before)) in
+    (c .broken2 .ensures ∙ section-broken _ _ (sym (log-keeps _ _) ∙ k ∙ not-true _ (c .before .if3 .taken)), never _ (c .broken2 .ensures))
+
+same-length-3 : tie.Need-same-length-3 Inv-loop μ-loop
+same-length-3 c = let l = c .before .before .before .before in l .loop .inv .2 ∙ sym (ap length (l .before .before .before .pre .1) ∙ length-replicate {A = ℕ} 64 0)
 
 returns-3 : tie.Need-returns-3 Inv-loop μ-loop
+unfolding logSection
 returns-3 c =
-    whole-kept _ _ _ _ (c .before .before .before .before .loop .inv) (ended (c .before .before .before)) (rest-is (c .before) ∙ not-false _ (c .if3 .left)) ∙ log-whole _ _
+    let k = rest-decides _ _ _ (c .before .before .before .before .loop .inv .0) (ended (c .before .before .before)) _ (rest-is (c .before)) in
+    (section-kept _ _ (sym (log-keeps _ _) ∙ k ∙ not-false _ (c .if3 .left)) _ (sym (log-run _ _) ∙ ended (c .before .before .before)), λ t. c .before .before .before .before .loop .inv .1)
 
 pub scan-spec : {M : Type 1} → statement M
 scan-spec =
@@ -178,23 +194,25 @@ scan-spec =
     cast-row
     row-requires
     mul-was
-    array-copy-out-was
+    slice-read-was
     layout-requires
     add-fits
     fits-requires
     broken-requires
+    same-length
     returns
-    add-logged
-    logged-requires
-    mul-index
-    array-set-from-index
+    add-last
+    mul-last
+    slice-write-last
     add-n
     loop-less
     loop-again
-    recordat-requires
+    record-at-requires
     cast-rest
     cast-rest-2
     rest-requires
     broken-requires-2
+    same-length-2
     returns-2
+    same-length-3
     returns-3)

@@ -7,19 +7,19 @@ use borrow.Author.Needs.{needs}
 use Rattle.index.proofs.notes.page.Statement.{statement}
 use Rattle.index.proofs.notes.page.Tie as tie
 
-recordat-requires : tie.Need-recordat-requires
-recordat-requires c κs = search needs
+log-slot-requires : tie.Need-log-slot-requires
+log-slot-requires c κs = search needs
 
-add-u16at : tie.Need-add-u16at
-add-u16at c = search needs
+add-u16-at : tie.Need-add-u16-at
+add-u16-at c = search needs
 
-u16at-requires : tie.Need-u16at-requires
-u16at-requires c κs = search needs
+u16-at-requires : tie.Need-u16-at-requires
+u16-at-requires c κs = search needs
 
 returns : tie.Need-returns
 returns c =
     let a = c .before .before .before .args in
-    c .u16at .ensures ∙ ap (λ (k : ℕ). field 2 (k + 8) (now (a .v))) (c .before .recordat .ensures) ∙ sym (record-page (a .g) (now (a .v)) (a .n))
+    c .u16-at .ensures ∙ ap (λ (k : ℕ). field 2 (k + 8) (now (a .volume))) (c .before .log-slot .ensures) ∙ sym (record-page (a .g) (now (a .volume)) (a .n))
 
 pub page-spec : {M : Type 1} → statement M
-page-spec = tie.close (tie.spec recordat-requires add-u16at u16at-requires returns)
+page-spec = tie.close (tie.spec log-slot-requires add-u16-at u16-at-requires returns)

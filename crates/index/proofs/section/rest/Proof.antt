@@ -47,7 +47,7 @@ zero-requires c κs = search needs
 returns-2 : tie.Need-returns-2
 returns-2 c =
     let a = c .before .before .before .before .args in
-    c .zero .ensures ∙ rest-part (a .size) (a .count) (a .n) (c .before .before .if1 .left) (now (a .v)) (a .at)
+    c .zero .ensures ∙ rest-part (a .size) (a .count) (a .n) (c .before .before .if1 .left) (now (a .volume)) (a .at)
 
 pub rest-spec : {M : Type 1} → statement M
 rest-spec =

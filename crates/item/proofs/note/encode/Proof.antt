@@ -7,11 +7,11 @@ use Rattle.item.proofs.Builds.{note-is}
 use Rattle.item.proofs.note.encode.Statement.{statement}
 use Rattle.item.proofs.note.encode.Tie as tie
 
-put32-requires : tie.Need-put32-requires
-put32-requires c κs = search needs
+put-u32-requires : tie.Need-put-u32-requires
+put-u32-requires c κs = search needs
 
-put16-requires : tie.Need-put16-requires
-put16-requires c κs = search needs
+put-u16-requires : tie.Need-put-u16-requires
+put-u16-requires c κs = search needs
 
 slice-write-dst : tie.Need-slice-write-dst
 slice-write-dst c = search needs
@@ -19,14 +19,14 @@ slice-write-dst c = search needs
 slice-write-dst-2 : tie.Need-slice-write-dst-2
 slice-write-dst-2 c = simp length-set (omega arith)
 
-put32-requires-2 : tie.Need-put32-requires-2
-put32-requires-2 c κs = simp length-set (omega arith)
+put-u32-requires-2 : tie.Need-put-u32-requires-2
+put-u32-requires-2 c κs = simp length-set (omega arith)
 
 set-requires : tie.Need-set-requires
-set-requires c κs = omega (arith, simp length-set at (c .before .before .before .put322 .kept))
+set-requires c κs = omega (arith, simp length-set at (c .before .before .before .put-u322 .kept))
 
 same-length : tie.Need-same-length
-same-length c = omega (arith, simp length-set at (c .before .before .before .before .before .before .put322 .kept))
+same-length c = omega (arith, simp length-set at (c .before .before .before .before .before .before .put-u322 .kept))
 
 returns : tie.Need-returns
 returns c =
@@ -35,17 +35,17 @@ returns c =
     let e₂ = e₃ .before .before .before .before in
     let e₁ = e₂ .before .before .before .before in
     let s = e₁ .before .before .before in
-    note-is (now (s .args .dst)) _ _ _ _ (s .args .n) (s .pre) (e₁ .put32 .ensures) (e₂ .put16 .ensures) (e₃ .put322 .ensures) (e₄ .set .ensures)
+    note-is (now (s .args .dst)) _ _ _ _ (s .args .n) (s .pre) (e₁ .put-u32 .ensures) (e₂ .put-u16 .ensures) (e₃ .put-u322 .ensures) (e₄ .set .ensures)
 
 pub encode-spec : {M : Type 1} → statement M
 encode-spec =
     tie.close
     (tie.spec
-    put32-requires
-    put16-requires
+    put-u32-requires
+    put-u16-requires
     slice-write-dst
     slice-write-dst-2
-    put32-requires-2
+    put-u32-requires-2
     set-requires
     same-length
     returns)

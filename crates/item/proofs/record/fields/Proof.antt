@@ -7,14 +7,14 @@ use Rattle.item.proofs.Builds.{fields-is}
 use Rattle.item.proofs.record.fields.Statement.{statement}
 use Rattle.item.proofs.record.fields.Tie as tie
 
-put32-requires : tie.Need-put32-requires
-put32-requires c κs = search needs
+put-u32-requires : tie.Need-put-u32-requires
+put-u32-requires c κs = search needs
 
-put32-requires-2 : tie.Need-put32-requires-2
-put32-requires-2 c κs = search needs
+put-u32-requires-2 : tie.Need-put-u32-requires-2
+put-u32-requires-2 c κs = search needs
 
-put16-requires : tie.Need-put16-requires
-put16-requires c κs = search needs
+put-u16-requires : tie.Need-put-u16-requires
+put-u16-requires c κs = search needs
 
 slice-write-dst : tie.Need-slice-write-dst
 slice-write-dst c = search needs
@@ -22,17 +22,17 @@ slice-write-dst c = search needs
 slice-write-dst-2 : tie.Need-slice-write-dst-2
 slice-write-dst-2 c = simp length-set (omega arith)
 
-put16-requires-2 : tie.Need-put16-requires-2
-put16-requires-2 c κs = simp length-set (omega arith)
+put-u16-requires-2 : tie.Need-put-u16-requires-2
+put-u16-requires-2 c κs = simp length-set (omega arith)
 
 slice-write-dst-3 : tie.Need-slice-write-dst-3
-slice-write-dst-3 c = omega (arith, simp length-set at (c .before .before .put162 .kept))
+slice-write-dst-3 c = omega (arith, simp length-set at (c .before .before .put-u162 .kept))
 
 slice-write-dst-4 : tie.Need-slice-write-dst-4
-slice-write-dst-4 c = simp length-set (omega (arith, simp length-set at (c .before .before .put162 .kept)))
+slice-write-dst-4 c = simp length-set (omega (arith, simp length-set at (c .before .before .put-u162 .kept)))
 
 same-length : tie.Need-same-length
-same-length c = simp length-set (omega (arith, simp length-set at (c .before .before .put162 .kept)))
+same-length c = simp length-set (omega (arith, simp length-set at (c .before .before .put-u162 .kept)))
 
 returns : tie.Need-returns
 returns c =
@@ -41,18 +41,18 @@ returns c =
     let e₂ = e₃ .before .before .before .before in
     let e₁ = e₂ .before .before .before .before in
     let s = e₁ .before .before .before in
-    fields-is (now (s .args .dst)) _ _ _ _ (s .args .e) (s .pre) (e₁ .put32 .ensures) (e₂ .put322 .ensures) (e₃ .put16 .ensures) (e₄ .put162 .ensures)
+    fields-is (now (s .args .dst)) _ _ _ _ (s .args .e) (s .pre) (e₁ .put-u32 .ensures) (e₂ .put-u322 .ensures) (e₃ .put-u16 .ensures) (e₄ .put-u162 .ensures)
 
 pub fields-spec : {M : Type 1} → statement M
 fields-spec =
     tie.close
     (tie.spec
-    put32-requires
-    put32-requires-2
-    put16-requires
+    put-u32-requires
+    put-u32-requires-2
+    put-u16-requires
     slice-write-dst
     slice-write-dst-2
-    put16-requires-2
+    put-u16-requires-2
     slice-write-dst-3
     slice-write-dst-4
     same-length

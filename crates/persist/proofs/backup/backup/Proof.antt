@@ -5,7 +5,7 @@ use native.Mathlib.Omega.{arith}
 use lib.ListN.{length}
 use denote.Ref.{now}
 use Rattle.state.proofs.Tables.{length-mapped}
-use Rattle.model.specs.Tests.{firstOf}
+use Rattle.model.specs.Tables.{firstOf}
 use Rattle.model.specs.Geometry.{slotAt}
 use Rattle.model.specs.Refusals.{backupRows}
 use Rattle.persist.proofs.Outcomes.{backup-refused, backup-done}
@@ -19,14 +19,17 @@ long : (c : tie.Start) → length (c .args .s .frames) ≡ 16
 long c = search (needs, length-mapped)
 
 -- past the test: no row holds, and what that tells
-none : (c : tie.Else1) → let s = c .before .before .before .before .before in firstOf (backupRows (now (s .args .volume)) (now (s .args .memory)) (s .args .s) (s .args .page) (s .args .slot)) ≡ 0
+none : (c : tie.Else1) → let s = c .before .before .before .before .before in firstOf
+    (backupRows (now (s .args .volume)) (now (s .args .memory)) (s .args .s) (s .args .page) (s .args .slot)) ≡ 0
 none c = sym (c .before .refusal .ensures) ∙ c .if1 .left
 
-known : (c : tie.After-geometry) → let s = c .before .before .before .before .before .before .before .before in (s .args .slot ≤ 255) × Room (now (s .args .volume)) (now (s .args .memory)) (s .args .s) (c .geometry .result) (s .args .page) (slotAt (s .args .slot))
+known : (c : tie.After-geometry) → let s = c .before .before .before .before .before .before .before .before in (s .args .slot ≤ 255)
+    × Room (now (s .args .volume)) (now (s .args .memory)) (s .args .s) (c .geometry .result) (s .args .page) (slotAt (s .args .slot))
 known c =
     let i = c .before .before .before in
     let s = i .before .before .before .before .before in
-    backup-room (now (s .args .volume)) (now (s .args .memory)) (s .args .s) _ (s .args .page) (long s) (c .geometry .ensures) (s .args .slot) (none i)
+    backup-room (now (s .args .volume)) (now (s .args .memory)) (s .args .s) _ (s .args .page) (long s) (c .geometry .ensures)
+    (s .args .slot) (none i)
 
 refusal-requires : tie.Need-refusal-requires
 refusal-requires c κs = search needs
@@ -46,17 +49,17 @@ geometry-requires c κs = search needs
 lsn-requires : tie.Need-lsn-requires
 lsn-requires c κs = search needs
 
-slotat-requires : tie.Need-slotat-requires
-slotat-requires c κs = search needs
+slot-at-requires : tie.Need-slot-at-requires
+slot-at-requires c κs = search needs
 
 store-requires : tie.Need-store-requires
 store-requires c κs =
     let g = c .before .before .before in
     let k = known g .1 in
-    (omega (arith, k .place, c .slotat .ensures), omega (arith, k .frame, g .before .before .holder .ensures))
+    (omega (arith, k .place, c .slot-at .ensures), omega (arith, k .frame, g .before .before .holder .ensures))
 
-backedup-requires : tie.Need-backedup-requires
-backedup-requires c κs =
+backed-up-requires : tie.Need-backed-up-requires
+backed-up-requires c κs =
     let k = known (c .before .before .before .before .before .before) in
     (k .1 .page-high, omega (arith, k .0), omega (arith, k .1 .notes))
 
@@ -70,7 +73,8 @@ returns-2 c =
     let h = g .before .before in
     let a = h .before .before .before .before .before .before .args in
     backup-done (now (a .volume)) (now (a .memory)) (a .s) (a .page) _ _ _ _ _ _ (g .geometry .ensures) (h .holder .ensures)
-    (t .before .before .before .lsn .ensures) (t .store .ensures) (a .slot) (none (h .before)) (t .before .slotat .ensures) (c .backedup .ensures)
+    (t .before .before .before .lsn .ensures) (t .store .ensures) (a .slot) (none (h .before)) (t .before .slot-at .ensures)
+    (c .backed-up .ensures)
 
 pub backup-spec : {M : Type 1} → statement M
 backup-spec =
@@ -82,8 +86,8 @@ backup-spec =
     holder-requires
     geometry-requires
     lsn-requires
-    slotat-requires
+    slot-at-requires
     store-requires
-    backedup-requires
+    backed-up-requires
     same-length-2
     returns-2)

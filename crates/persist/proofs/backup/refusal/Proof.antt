@@ -29,7 +29,8 @@ returns c =
     let h = c .before .before .before in
     let r = h .before .before in
     let a = r .before .before .before .args in
-    backup-rows (now (a .v)) (now (a .m)) (a .s) _ _ (a .page) _ _ _ _ (r .refusal .ensures (now (a .m)) refl) (h .before .geometry .ensures) (h .holder .ensures)
+    backup-rows (now (a .volume)) (now (a .memory)) (a .s) _ _ (a .page) _ _ _ _ (r .refusal .ensures (now (a .memory)) refl)
+    (h .before .geometry .ensures) (h .holder .ensures)
     (c .before .before .lsn .ensures) (c .first .ensures) (a .slot) (c .before .own .ensures)
 
 pub refusal-spec : {M : Type 1} → statement M

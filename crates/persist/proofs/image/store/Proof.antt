@@ -5,8 +5,8 @@ use borrow.Author.Needs.{needs}
 use Rattle.persist.proofs.image.store.Statement.{statement}
 use Rattle.persist.proofs.image.store.Tie as tie
 
-frameat-requires : tie.Need-frameat-requires
-frameat-requires c κs = search needs
+frame-at-requires : tie.Need-frame-at-requires
+frame-at-requires c κs = search needs
 
 add-past : tie.Need-add-past
 add-past c = search needs
@@ -43,13 +43,14 @@ returns c =
     let s = c .before .before in
     let f = s .before .before .before in
     let a = f .before .before .before .args in
-    image-put (now (a .v)) (now (a .m)) (a .at) _ (a .f) (a .g) _ (f .before .before .before .pre .1) (f .frameat .ensures) (s .store .ensures)
+    image-put (now (a .volume)) (now (a .memory)) (a .at) _ (a .f) (a .g) _ (f .before .before .before .pre .1) (f .frame-at .ensures)
+    (s .store .ensures)
 
 pub store-spec : {M : Type 1} → statement M
 store-spec =
     tie.close
     (tie.spec
-    frameat-requires
+    frame-at-requires
     add-past
     sub-frame
     part-frame-start

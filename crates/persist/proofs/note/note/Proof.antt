@@ -3,7 +3,7 @@ use mathlib.Core.Path.{_≡_, refl, sym, _∙_}
 use mathlib.Core.List.{[]}
 use native.Mathlib.Omega.{arith}
 use denote.Ref.{now}
-use Rattle.model.specs.Tests.{firstOf}
+use Rattle.model.specs.Tables.{firstOf}
 use Rattle.model.specs.Refusals.{stateRows}
 use Rattle.persist.proofs.Outcomes.{note-refused, note-idle, note-done}
 use Rattle.persist.proofs.Parts.{note-put}
@@ -13,15 +13,19 @@ use Rattle.persist.proofs.note.note.Statement.{statement}
 use Rattle.persist.proofs.note.note.Tie as tie
 
 -- past the test: rows 1 and 2 do not hold
-none : (c : tie.Else1) → let s = c .before .before .before .before .before in firstOf (stateRows (now (s .args .volume)) (now (s .args .memory)) (s .args .s) []) ≡ 0
+none : (c : tie.Else1) → let s = c .before .before .before .before .before in firstOf
+    (stateRows (now (s .args .volume)) (now (s .args .memory)) (s .args .s) []) ≡ 0
 none c = sym (c .before .refusal .ensures (now (c .before .before .before .before .before .args .memory)) refl) ∙ c .if1 .left
 
--- a note is owed
-known : (c : tie.After-geometry) → let p = c .before .before .before in let s = p .before .before .before .before .before .before .before in NoteRoom (now (s .args .volume)) (s .args .s) (c .geometry .result) (p .p .given .0 .0)
+-- a note is pending
+known : (c : tie.After-geometry)
+    → let p = c .before .before .before in let s = p .before .before .before .before .before .before .before in NoteRoom
+    (now (s .args .volume)) (s .args .s) (c .geometry .result) (p .p .given .0 .0)
 known c =
     let p = c .before .before .before in
     let s = p .before .before .before .before .before .before .before in
-    note-room (now (s .args .volume)) (now (s .args .memory)) (s .args .s) _ _ (c .geometry .ensures) (none (p .before .before)) (p .p .given .1)
+    note-room (now (s .args .volume)) (now (s .args .memory)) (s .args .s) _ _ (c .geometry .ensures) (none (p .before .before))
+    (p .p .given .1)
 
 refusal-requires : tie.Need-refusal-requires
 refusal-requires c κs = search needs
@@ -54,8 +58,8 @@ geometry-requires c κs = search needs
 add-number : tie.Need-add-number
 add-number c = omega (arith, known (c .before) .notes)
 
-noteat-requires : tie.Need-noteat-requires
-noteat-requires c κs = search needs
+note-slot-requires : tie.Need-note-slot-requires
+note-slot-requires c κs = search needs
 
 add-end : tie.Need-add-end
 add-end c = search needs
@@ -67,7 +71,7 @@ part-slot-start : tie.Need-part-slot-start
 part-slot-start c = search needs
 
 part-slot-end : tie.Need-part-slot-end
-part-slot-end c = omega (arith, known (c .before .before) .place, c .noteat .ensures)
+part-slot-end c = omega (arith, known (c .before .before) .place, c .note-slot .ensures)
 
 encode-requires : tie.Need-encode-requires
 encode-requires c κs = search needs
@@ -87,8 +91,9 @@ returns-3 c =
     let g = at .before .before in
     let p = g .before .before .before in
     let a = p .before .before .before .before .before .before .before .args in
-    note-done (now (a .volume)) (now (a .memory)) (a .s) (p .p .given .0 .0) _ _ _ _ (none (p .before .before)) (p .p .given .1) (g .geometry .ensures)
-    (at .noteat .ensures) (c .noted .ensures) (note-put (now (a .volume)) _ (p .p .given .0 .0) _ (e .encode .ensures))
+    note-done (now (a .volume)) (now (a .memory)) (a .s) (p .p .given .0 .0) _ _ _ _ (none (p .before .before)) (p .p .given .1)
+    (g .geometry .ensures)
+    (at .note-slot .ensures) (c .noted .ensures) (note-put (now (a .volume)) _ (p .p .given .0 .0) _ (e .encode .ensures))
 
 pub note-spec : {M : Type 1} → statement M
 note-spec =
@@ -103,7 +108,7 @@ note-spec =
     returns-2
     geometry-requires
     add-number
-    noteat-requires
+    note-slot-requires
     add-end
     sub-slot
     part-slot-start

@@ -20,7 +20,8 @@ returns : tie.Need-returns
 returns c =
     let p = c .before .before .before .before .before .before in
     let a = p .before .args in
-    note-own (a .g) (a .s) (a .t) _ (a .lsn) (a .rest) _ _ _ (p .present .ensures) (c .before .before .first .ensures) (c .before .first2 .ensures) (c .first3 .ensures)
+    note-own (a .g) (a .s) (a .t) _ (a .lsn) (a .rest) _ _ _ (p .present .ensures) (c .before .before .first .ensures)
+    (c .before .first2 .ensures) (c .first3 .ensures)
 
 pub refusal-spec : {M : Type 1} → statement M
 refusal-spec =

@@ -5,10 +5,13 @@ use Rattle.play.proofs.disk.give_back.Statement.{statement}
 use Rattle.play.proofs.disk.give_back.Tie as tie
 
 abbrev Inv-loop : tie.InvT-loop
-Inv-loop volume₀ old from to i₀ volume i = 0 ≤ i
+Inv-loop volume₀ old from to end i₀ volume i = end ≤ 1940
 
 abbrev μ-loop : tie.MeasureT-loop
-μ-loop volume₀ old from to i₀ volume i = to - i
+μ-loop volume₀ old from to end i₀ volume i = end - i
+
+least-requires : tie.Need-least-requires Inv-loop μ-loop
+least-requires c κs = search needs
 
 loop-holds : tie.Need-loop-holds Inv-loop μ-loop
 loop-holds c = search needs
@@ -37,6 +40,7 @@ give-back-spec =
     (tie.spec
     Inv-loop
     μ-loop
+    least-requires
     loop-holds
     element-copy-out-volume
     element-write-volume

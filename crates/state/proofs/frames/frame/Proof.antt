@@ -17,7 +17,8 @@ returns : tie.Need-returns
 returns c = cc
 
 returns-2 : tie.Need-returns-2
-returns-2 c = past-end _ (c .before .before .args .t1 .frames) _ 16 _ _ (search (needs, length-mapped)) (c .if1 .left) (c .before .row .ensures)
+returns-2 c = past-end _ (c .before .before .args .t1 .frames) _ 16 _ _ (search (needs, length-mapped)) (c .if1 .left)
+    (c .before .row .ensures)
 
 pub frame-spec : {M : Type 1} → statement M
 frame-spec = tie.close (tie.spec row-requires mul-result element-copy-out-result returns returns-2)

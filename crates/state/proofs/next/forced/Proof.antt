@@ -1,6 +1,6 @@
 -- `state::next::forced` meets its contract.
 use Rattle.state.proofs.Forced.{forced-in, forced-out}
-use Rattle.laws.proofs.Tests.{within-bounds}
+use Rattle.laws.proofs.Tables.{within-bounds}
 use native.Mathlib.Omega.{arith}
 use borrow.Author.Needs.{needs}
 use Rattle.state.proofs.next.forced.Statement.{statement}

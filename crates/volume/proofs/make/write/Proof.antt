@@ -5,7 +5,7 @@ use Rattle.volume.proofs.make.write.Statement.{statement}
 use Rattle.volume.proofs.make.write.Tie as tie
 use Rattle.volume.proofs.make.write.Reads as reads
 use Rattle.volume.proofs.make.write.Lts as lts
-use Rattle.codec.proofs.field.put32.Reads as put32-reads
+use Rattle.codec.proofs.field.put_u32.Reads as put-u32-reads
 use Rattle.codec.proofs.part.fill.Reads as fill-reads
 use Rattle.codec.proofs.part.put.Reads as put-reads
 
@@ -48,17 +48,17 @@ add-notes-3 c = search needs
 fill-requires : tie.Need-fill-requires
 fill-requires c κs = search needs
 
-put32-requires : tie.Need-put32-requires
-put32-requires c κs = search needs
+put-u32-requires : tie.Need-put-u32-requires
+put-u32-requires c κs = search needs
 
-put32-requires-2 : tie.Need-put32-requires-2
-put32-requires-2 c κs = search needs
+put-u32-requires-2 : tie.Need-put-u32-requires-2
+put-u32-requires-2 c κs = search needs
 
-put32-requires-3 : tie.Need-put32-requires-3
-put32-requires-3 c κs = search needs
+put-u32-requires-3 : tie.Need-put-u32-requires-3
+put-u32-requires-3 c κs = search needs
 
-put32-requires-4 : tie.Need-put32-requires-4
-put32-requires-4 c κs = search needs
+put-u32-requires-4 : tie.Need-put-u32-requires-4
+put-u32-requires-4 c κs = search needs
 
 slice-aggregate-put : tie.Need-slice-aggregate-put
 slice-aggregate-put c = search needs
@@ -71,8 +71,8 @@ same-length c = search needs
 
 returns : tie.Need-returns
 returns c =
-    fresh _ _ _ _ _ _ _ _ _ _ _ (c .before .before .before .before .before .before .before .before .before .before .before .before .before .before .before .before .before .before .before .before .before .before .before .before .before .before .pre) (c .before .before .before .before .before .before .before .before .before .before .before .before .before .before .before .before .before .before .before .before .before .before .before .fill .ensures) (c .before .before .before .before .before .before .before .before .before .before .before .before .before .before .before .before .before .before .before .put32 .ensures) (c .before .before .before .before .before .before .before .before .before .before .before .before .before .before .before .put322 .ensures) (c .before .before .before .before .before .before .before .before .before .before .before .put323 .ensures)
-    (c .before .before .before .before .before .before .before .put324 .ensures) (c .before .before .put .ensures)
+    fresh _ _ _ _ _ _ _ _ _ _ _ (c .before .before .before .before .before .before .before .before .before .before .before .before .before .before .before .before .before .before .before .before .before .before .before .before .before .before .pre) (c .before .before .before .before .before .before .before .before .before .before .before .before .before .before .before .before .before .before .before .before .before .before .before .fill .ensures) (c .before .before .before .before .before .before .before .before .before .before .before .before .before .before .before .before .before .before .before .put-u32 .ensures) (c .before .before .before .before .before .before .before .before .before .before .before .before .before .before .before .put-u322 .ensures) (c .before .before .before .before .before .before .before .before .before .before .before .put-u323 .ensures)
+    (c .before .before .before .before .before .before .before .put-u324 .ensures) (c .before .before .put .ensures)
 
 pub write-spec : {M : Type 1} → statement M
 write-spec =
@@ -91,10 +91,10 @@ write-spec =
     mul-notes-3
     add-notes-3
     fill-requires
-    put32-requires
-    put32-requires-2
-    put32-requires-3
-    put32-requires-4
+    put-u32-requires
+    put-u32-requires-2
+    put-u32-requires-3
+    put-u32-requires-4
     slice-aggregate-put
     put-requires
     same-length

@@ -5,18 +5,18 @@ use Rattle.volume.proofs.place.note.Statement.{statement}
 use Rattle.volume.proofs.place.note.Tie as tie
 use Rattle.volume.proofs.place.note.Reads as reads
 use Rattle.volume.proofs.place.note.Lts as lts
-use Rattle.volume.proofs.place.noteat.Reads as noteat-reads
+use Rattle.volume.proofs.place.note_slot.Reads as note-slot-reads
 use Rattle.volume.proofs.place.part.Reads as part-reads
 
-noteat-requires : tie.Need-noteat-requires
-noteat-requires c κs = search needs
+note-slot-requires : tie.Need-note-slot-requires
+note-slot-requires c κs = search needs
 
 part-requires : tie.Need-part-requires
 part-requires c κs = search needs
 
 returns : tie.Need-returns
 unfolding item
-returns c = rw (c .part .ensures, c .before .noteat .ensures)
+returns c = rw (c .part .ensures, c .before .note-slot .ensures)
 
 pub note-spec : {M : Type 1} → statement M
-note-spec = tie.close (tie.spec noteat-requires part-requires returns)
+note-spec = tie.close (tie.spec note-slot-requires part-requires returns)

@@ -5,18 +5,18 @@ use Rattle.volume.proofs.place.page.Statement.{statement}
 use Rattle.volume.proofs.place.page.Tie as tie
 use Rattle.volume.proofs.place.page.Reads as reads
 use Rattle.volume.proofs.place.page.Lts as lts
-use Rattle.volume.proofs.place.pageat.Reads as pageat-reads
+use Rattle.volume.proofs.place.page_at.Reads as page-at-reads
 use Rattle.volume.proofs.place.part.Reads as part-reads
 
-pageat-requires : tie.Need-pageat-requires
-pageat-requires c κs = search needs
+page-at-requires : tie.Need-page-at-requires
+page-at-requires c κs = search needs
 
 part-requires : tie.Need-part-requires
 part-requires c κs = search needs
 
 returns : tie.Need-returns
 unfolding item
-returns c = rw (c .part .ensures, c .before .pageat .ensures)
+returns c = rw (c .part .ensures, c .before .page-at .ensures)
 
 pub page-spec : {M : Type 1} → statement M
-page-spec = tie.close (tie.spec pageat-requires part-requires returns)
+page-spec = tie.close (tie.spec page-at-requires part-requires returns)

@@ -6,17 +6,17 @@ use Rattle.volume.proofs.place.record.Tie as tie
 use Rattle.volume.proofs.place.record.Reads as reads
 use Rattle.volume.proofs.place.record.Lts as lts
 use Rattle.volume.proofs.place.part.Reads as part-reads
-use Rattle.volume.proofs.place.recordat.Reads as recordat-reads
+use Rattle.volume.proofs.place.log_slot.Reads as log-slot-reads
 
-recordat-requires : tie.Need-recordat-requires
-recordat-requires c κs = search needs
+log-slot-requires : tie.Need-log-slot-requires
+log-slot-requires c κs = search needs
 
 part-requires : tie.Need-part-requires
 part-requires c κs = search needs
 
 returns : tie.Need-returns
 unfolding item
-returns c = rw (c .part .ensures, c .before .recordat .ensures)
+returns c = rw (c .part .ensures, c .before .log-slot .ensures)
 
 pub record-spec : {M : Type 1} → statement M
-record-spec = tie.close (tie.spec recordat-requires part-requires returns)
+record-spec = tie.close (tie.spec log-slot-requires part-requires returns)

@@ -1,0 +1,56 @@
+-- `codec::field::u32_at` meets its contract.
+use borrow.Author.Needs.{needs}
+use denote.Ref.{now}
+use mathlib.Core.Path.{sym}
+use native.Mathlib.Omega.{arith}
+use Rattle.laws.proofs.Fields.{field-add}
+use Rattle.codec.proofs.Stores.{field-past}
+use Rattle.codec.proofs.field.u32_at.Statement.{statement}
+use Rattle.codec.proofs.field.u32_at.Tie as tie
+use Rattle.codec.proofs.field.u32_at.Reads as reads
+use Rattle.codec.proofs.field.u32_at.Lts as lts
+use Rattle.codec.proofs.field.u16_at.Reads as u16-at-reads
+use Rattle.codec.proofs.field.wide16.Reads as wide16-reads
+
+u16-at-requires : tie.Need-u16-at-requires
+u16-at-requires c κs = search needs
+
+wide16-requires : tie.Need-wide16-requires
+wide16-requires c κs = search needs
+
+add-u16-at : tie.Need-add-u16-at
+add-u16-at c = search needs
+
+u16-at-requires-2 : tie.Need-u16-at-requires-2
+u16-at-requires-2 c κs = search needs
+
+wide16-requires-2 : tie.Need-wide16-requires-2
+wide16-requires-2 c κs = search needs
+
+mul-result : tie.Need-mul-result
+mul-result c = search needs
+
+add-result : tie.Need-add-result
+add-result c = search needs
+
+returns : tie.Need-returns
+returns c =
+    let a = c .before .before .before .before .before .before .args in
+    omega (arith, field-add 2 2 (a .at) (now (a .s)), c .wide162 .ensures .0, c .before .u16-at2 .ensures, c .before .before .wide16 .ensures .0, c .before .before .before .u16-at .ensures)
+
+returns-2 : tie.Need-returns-2
+returns-2 c = sym (field-past 4 _ (now (c .before .before .args .s)) (c .if1 .left))
+
+pub u32-at-spec : {M : Type 1} → statement M
+u32-at-spec =
+    tie.close
+    (tie.spec
+    u16-at-requires
+    wide16-requires
+    add-u16-at
+    u16-at-requires-2
+    wide16-requires-2
+    mul-result
+    add-result
+    returns
+    returns-2)

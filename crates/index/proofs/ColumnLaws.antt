@@ -1,0 +1,168 @@
+-- Laws of the index by columns: a column is read and set where the index is, and what records and notes leave of each column.
+use Prim.Native.Nat.{ℕ, zero, suc, _+_, _-_, _≤_, _<_}
+use mathlib.Core.Path.{_≡_, refl, sym, ap, _∙_}
+use mathlib.Core.Bool.{Bool, true, false, cond, _||_}
+use mathlib.Core.List.{List, [], _∷_, map}
+use native.Mathlib.Numerals.{add-one}
+use native.Mathlib.Omega.{arith}
+use lib.Dec.{eqb}
+use lib.ListN.{length, drop, getD, set, take, replicate, length-map, length-set, length-replicate, drop-of-length-le, List·getD-map, List·getD-eq-default}
+use lib.Seq.{drop-cons, map-set-same, take-suc-set, take-suc, take-all}
+use borrow.Author.Tests.{eq-eqb, ne-eqb}
+use Rattle.laws.proofs.Tables.{byCases}
+use Rattle.model.specs.Item.{isWritten}
+use Rattle.model.specs.Index.{emptyEntry, emptyIndex, entryOf, withNote, enterNote, slotUsed}
+use Rattle.model.specs.Scan.{logRecord, noteRecord, durableCount, logIndex, noteIndex}
+use Rattle.model.specs.declared.geometry.Geometry.{Geometry}
+use Rattle.model.specs.declared.item.Note.{Note}
+use Rattle.model.specs.declared.state.Entry.{Entry}
+use Rattle.index.specs.Columns.{lasts, durables, writtens, slotsIn, backups, Noted, Columns, Blank, columnRow, slotIn, Wide}
+
+-- ---- a column
+
+-- an entry set in the index is its field set in the column
+pub column-set : (f : Entry → ℕ) (l : List Entry) (i : ℕ) (x : Entry) → map f (set l i x) ≡ set (map f l) i (f x)
+column-set f [] i x = refl
+column-set f (y ∷ l) zero x = refl
+column-set f (y ∷ l) (suc i) x = ap (λ (r : List ℕ). f y ∷ r) (column-set f l i x)
+
+-- ---- the slot's search
+
+pub slot-in : (b : ℕ) (l : List Entry) → slotIn b (slotsIn l) ≡ slotUsed b l
+unfolding slotIn slotUsed
+slot-in b [] = refl
+slot-in b (e ∷ l) = ap (λ (t : Bool). eqb (e .slot) b || t) (slot-in b l)
+
+module _ (b : ℕ) (l : List ℕ) (i : ℕ) where
+  pub in-here : i < length l → getD l i 0 ≡ b → slotIn b (drop i l) ≡ true
+  unfolding slotIn
+  in-here h e = rw (drop-cons l i 0, eq-eqb (getD l i 0) b e)
+
+  pub in-on : i < length l → (getD l i 0 ≡ b → ⊥) → slotIn b (drop i l) ≡ slotIn b (drop (i + 1) l)
+  unfolding slotIn
+  in-on h e = rw (add-one, drop-cons l i 0, ne-eqb (getD l i 0) b e)
+
+  pub in-end : length l ≤ i → slotIn b (drop i l) ≡ false
+  unfolding slotIn
+  in-end h = rw (drop-of-length-le l h)
+
+-- ---- rows
+
+module _ (index : List Entry) (last written slots backup : List ℕ) (c : Columns index last written slots backup) where
+  pub row-of : (i : ℕ) → columnRow last written slots backup i ≡ getD index i emptyEntry
+  row-of i =
+      let a : getD last i 0 ≡ getD index i emptyEntry .last = ap (λ (l : List ℕ). getD l i 0) (sym (c .last-is)) ∙ List·getD-map (λ (e : Entry). e .last) index i emptyEntry in
+      let d : getD last i 0 ≡ getD index i emptyEntry .durable = ap (λ (l : List ℕ). getD l i 0) (sym (c .durable-is)) ∙ List·getD-map (λ (e : Entry). e .durable) index i emptyEntry in
+      let w : getD written i 0 ≡ getD index i emptyEntry .written = ap (λ (l : List ℕ). getD l i 0) (sym (c .noted .written-is)) ∙ List·getD-map (λ (e : Entry). e .written) index i emptyEntry in
+      let s : getD slots i 0 ≡ getD index i emptyEntry .slot = ap (λ (l : List ℕ). getD l i 0) (sym (c .noted .slots-are)) ∙ List·getD-map (λ (e : Entry). e .slot) index i emptyEntry in
+      let b : getD backup i 0 ≡ getD index i emptyEntry .backup = ap (λ (l : List ℕ). getD l i 0) (sym (c .noted .backup-is)) ∙ List·getD-map (λ (e : Entry). e .backup) index i emptyEntry in
+      same (getD index i emptyEntry) (getD last i 0) (getD last i 0) (getD written i 0) (getD slots i 0) (getD backup i 0) a d w s b
+    where
+      same : (x : Entry) (a d w s b : ℕ) → a ≡ x .last → d ≡ x .durable → w ≡ x .written → s ≡ x .slot → b ≡ x .backup
+          → _≡_ {A = Entry} (record { last = a; durable = d; written = w; slot = s; backup = b }) x
+      same x a d w s b ea ed ew es eb = rw (ea, ed, ew, es, eb)
+
+  pub index-length : length index ≡ length last
+  index-length = sym (length-map index (λ (e : Entry). e .last)) ∙ ap length (c .last-is)
+
+  -- i rows are made
+  pub gathered-more : (made : List Entry) (i : ℕ) (x : Entry) → i < length made → i < length index → take i made ≡ take i index → x ≡ columnRow last written slots backup i
+      → take (i + 1) (set made i x) ≡ take (i + 1) index
+  gathered-more made i x h k e ex = rw (add-one, take-suc-set made i x h, e, ex, row-of i, take-suc index i emptyEntry k)
+
+  pub gathered-all : length last ≡ 64 → (made : List Entry) (i : ℕ) → i ≡ 64 → length made ≡ 64 → take i made ≡ take i index → made ≡ index
+  gathered-all h made i e l q =
+      sym (take-all i made (omega arith)) ∙ q ∙ take-all i index (omega (arith, index-length))
+
+-- past the last row
+pub row-past : (last written slots backup : List ℕ) → Wide last written slots backup → (i : ℕ) → 64 ≤ i → emptyEntry ≡ columnRow last written slots backup i
+row-past last written slots backup w i h =
+    rw (
+      List·getD-eq-default last 0 {n = i} (omega (arith, w .last-wide)),
+      List·getD-eq-default written 0 {n = i} (omega (arith, w .written-wide)),
+      List·getD-eq-default slots 0 {n = i} (omega (arith, w .slots-wide)),
+      List·getD-eq-default backup 0 {n = i} (omega (arith, w .backup-wide)),
+    )
+
+-- ---- the log
+
+-- a record leaves the columns of the notes
+module _ (g : Geometry) (v : List ℕ) where
+  pub log-written : (n : ℕ) → writtens (logIndex g v n) ≡ replicate 64 0
+  unfolding logIndex emptyIndex
+  log-written zero = refl
+  log-written (suc n) = map-set-same (λ (e : Entry). e .written) (logIndex g v n) _ _ emptyEntry refl ∙ log-written n
+
+  pub log-slots : (n : ℕ) → slotsIn (logIndex g v n) ≡ replicate 64 0
+  unfolding logIndex emptyIndex
+  log-slots zero = refl
+  log-slots (suc n) = map-set-same (λ (e : Entry). e .slot) (logIndex g v n) _ _ emptyEntry refl ∙ log-slots n
+
+  pub log-backup : (n : ℕ) → backups (logIndex g v n) ≡ replicate 64 0
+  unfolding logIndex emptyIndex
+  log-backup zero = refl
+  log-backup (suc n) = map-set-same (λ (e : Entry). e .backup) (logIndex g v n) _ _ emptyEntry refl ∙ log-backup n
+
+  -- the last number is durable
+  pub log-durable : (n : ℕ) → durables (logIndex g v n) ≡ lasts (logIndex g v n)
+  unfolding logIndex emptyIndex
+  log-durable zero = refl
+  log-durable (suc n) =
+      column-set (λ (e : Entry). e .durable) (logIndex g v n) _ _
+      ∙ ap (λ (l : List ℕ). set l (logRecord g v (suc n) .page - 1) (suc n)) (log-durable n)
+      ∙ sym (column-set (λ (e : Entry). e .last) (logIndex g v n) _ _)
+
+  pub log-none : lasts (logIndex g v 0) ≡ replicate 64 0
+  unfolding logIndex emptyIndex
+  log-none = refl
+
+  -- a note leaves the numbers of the records
+  pub note-last : (k : ℕ) → lasts (noteIndex g v k) ≡ lasts (logIndex g v (durableCount g v))
+  unfolding noteIndex enterNote
+  note-last zero = refl
+  note-last (suc k) =
+      map-set-same (λ (e : Entry). e .last) (noteIndex g v k) _ _ emptyEntry
+      (byCases (isWritten (noteRecord g v (suc k))) (λ t. rw t) (λ t. rw t)) ∙ note-last k
+
+  pub note-durable : (k : ℕ) → durables (noteIndex g v k) ≡ durables (logIndex g v (durableCount g v))
+  unfolding noteIndex enterNote
+  note-durable zero = refl
+  note-durable (suc k) =
+      map-set-same (λ (e : Entry). e .durable) (noteIndex g v k) _ _ emptyEntry
+      (byCases (isWritten (noteRecord g v (suc k))) (λ t. rw t) (λ t. rw t)) ∙ note-durable k
+
+-- ---- a note, entered in an entry of which only the notes' columns are known
+
+module _ (a b : Entry) (n : Note) where
+  pub noted-written : a .written ≡ b .written → withNote a n .written ≡ withNote b n .written
+  noted-written h = byCases (isWritten n) (λ t. rw t) (λ t. rw t h)
+
+  pub noted-slot : a .slot ≡ b .slot → withNote a n .slot ≡ withNote b n .slot
+  noted-slot h = byCases (isWritten n) (λ t. rw t h) (λ t. rw t)
+
+  pub noted-backup : a .backup ≡ b .backup → withNote a n .backup ≡ withNote b n .backup
+  noted-backup h = byCases (isWritten n) (λ t. rw t h) (λ t. rw t)
+
+-- ---- the lengths of the notes' columns
+
+pub record Long (written slots backup : List ℕ) : Type 0 where
+  pub written-long : length written ≡ 64
+  pub slots-long : length slots ≡ 64
+  pub backup-long : length backup ≡ 64
+
+module _ (written slots backup : List ℕ) where
+  pub blank-long : Blank written slots backup → Long written slots backup
+  blank-long b =
+      record {
+        written-long = ap length (b .written-none) ∙ length-replicate {A = ℕ} 64 0;
+        slots-long = ap length (b .slots-none) ∙ length-replicate {A = ℕ} 64 0;
+        backup-long = ap length (b .backup-none) ∙ length-replicate {A = ℕ} 64 0;
+      }
+
+  pub long-set : Long written slots backup → (i w s b : ℕ) → Long (set written i w) (set slots i s) (set backup i b)
+  long-set l i w s b =
+      record {
+        written-long = length-set written i w ∙ l .written-long;
+        slots-long = length-set slots i s ∙ l .slots-long;
+        backup-long = length-set backup i b ∙ l .backup-long;
+      }

@@ -1,0 +1,55 @@
+-- `index::find` meets its contract: the columns are those of the index.
+use mathlib.Core.Path.{_∙_}
+use Rattle.index.proofs.ColumnLaws.{row-of}
+use borrow.Author.Needs.{needs}
+use Rattle.index.proofs.find.Statement.{statement}
+use Rattle.index.proofs.find.Tie as tie
+
+slice-aggregate-fill : tie.Need-slice-aggregate-fill
+slice-aggregate-fill c = search needs
+
+slice-aggregate-fill-2 : tie.Need-slice-aggregate-fill-2
+slice-aggregate-fill-2 c = search needs
+
+slice-aggregate-fill-3 : tie.Need-slice-aggregate-fill-3
+slice-aggregate-fill-3 c = search needs
+
+slice-aggregate-fill-4 : tie.Need-slice-aggregate-fill-4
+slice-aggregate-fill-4 c = search needs
+
+fill-requires : tie.Need-fill-requires
+fill-requires c κs = search needs
+
+slice-aggregate-entry : tie.Need-slice-aggregate-entry
+slice-aggregate-entry c = search needs
+
+slice-aggregate-entry-2 : tie.Need-slice-aggregate-entry-2
+slice-aggregate-entry-2 c = search needs
+
+slice-aggregate-entry-3 : tie.Need-slice-aggregate-entry-3
+slice-aggregate-entry-3 c = search needs
+
+slice-aggregate-entry-4 : tie.Need-slice-aggregate-entry-4
+slice-aggregate-entry-4 c = search needs
+
+entry-requires : tie.Need-entry-requires
+entry-requires c κs = search needs
+
+returns : tie.Need-returns
+returns c = let f = c .before .before .before .before .before .before .before .before .before .fill in (f .ensures .0, λ z. c .entry .ensures ∙ row-of _ _ _ _ _ (f .ensures .1 .1 z) _)
+
+pub find-spec : {M : Type 1} → statement M
+find-spec =
+    tie.close
+    (tie.spec
+    slice-aggregate-fill
+    slice-aggregate-fill-2
+    slice-aggregate-fill-3
+    slice-aggregate-fill-4
+    fill-requires
+    slice-aggregate-entry
+    slice-aggregate-entry-2
+    slice-aggregate-entry-3
+    slice-aggregate-entry-4
+    entry-requires
+    returns)

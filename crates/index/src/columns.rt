@@ -1,0 +1,75 @@
+// The index by columns: searched for a backup slot, one entry made from it, and all of them.
+ghost use mathlib.Core.Path.{_≡_};
+ghost use mathlib.Core.List.{List};
+ghost use Prim.Native.Nat.{_-_, _<_};
+ghost use lib.ListN.{length};
+ghost use Rattle.model.specs.declared.state.Entry as entries;
+ghost use Rattle.index.specs.Columns.{Columns, Wide, columnRow, slotIn};
+use crate::rows;
+use model::state::Entry;
+
+// A slot's number.
+fn wide(x: u8) -> u32
+    ensures { λ r. ⌜ r ≡ x ⌝ }
+{
+    x as u32
+}
+
+// The slot is in the column.
+pub fn used(slots: &[u8], slot: u32) -> bool
+    ensures { λ r. ⌜ r ≡ slotIn slot (now (slots .entry)) ⌝ }
+{
+    let mut i: usize = 0;
+    while i < slots.len() {
+        if wide(slots[i]) == slot {
+            return true;
+        }
+        i += 1;
+    }
+    false
+}
+
+// Row i.
+fn row(last: &[u32], written: &[u32], slots: &[u8], backup: &[u32], i: usize) -> Entry
+    requires { ⌜ Wide (now last) (now written) (now slots) (now backup) ⌝ }
+    requires { ⌜ i < 64 ⌝ }
+    ensures { λ r. ⌜ r
+        ≡ columnRow (now (last .entry)) (now (written .entry)) (now (slots .entry)) (now (backup .entry)) i ⌝ }
+{
+    let n = last[i];
+    Entry {
+        last: n,
+        durable: n,
+        written: written[i],
+        slot: slots[i],
+        backup: backup[i],
+    }
+}
+
+// A page's entry.
+pub fn entry(last: &[u32], written: &[u32], slots: &[u8], backup: &[u32], page: u32) -> Entry
+    requires { ⌜ Wide (now last) (now written) (now slots) (now backup) ⌝ }
+    ensures { λ r. ⌜ r
+        ≡ columnRow (now (last .entry)) (now (written .entry)) (now (slots .entry)) (now (backup .entry)) (page - 1) ⌝ }
+{
+    if page <= 64 {
+        row(last, written, slots, backup, rows::row(page))
+    } else {
+        rows::EMPTY
+    }
+}
+
+// All entries.
+pub fn gather(last: &[u32], written: &[u32], slots: &[u8], backup: &[u32]) -> [Entry; 64]
+    requires { ⌜ Wide (now last) (now written) (now slots) (now backup) ⌝ }
+    ensures { λ r. ⌜ ((x : List entries.Entry)
+        → Columns x (now (last .entry)) (now (written .entry)) (now (slots .entry)) (now (backup .entry)) → r ≡ x) ⌝ }
+{
+    let mut index = [rows::EMPTY; 64];
+    let mut i: usize = 0;
+    while i < 64 {
+        index[i] = row(last, written, slots, backup, i);
+        i += 1;
+    }
+    index
+}

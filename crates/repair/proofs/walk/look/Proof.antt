@@ -1,0 +1,61 @@
+-- `repair::walk::look` meets its contract: one law of Links for each answer.
+use borrow.Author.Needs.{needs}
+use native.Mathlib.Omega.{arith}
+use borrow.Author.Tests.{not-true, not-false}
+use Rattle.repair.proofs.Links.{step-none, step-own, step-copy, step-broken, step-read}
+use Rattle.repair.proofs.Starts.{positive, record-fits, record-length}
+use Rattle.repair.proofs.walk.look.Statement.{statement}
+use Rattle.repair.proofs.walk.look.Tie as tie
+use Rattle.repair.proofs.walk.look.Reads as reads
+use Rattle.repair.proofs.walk.look.Lts as lts
+use Rattle.item.proofs.record.read.Reads as read-reads
+use Rattle.repair.proofs.walk.readable.Reads as readable-reads
+use Rattle.volume.proofs.place.record.Reads as record-reads
+
+returns : tie.Need-returns
+returns c = step-none _ _ _ _ _ (c .if1 .taken)
+
+returns-2 : tie.Need-returns-2
+returns-2 c = step-own _ _ _ _ _ (c .before .if1 .left) (c .if2 .taken)
+
+returns-3 : tie.Need-returns-3
+returns-3 c = step-copy _ _ _ _ _ (c .before .before .if1 .left) (c .before .if2 .left) (c .if3 .taken)
+
+record-requires : tie.Need-record-requires
+record-requires c κs =
+    let h = c .before .before .before .before .pre in
+    let n = c .before .before .if1 .left in
+    record-fits _ _ (h .0) (h .1) _ (positive _ n) (h .2)
+
+readable-requires : tie.Need-readable-requires
+readable-requires c κs =
+    let h = c .before .before .before .before .before .pre in
+    let n = c .before .before .before .if1 .left in
+    rw (c .«record» .ensures) (omega (arith, record-length _ _ (h .0) (h .1) _ (positive _ n) (h .2)))
+
+returns-4 : tie.Need-returns-4
+returns-4 c =
+    step-broken _ _ _ _ _ (c .before .before .before .before .before .if1 .left) (c .before .before .before .before .if2 .left)
+    (c .before .before .before .if3 .left) _ (c .before .before .«record» .ensures) _ (c .before .readable .ensures) (not-true _ (c .if4 .taken))
+
+read-requires : tie.Need-read-requires
+read-requires c κs = search needs
+
+returns-5 : tie.Need-returns-5
+returns-5 c =
+    step-read _ _ _ _ _ (c .before .before .before .before .before .before .before .if1 .left) (c .before .before .before .before .before .before .if2 .left)
+    (c .before .before .before .before .before .if3 .left) _ (c .before .before .before .before .«record» .ensures) _ (c .before .before .before .readable .ensures)
+    _ (c .before .read .ensures) (not-false _ (c .before .before .if4 .left))
+
+pub look-spec : {M : Type 1} → statement M
+look-spec =
+    tie.close
+    (tie.spec
+    returns
+    returns-2
+    returns-3
+    record-requires
+    readable-requires
+    returns-4
+    read-requires
+    returns-5)

@@ -1,0 +1,28 @@
+-- `state::well_formed::note_fits` meets its contract.
+use Rattle.model.specs.State.{pendingNoteFits}
+use borrow.Author.Needs.{needs}
+use Rattle.state.proofs.well_formed.note_fits.Statement.{statement}
+use Rattle.state.proofs.well_formed.note_fits.Tie as tie
+
+layout-requires : tie.Need-layout-requires
+layout-requires c κs = search needs
+
+cast-number : tie.Need-cast-number
+cast-number c = search needs
+
+add-number : tie.Need-add-number
+add-number c = search needs
+
+cast-page : tie.Need-cast-page
+cast-page c = search needs
+
+cast-slot : tie.Need-cast-slot
+cast-slot c = search needs
+
+returns : tie.Need-returns
+unfolding pendingNoteFits
+returns c = rw (c .before .before .before .before .before .before .before .before .before .before .layout .ensures)
+
+pub note-fits-spec : {M : Type 1} → statement M
+note-fits-spec =
+    tie.close (tie.spec layout-requires cast-number add-number cast-page cast-slot returns)

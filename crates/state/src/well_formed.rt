@@ -1,0 +1,151 @@
+// Whether a state is well formed (document 01: sound), clause by clause, for any state: no sum of two of its numbers
+// wraps.
+ghost use mathlib.Core.Path.{_≡_};
+ghost use Prim.Native.Nat.{_+_, _<_};
+ghost use Rattle.model.specs.Tables.{every};
+ghost use Rattle.model.specs.State.{pendingNoteFits, entryZero, wellFormed};
+ghost use Rattle.state.specs.Clauses.{firstIn, frameClauses, frameIn, entryClauses, pageClauses, pageIn};
+ghost use Rattle.model.specs.declared.state.PendingNote.the-variants.{Present};
+use crate::frames;
+use item::note;
+use model::geometry::Geometry;
+use model::item::Note;
+use model::state::Entry;
+use model::state::Frame;
+use model::state::PendingNote;
+use model::state::State;
+use volume::rows;
+
+// The note may be the pending one beside these counts.
+fn note_fits(g: Geometry, notes: u32, durable: u32, n: Note) -> bool
+    ensures { λ r. ⌜ r ≡ pendingNoteFits g notes durable (Present n) ⌝ }
+{
+    let layout = note::layout(n);
+    let number = n.number as u64 == notes as u64 + 1;
+    let page = (1 <= n.page) & (n.page as u32 <= g.pages);
+    let slot = (n.kind == 1) | ((1 <= n.slot) & (n.slot as u32 <= g.slots));
+    (notes < g.notes) & (layout & (number & (page & (slot & (n.lsn <= durable)))))
+}
+
+// There is no pending note, or it may be one.
+fn pending_fits(g: Geometry, notes: u32, durable: u32, p: PendingNote) -> bool
+    ensures { λ r. ⌜ r ≡ pendingNoteFits g notes durable p ⌝ }
+{
+    match p {
+        PendingNote::Absent => true,
+        PendingNote::Present(n) => note_fits(g, notes, durable, n),
+    }
+}
+
+// No row before row i holds its page.
+fn first_holder(table: [Frame; 16], i: usize) -> bool
+    requires { ⌜ i < 16 ⌝ }
+    ensures { λ r. ⌜ r ≡ firstIn table i ⌝ }
+{
+    let page = table[i].page;
+    let mut j = 0;
+    while j < i {
+        if table[j].page == page {
+            return false;
+        }
+        j += 1;
+    }
+    true
+}
+
+// Frame i, counted from 0, may be so: its row, whether no row before it holds its page, and the page's last number.
+fn frame_fits(g: Geometry, count: usize, i: usize, f: Frame, only: bool, last: u32) -> bool
+    ensures { λ r. ⌜ r ≡ frameClauses g count i f only last ⌝ }
+{
+    let empty = f.page == 0;
+    (f.page as u32 <= g.pages)
+        & ((empty | only)
+            & ((empty | !(last == 0)) & ((!empty | !f.dirty) & ((i < count) | empty))))
+}
+
+// All frames are as they may be. A page's entry is read from the index in place, since a state or an index that is
+// passed at each turn is copied.
+fn frames_fit(g: Geometry, count: usize, table: [Frame; 16], index: [Entry; 64]) -> bool
+    ensures { λ r. ⌜ r ≡ every 16 (frameIn g count table index) ⌝ }
+{
+    let mut i = 0;
+    while i < 16 {
+        let f = table[i];
+        let only = first_holder(table, i);
+        let k = crate::row(crate::wide(f.page));
+        let e = index[k % 64];
+        let last = rows::first(k < 64, e.last, 0);
+        if !frame_fits(g, count, i, f, only, last) {
+            return false;
+        }
+        i += 1;
+    }
+    true
+}
+
+// The entry may be that of one of the volume's pages, which is in a frame or not.
+fn entry_fits(g: Geometry, durable: u32, pending: u32, in_frame: bool, e: Entry) -> bool
+    ensures { λ r. ⌜ r ≡ entryClauses g durable pending in_frame e ⌝ }
+{
+    let last = durable as u64 + pending as u64;
+    (e.last as u64 <= last)
+        & ((e.durable <= e.last)
+            & ((e.durable <= durable)
+                & ((e.written <= e.durable)
+                    & ((e.backup <= e.durable)
+                        & ((e.slot as u32 <= g.slots) & (in_frame | (e.last == e.durable)))))))
+}
+
+// The entry is zero, as that of a page past the volume's must be.
+fn entry_zero(e: Entry) -> bool
+    ensures { λ r. ⌜ r ≡ entryZero e ⌝ }
+{
+    (e.last == 0) & ((e.durable == 0) & ((e.written == 0) & ((e.slot == 0) & (e.backup == 0))))
+}
+
+// The entry may be that of page i + 1.
+fn page_fits(g: Geometry, durable: u32, pending: u32, in_frame: bool, i: usize, e: Entry) -> bool
+    ensures { λ r. ⌜ r ≡ pageClauses g durable pending in_frame i e ⌝ }
+{
+    if i < g.pages as usize {
+        entry_fits(g, durable, pending, in_frame, e)
+    } else {
+        entry_zero(e)
+    }
+}
+
+// All entries are as they may be.
+fn pages_fit(
+    g: Geometry,
+    durable: u32,
+    pending: u32,
+    table: [Frame; 16],
+    index: [Entry; 64],
+) -> bool
+    ensures { λ r. ⌜ r ≡ every 64 (pageIn g durable pending table index) ⌝ }
+{
+    let mut i = 0;
+    while i < 64 {
+        let e = index[i];
+        let f = frames::search(table, i as u32 + 1);
+        if !page_fits(g, durable, pending, 0 < f, i, e) {
+            return false;
+        }
+        i += 1;
+    }
+    true
+}
+
+// The state is well formed for the geometry and a number of frames.
+pub fn well_formed(s: State, g: Geometry, count: usize) -> bool
+    ensures { λ r. ⌜ r ≡ wellFormed g count s ⌝ }
+{
+    let p = s.note;
+    let table = s.frames;
+    let index = s.index;
+    let pending = pending_fits(g, s.notes, s.durable, p);
+    let frames = frames_fit(g, count, table, index);
+    let pages = pages_fit(g, s.durable, s.pending, table, index);
+    (s.durable as u64 + s.pending as u64 <= g.records as u64)
+        & ((s.pending <= 16) & ((s.notes <= g.notes) & (pending & (frames & pages))))
+}

@@ -1,0 +1,62 @@
+-- What a call does not touch: Begin, Load and Change leave the volume as it was, Force, Write, Backup and Note the memory.
+use Prim.Native.Nat.{ℕ}
+use mathlib.Core.Path.{_≡_, refl, sym}
+use mathlib.Core.Bool.{Bool, cond}
+use mathlib.Core.List.{List}
+use lib.Dec.{eqb}
+use Rattle.laws.proofs.Tables.{byCases}
+use Rattle.model.specs.Tables.{Row, firstOf}
+use Rattle.model.specs.Calls.{nothing, Outcome, volumeAfter, unchanged, decided, noteStored}
+use Rattle.model.specs.Calls.{beginOf, loadOf, changeCall, forceOf, writeOf, backupOf, noteCall}
+use Rattle.model.specs.Refusals.{beginRows, loadRows, changeRows, forceRows, writeRows, backupRows, noteRows, pageDirty}
+use Rattle.model.specs.declared.change.Change.{Change}
+use Rattle.model.specs.declared.answer.Answer.{Answer}
+use Rattle.model.specs.declared.state.State.{State}
+use Rattle.model.specs.declared.state.PendingNote.{PendingNote}
+use Rattle.model.specs.declared.state.PendingNote.the-variants.{Absent, Present}
+
+module _ (v m : List ℕ) (s : State) where
+  -- a call that stores nothing where it is not refused
+  same-volume : (rows : List Row) (done : Outcome) → done .stored ≡ nothing → v ≡ volumeAfter v (decided rows m s done .stored)
+  unfolding volumeAfter
+  same-volume rows done e = byCases (eqb (firstOf rows) 0) (λ t. rw (t, e)) (λ t. rw t)
+
+  -- a call that leaves the memory where it is not refused
+  same-memory : (rows : List Row) (done : Outcome) → done .memory ≡ m → m ≡ decided rows m s done .memory
+  same-memory rows done e = byCases (eqb (firstOf rows) 0) (λ t. rw (t, e)) (λ t. rw t)
+
+  pub begin-volume : (page frame fill : ℕ) → v ≡ volumeAfter v (beginOf v m s page frame fill .stored)
+  unfolding beginOf
+  begin-volume page frame fill = same-volume (beginRows v m s page frame) _ refl
+
+  pub load-volume : (page frame : ℕ) → v ≡ volumeAfter v (loadOf v m s page frame .stored)
+  unfolding loadOf
+  load-volume page frame = same-volume (loadRows v m s page frame) _ refl
+
+  pub change-volume : (page : ℕ) (c : Change) (payload : List ℕ) → v ≡ volumeAfter v (changeCall v m s page c payload .stored)
+  unfolding changeCall
+  change-volume page c payload = same-volume (changeRows v m s page c) _ refl
+
+  -- one of two outcomes that leave the memory
+  either : (t : Bool) (a b : Outcome) → a .memory ≡ m → b .memory ≡ m → cond t a b .memory ≡ m
+  either t a b p q = byCases t (λ e. rw (e, p)) (λ e. rw (e, q))
+
+  pub force-memory : m ≡ forceOf v m s .memory
+  unfolding forceOf
+  force-memory = same-memory (forceRows v m s) _ (either (eqb (s .pending) 0) _ _ refl refl)
+
+  pub write-memory : (page : ℕ) → m ≡ writeOf v m s page .memory
+  unfolding writeOf
+  write-memory page = same-memory (writeRows v m s page) _ (either (pageDirty s page) _ _ refl refl)
+
+  pub backup-memory : (page slot : ℕ) → m ≡ backupOf v m s page slot .memory
+  unfolding backupOf
+  backup-memory page slot = same-memory (backupRows v m s page slot) _ refl
+
+  noted : (p : PendingNote) → noteStored v m s p .memory ≡ m
+  noted Absent = refl
+  noted (Present n) = refl
+
+  pub note-memory : m ≡ noteCall v m s .memory
+  unfolding noteCall
+  note-memory = same-memory (noteRows v m s) _ (noted (s .note))
