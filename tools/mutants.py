@@ -6,11 +6,14 @@ rows is replaced by one declaration for each row or history that the edit names,
 it; the check must fail there, by a computed test that is now false, and nowhere else. For `history` the check must fail
 in a proof of `laws` or `history`, and not for a name that is missing or a text that is not read.
 
-    python3 tools/mutants.py [--only WORD] [--crate cases|history] [--search] [--jobs N] [--texts]
+    python3 tools/mutants.py [--only WORD] [--file NAME] [--part WORD] [--crate cases|history] [--search] [--jobs N]
+                             [--texts]
 
---only tries the edits whose name holds WORD. --search tries each edit against every row and history, and prints all
-that catch it. --jobs tries N at a time. --texts proves nothing: it only looks whether the text that each edit replaces
-stands once in its file, and whether there are the rows and histories that the edits name.
+--only tries the edits whose name holds WORD, --file those of one definition file, --part those under the headings of
+the list that hold WORD; each may be given more than once, and an edit is tried if it meets one of each option given.
+--search tries each edit against every row and history, and prints all that catch it. --jobs tries N at a time. --texts
+proves nothing: it only looks whether the text that each edit replaces stands once in its file, and whether there are
+the rows and histories that the edits name.
 Exit status 0 if every edit is caught, else 1.
 """
 import argparse
@@ -53,12 +56,14 @@ NOT_READ = re.compile(
 
 
 def read_edits(text):
-    """The edits of the list: blocks of '== name', 'file F', 'crates C..', 'caught NAME', '- old' and '+ new' lines."""
-    edits = []
+    """The edits of the list: blocks of '== name', 'file F', 'crates C..', 'caught NAME', '- old' and '+ new' lines under '# ---- part'."""
+    edits, part = [], ""
     for line in text.splitlines():
         word, _, rest = line.partition(" ")
-        if word == "==":
-            edits.append({"name": rest, "file": "", "crates": ["cases"], "caught": [], "old": [], "new": []})
+        if rest.startswith("---- ") and word == "#":
+            part = rest[5:]
+        elif word == "==":
+            edits.append({"name": rest, "part": part, "file": "", "crates": ["cases"], "caught": [], "old": [], "new": []})
         elif word == "file":
             edits[-1]["file"] = rest + ".antt"
         elif word == "crates":
@@ -121,7 +126,7 @@ def try_cases(to, rows, names):
     status, errors, out = check("cases", to)
     caught = []
     for path, text in errors:
-        hit = re.match(r"`caught-(\d+)`: (?:expected type|.*type mismatch)", text)
+        hit = re.match(r"`caught-(\d+)`: (?:expected type|computed as far as they go, the two types are `Prim.⊥`|.*type mismatch)", text)
         if path.endswith("/Probe.antt") and hit and "step limit" not in text:
             caught.append(names[int(hit.group(1))])
         elif "step limit" not in text:
@@ -218,15 +223,28 @@ def sound(edits):
     return caught == []
 
 
+def chosen(edit, given):
+    """Whether the edit meets one of each option given."""
+    return (
+        (not given.only or any(word in edit["name"] for word in given.only))
+        and (not given.file or edit["file"][:-5] in given.file)
+        and (not given.part or any(word in edit["part"] for word in given.part))
+    )
+
+
 def main():
     words = argparse.ArgumentParser()
-    words.add_argument("--only", default="")
+    words.add_argument("--only", action="append")
+    words.add_argument("--file", action="append")
+    words.add_argument("--part", action="append")
     words.add_argument("--crate", choices=["cases", "history"])
     words.add_argument("--search", action="store_true")
     words.add_argument("--jobs", type=int, default=1)
     words.add_argument("--texts", action="store_true")
     given = words.parse_args()
-    edits = [e for e in read_edits((ROOT / "tools/mutants.txt").read_text()) if given.only in e["name"]]
+    edits = [e for e in read_edits((ROOT / "tools/mutants.txt").read_text()) if chosen(e, given)]
+    if not edits:
+        sys.exit("mutants: no edit is chosen")
     if given.texts:
         found = texts(edits)
         print("\n".join(found or [f"the {len(edits)} edits of mutants.txt find their texts"]))

@@ -1,5 +1,5 @@
--- Rows on the smallest definitions: number fields and parts, the checksum, the volume's geometry, changes, and the
--- layouts of the items.
+-- Rows on the smallest definitions: number fields and parts, the checksum, the volume's geometry, and the layouts
+-- of the items.
 use Prim.Native.Nat.{ℕ}
 use mathlib.Core.Bool.{Bool}
 use mathlib.Core.List.{List, [], _∷_, _++_, map}
@@ -7,7 +7,6 @@ use lib.ListN.{length, replicate, take, drop, set}
 use Rattle.model.specs.Bytes.{bytesOf, field, part, splice, allZero, startsWith, sameBytes}
 use Rattle.model.specs.Checksum.{checksum, withChecksum, seal, sealed, sealedRun}
 use Rattle.model.specs.Geometry.{pageAt, slotAt, recordAt, noteAt, itemOf, start, geometryOf, validCounts, validVolume, emptyVolume}
-use Rattle.model.specs.Change.{changeFits, applyChange}
 use Rattle.model.specs.Item.{validImage, validSomewhere, frameImage, recordLayout, recordBytes, encodeChange, applyRecord, noteLayout, noteBytes}
 use Rattle.model.specs.Calls.{makeOf}
 use Rattle.model.specs.declared.change.Change.the-variants.{Format, Put, Slide}
@@ -77,31 +76,6 @@ geometryRows =
     (0 ∷ 1 ∷ 1 ∷ 0 ∷ 0 ∷ 1 ∷ 0 ∷ 0 ∷ 1 ∷ 1 ∷ 0 ∷ 0 ∷ 1 ∷ 1 ∷ 0 ∷ [])
     ∷ []
 
--- ---- changes
-
-abbrev changeRows : List Row
-changeRows =
-    row "a kind's rule: format"
-    (bits (changeFits 1 0 0 9 ∷ changeFits 1 1 0 0 ∷ changeFits 1 0 1 0 ∷ changeFits 0 0 0 0
-    ∷ changeFits 4 1 0 0 ∷ []))
-    (1 ∷ 0 ∷ 0 ∷ 0 ∷ 0 ∷ [])
-    ∷ row "a kind's rule: put and slide"
-    (bits
-    (changeFits 2 1 0 0 ∷ changeFits 3 44 200 0 ∷ changeFits 2 0 0 0 ∷ changeFits 2 45 0 0 ∷ changeFits 3 44 201 0
-    ∷ changeFits 3 1 244 0 ∷ changeFits 2 1 0 1 ∷ []))
-    (1 ∷ 1 ∷ 0 ∷ 0 ∷ 0 ∷ 0 ∷ 0 ∷ [])
-    ∷ row "a put ends where its bytes end"
-    (drop 241 (applyChange (Put 241 2) (1 ∷ 2 ∷ 3 ∷ []) (replicate 244 7)))
-    (1 ∷ 2 ∷ 7 ∷ [])
-    ∷ row "a slide drops the last bytes"
-    (let b = applyChange (Slide 1 2) (1 ∷ 2 ∷ 3 ∷ []) (10 ∷ 11 ∷ (replicate 240 7 ++ (12 ∷ 13 ∷ []))) in
-    length b ∷ (take 5 b ++ drop 242 b))
-    (244 ∷ 10 ∷ 1 ∷ 2 ∷ 11 ∷ 7 ∷ 7 ∷ 7 ∷ [])
-    ∷ row "a format fills"
-    (let b = applyChange (Format 5) [] (replicate 244 7) in length b ∷ (take 2 b ++ drop 243 b))
-    (244 ∷ 5 ∷ 5 ∷ 5 ∷ [])
-    ∷ []
-
 -- ---- items
 
 -- a sealed record with these numbers: kind, length, offset, fill, then byte 15 and the payload
@@ -157,4 +131,4 @@ layoutRows =
     ∷ []
 
 unfoldable pub itemRows : List Row
-itemRows = byteRows ++ (geometryRows ++ (changeRows ++ layoutRows))
+itemRows = byteRows ++ (geometryRows ++ layoutRows)

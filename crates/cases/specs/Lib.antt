@@ -3,6 +3,7 @@ pub mod Rows
 pub mod Build
 pub mod Table
 pub mod Items
+pub mod Changes
 pub mod Rules
 pub mod Worked
 pub mod Histories

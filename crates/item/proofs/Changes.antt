@@ -2,13 +2,12 @@
 use Prim.Native.Nat.{ℕ, _+_, _-_, _≤_}
 use mathlib.Core.Path.{_≡_, refl, ap, subst, _∙_}
 use mathlib.Core.List.{List, _++_}
-use mathlib.Core.Bool.{true, _&&_, _||_}
+use mathlib.Core.Bool.{Bool, true, false, _&&_}
 use native.Mathlib.Omega.{arith}
 use lib.Dec.{leb, eqb, lit≤}
 use lib.ListN.{length, take, drop, replicate}
 use lib.Seq.{take-append-le, drop-at, take-take, length-take-le}
-use borrow.Author.Tests.{le-leb}
-use Rattle.laws.proofs.Tables.{and-left, and-right, and-both, byCases}
+use Rattle.laws.proofs.Tables.{byCases, true-not-false}
 use Rattle.laws.proofs.Changes.{fits-facts}
 use Rattle.model.specs.Tables.{within}
 use Rattle.model.specs.Bytes.{splice}
@@ -60,6 +59,12 @@ module _ (c : Change) (p b x : List ℕ) where
 
 -- ---- the change of numbers that obey the rule
 
+-- three tests hold, the last of them of itself
+no-fill : (w r f : Bool) → (w && (r && f)) ≡ true → (w && (r && true)) ≡ true
+no-fill true true f h = refl
+no-fill true false f h = h
+no-fill false r f h = h
+
 -- a change obeys its rule and brings at most 44 bytes
 abbrev pub Obeys : Change → Type 0
 Obeys c = (fits c ≡ true) × (lengthOf c ≤ 44)
@@ -70,7 +75,7 @@ held-obeys k n o f h =
     byCases (eqb k 1) (λ t. rw t (refl, lit≤ tt))
     (λ t.
     let z = fits-facts k n o f h in
-    let r : (within 44 n && (leb (o + n) 244 && eqb f 0)) ≡ true = and-right (eqb k 2 || eqb k 3) _ (rw t at h) in
-    let w : (within 44 n && (leb (o + n) 244 && true)) ≡ true =
-    and-both (and-left (within 44 n) _ r) (and-both (le-leb (o + n) 244 (z .room)) refl) in
-    rw t (byCases (eqb k 2) (λ u. rw u (w, z .length)) (λ u. rw u (w, z .length))))
+    rw t
+    (byCases (eqb k 2) (λ u. rw u (no-fill (within 44 n) (leb o (244 - n)) (eqb f 0) (rw (t, u) at h), z .length))
+    (λ u. rw u (byCases (eqb k 3) (λ w. (no-fill (within 44 n) (leb o (244 - n)) (eqb f 0) (rw (t, u, w) at h), z .length))
+    (λ w. absurd (true-not-false (rw (t, u, w) at h) refl))))))

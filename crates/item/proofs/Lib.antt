@@ -1,4 +1,5 @@
 pub mod Slides
+pub mod Rules
 pub mod Changes
 pub mod Records
 pub mod Covers

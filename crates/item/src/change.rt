@@ -8,14 +8,17 @@ ghost use Rattle.model.specs.Change.{changeFits, fits, lengthOf, applyChange};
 use codec::part;
 use model::change::Change;
 
-// The rule of each kind on its numbers, summed so that none wraps.
+// The rule, one case for each kind, and in it the tests in the layout's order: length, offset, fill. What is left
+// behind the length is taken only where the length is at most 44.
 pub fn fits(kind: u32, length: u32, offset: u32, fill: u32) -> bool
     ensures { λ r. ⌜ r ≡ changeFits kind length offset fill ⌝ }
 {
-    let format = (kind == 1) & ((length == 0) & (offset == 0));
-    let end = offset as u64 + length as u64;
-    let sized = ((1 <= length) & (length <= 44)) & ((end <= 244) & (fill == 0));
-    format | (((kind == 2) | (kind == 3)) & sized)
+    match kind {
+        1 => length == 0 && offset == 0,
+        2 => 1 <= length && length <= 44 && offset <= 244 - length && fill == 0,
+        3 => 1 <= length && length <= 44 && offset <= 244 - length && fill == 0,
+        _ => false,
+    }
 }
 
 // A change obeys its kind's rule.

@@ -5,6 +5,7 @@ pub mod Checksums
 pub mod Places
 pub mod Items
 pub mod Zeros
+pub mod ChangeRule
 pub mod Changes
 pub mod Notes
 pub mod EmptyVolume
