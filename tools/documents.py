@@ -110,7 +110,7 @@ def check_definitions(document, text):
     specs = {p.stem: p.read_text() for p in (ROOT / "crates/model/specs").glob("*.antt")}
     for file, names in re.findall(r"\b([A-Z][A-Za-z0-9]+)\.([A-Za-z]\w*(?:, [A-Za-z]\w*)*)", text):
         for name in names.split(", ") if file in specs else []:
-            declared = re.compile(rf"^(?:(?:abbrev|unfoldable|pub|record|data|enum|struct) )*{name}\b", re.M)
+            declared = re.compile(rf"^ *(?:(?:abbrev|unfoldable|pub|record|data|enum|struct) )*{name}\b", re.M)
             if name not in specs and not declared.search(specs[file]):
                 yield f"{document}: {file}.{name}: there is no such definition in crates/model/specs/{file}.antt"
 

@@ -7,6 +7,7 @@ pub mod Changes
 pub mod Rules
 pub mod Worked
 pub mod Histories
+pub mod Orders
 pub mod States
 pub mod Refused
 pub mod Allowed

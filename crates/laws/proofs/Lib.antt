@@ -7,6 +7,7 @@ pub mod Items
 pub mod Zeros
 pub mod ChangeRule
 pub mod Changes
+pub mod Replays
 pub mod Notes
 pub mod EmptyVolume
 pub mod WellFormed
