@@ -46,6 +46,29 @@ extern "C" {
  * the refusal and leaves the buffer as it was. */
 uint32_t pagestore_inspect(const uint8_t *volume, size_t volume_len, uint32_t page, uint8_t *buffer, size_t buffer_len);
 
+/* What pagestore_examine tells, by place in its report. A page is healthy if its class is PAGESTORE_GOOD; every other
+ * class says that it was mended. */
+#define PAGESTORE_REPORT_SIZE 3u
+#define PAGESTORE_REPORT_CLASS 0u
+#define PAGESTORE_REPORT_START 1u
+#define PAGESTORE_REPORT_COUNT 2u    /* log records replayed */
+
+#define PAGESTORE_GOOD 1u            /* the image on disk is valid and current */
+#define PAGESTORE_BEHIND 2u          /* valid; newer changes were only in the log */
+#define PAGESTORE_STALE 3u           /* valid, but older than a write that was noted */
+#define PAGESTORE_FAILED 4u          /* not valid */
+#define PAGESTORE_AHEAD 5u           /* valid, but above the page's last durable record */
+
+#define PAGESTORE_FROM_OWN 1u        /* the repair started from the page's own image */
+#define PAGESTORE_FROM_BACKUP 2u     /* from its noted backup */
+#define PAGESTORE_FROM_FORMAT 3u     /* from its newest format in the log */
+
+/* As pagestore_inspect, and writes class, start and count to the report, which has PAGESTORE_REPORT_SIZE numbers
+ * (`report_len` counts numbers, not bytes; another length is refused PAGESTORE_BAD_BUFFER). A refusal leaves buffer and
+ * report as they were. The report overlaps neither the volume nor the buffer. */
+uint32_t pagestore_examine(const uint8_t *volume, size_t volume_len, uint32_t page, uint8_t *buffer, size_t buffer_len,
+                           uint32_t *report, size_t report_len);
+
 #ifdef __cplusplus
 }
 #endif

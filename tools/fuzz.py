@@ -29,7 +29,7 @@ SAVED = os.path.join(ROOT, "target", "fuzz")
 KINDS = ["history", "arbitrary"]  # written in an instant, played in turn
 SEARCHED = ["mixed"]  # searched for until every answer is reached; made beside the others
 EXPECTED = [f"REFUSED {n}" for n in range(1, 20)] + ["NOTHING", "OK"]
-EXPECTED += ["GOOD", "BEHIND", "STALE", "FAILED"] + ["OWN", "BACKUP", "FORMAT"]
+EXPECTED += ["GOOD", "BEHIND", "STALE", "FAILED", "AHEAD"] + ["OWN", "BACKUP", "FORMAT"]
 
 CELL = 64
 CELLS = 2000  # of a script that is written in an instant

@@ -39,7 +39,10 @@ pub enum Class {
     Good,
     Behind,
     Stale,
+    /// The own image doesn't pass.
     Failed,
+    /// It passes with a number above the newest durable one.
+    Ahead,
 }
 
 /// Where the replay starts.
@@ -80,6 +83,7 @@ impl fmt::Display for Rebuild {
             Class::Behind => "BEHIND",
             Class::Stale => "STALE",
             Class::Failed => "FAILED",
+            Class::Ahead => "AHEAD",
         };
         let start = match self.start {
             Start::Own => "OWN",

@@ -155,11 +155,14 @@ impl Checker {
         Ok(())
     }
 
-    /// Class Good and the count replayed, told from the book, the own image and the notes.
+    /// Class, start and count replayed, told from the book, the own image and the notes.
     fn check_rebuild(&self, page: u16, rebuild: &Rebuild, image: &[u8]) -> Result<(), String> {
         let own = &self.world.volume()[self.world.geometry.page(page.into())];
         let good = own[..252] == image[..252] && is_sealed(own);
         ensure(good == (rebuild.class == Class::Good), || format!("page {page}: {rebuild}"))?;
+        ensure(rebuild.class != Class::Ahead, || format!("a history made page {page} {rebuild}"))?;
+        let untouched = rebuild.start == Start::Own && rebuild.replayed == 0;
+        ensure(good == untouched, || format!("page {page}: {rebuild}"))?;
         let places = self.book.places(page);
         let after = |number: u32| places.iter().filter(|&&place| place > number).count();
         let is_format = |&&place: &&u32| self.book.kept[place as usize - 1].change.is_format();

@@ -29,8 +29,8 @@ const REFUSALS: [&[u8]; 10] = [
     &[1, 2, 3, 7, 17, 18],
 ];
 
-/// The class and start pairs there are: Good is always own, Failed never.
-const REBUILDS: [&str; 9] = [
+/// The class and start pairs there are: Good is always own, Failed and Ahead never.
+const REBUILDS: [&str; 11] = [
     "GOOD OWN",
     "BEHIND OWN",
     "BEHIND BACKUP",
@@ -40,6 +40,8 @@ const REBUILDS: [&str; 9] = [
     "STALE FORMAT",
     "FAILED BACKUP",
     "FAILED FORMAT",
+    "AHEAD BACKUP",
+    "AHEAD FORMAT",
 ];
 
 /// Stands for the call where a hit is the cause of a refusal.

@@ -11,8 +11,10 @@ use crate::state::IndexEntry;
 /// The class of a page's own image, as the index sees it.
 pub fn classify(own: &[u8], page: u16, entry: &IndexEntry) -> Class {
     let lsn = image_lsn(own);
-    if !passes(own, page) || lsn > entry.newest_durable {
+    if !passes(own, page) {
         Class::Failed
+    } else if lsn > entry.newest_durable {
+        Class::Ahead
     } else if lsn == entry.newest_durable {
         Class::Good
     } else if lsn >= entry.written {

@@ -128,7 +128,33 @@ fn k9_start_at_the_format() {
 fn k10_image_above_the_log() {
     let mut volume = with_log();
     set_page(&mut volume, 1, &image(1, 4));
-    expect(&volume, 3, rebuilt(Class::Failed, Start::Format, 2));
+    expect(&volume, 3, rebuilt(Class::Ahead, Start::Format, 2));
+    assert_eq!(scan(&volume), "1 AHEAD FORMAT 2\n2 FAILED FORMAT 1\n");
+}
+
+#[test]
+fn ahead_with_a_backup() {
+    let mut volume = with_log();
+    set_page(&mut volume, 1, &image(1, 5));
+    volume[geometry().slot(1)].copy_from_slice(&image(1, 3));
+    set_note(&mut volume, NoteKind::BackedUp, 3);
+    expect(&volume, 3, rebuilt(Class::Ahead, Start::Backup, 0));
+}
+
+/// Equal logs, one own image damaged: the bodies are the same, the answers are not.
+#[test]
+fn mended_and_healthy_differ_in_the_answer_only() {
+    let mut healthy = with_log();
+    set_page(&mut healthy, 2, &image(2, 2));
+    let mut mended = healthy.clone();
+    mended[geometry().page(2).start + 9] ^= 1;
+    let look = |volume: &[u8]| {
+        let mut buffer = [0; 256];
+        (inspect(volume, 2, &mut buffer), buffer)
+    };
+    assert_eq!(look(&healthy).1, look(&mended).1);
+    assert_eq!(look(&healthy).0, rebuilt(Class::Good, Start::Own, 0));
+    assert_eq!(look(&mended).0, rebuilt(Class::Failed, Start::Format, 1));
 }
 
 #[test]

@@ -53,12 +53,38 @@ static int refuses(const uint8_t *volume, size_t size, uint32_t page, size_t buf
     return answer == number;
 }
 
+/* pagestore_examine gives what pagestore_inspect gives, and this class, start and count. */
+static int tells(const uint8_t *volume, uint32_t class, uint32_t start, uint32_t count) {
+    uint8_t seen[256], examined[256];
+    uint32_t report[3] = {99, 99, 99};
+    uint32_t inspected = pagestore_inspect(volume, SIZE, 1, seen, 256);
+    uint32_t answer = pagestore_examine(volume, SIZE, 1, examined, 256, report, 3);
+    return inspected == PAGESTORE_OK && answer == PAGESTORE_OK && memcmp(seen, examined, 256) == 0 &&
+           report[PAGESTORE_REPORT_CLASS] == class && report[PAGESTORE_REPORT_START] == start &&
+           report[PAGESTORE_REPORT_COUNT] == count;
+}
+
+/* pagestore_examine is refused and leaves buffer and report. */
+static int untold(const uint8_t *volume, size_t size, size_t report_len, uint32_t number) {
+    uint8_t buffer[256];
+    uint32_t report[4] = {99, 99, 99, 99};
+    memset(buffer, 0xee, 256);
+    uint32_t answer = pagestore_examine(volume, size, 1, buffer, 256, report, report_len);
+    for (size_t i = 0; i < 256; i++)
+        if (buffer[i] != 0xee) return 0;
+    for (size_t i = 0; i < 4; i++)
+        if (report[i] != 99) return 0;
+    return answer == number;
+}
+
 static void cases(uint8_t *v) {
     uint8_t *own = v + page_at(1), *slot = v + slot_at(CASES, 1), *first = v + note_at(CASES, 1);
     base(v, 1);
     check("K6  image at 1, no note: repaired to 3", shows(v, 3));
+    check("K6: class, start and count", tells(v, PAGESTORE_BEHIND, PAGESTORE_FROM_OWN, 1));
     note(first, 1, 1, WRITTEN, 0, 3);
     check("K7  image at 1, written note 3: repaired to 3", shows(v, 3));
+    check("K7: class, start and count", tells(v, PAGESTORE_STALE, PAGESTORE_FROM_OWN, 1));
     base(v, 1);
     own[100] ^= 1;
     image(slot, 1, 3, 7);
@@ -66,14 +92,18 @@ static void cases(uint8_t *v) {
     seal(slot, 252);
     note(first, 1, 1, BACKED_UP, 1, 3);
     check("K8  image fails, backup at 3 noted", shows(v, 3));
+    check("K8: class, start and count", tells(v, PAGESTORE_FAILED, PAGESTORE_FROM_BACKUP, 0));
     base(v, 1);
     own[100] ^= 1;
     check("K9  image fails, no backup", shows(v, 3));
+    check("K9: class, start and count", tells(v, PAGESTORE_FAILED, PAGESTORE_FROM_FORMAT, 2));
     base(v, 4);
     check("K10 image at 4: rebuilt from the format", shows(v, 3));
+    check("K10: class, start and count", tells(v, PAGESTORE_AHEAD, PAGESTORE_FROM_FORMAT, 2));
     base(v, 1);
     v[record_at(CASES, 3) + 16] ^= 1;
     check("K11 record 3 torn, image at 1: good", shows(v, 1));
+    check("K11: class, start and count", tells(v, PAGESTORE_GOOD, PAGESTORE_FROM_OWN, 0));
     v[record_at(CASES, 4) + 5] = 1;
     check("K12 slot 3 torn, slot 4 not zero: 17", refuses(v, SIZE, 1, 256, PAGESTORE_BAD_LOG));
 }
@@ -81,6 +111,10 @@ static void cases(uint8_t *v) {
 static void refusals(uint8_t *v) {
     base(v, 1);
     check("a volume one byte short: 1", refuses(v, SIZE - 1, 1, 256, PAGESTORE_BAD_VOLUME));
+    check("examined, a volume one byte short: 1", untold(v, SIZE - 1, 3, PAGESTORE_BAD_VOLUME));
+    check("examined, that and a report of 4: 1", untold(v, SIZE - 1, 4, PAGESTORE_BAD_VOLUME));
+    check("examined, a report of 2: 2", untold(v, SIZE, 2, PAGESTORE_BAD_BUFFER));
+    check("examined, a report of 4: 2", untold(v, SIZE, 4, PAGESTORE_BAD_BUFFER));
     check("no volume: 1", refuses(NULL, 0, 1, 256, PAGESTORE_BAD_VOLUME));
     v[0] = 0;
     check("wrong magic: 1", refuses(v, SIZE, 1, 256, PAGESTORE_BAD_VOLUME));

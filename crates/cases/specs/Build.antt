@@ -10,11 +10,10 @@ use Rattle.model.specs.Geometry.{emptyVolume, lengthFor}
 use Rattle.model.specs.Item.{frameImage, noteBytes}
 use Rattle.model.specs.Calls.{StoredItem, volumeAfter, inspectOf, Call, outcomeOf}
 use Rattle.model.specs.History.{Power, off, on, Machine, Event, freshMachine, run}
+use Rattle.model.specs.Health.{reportOf}
 use Rattle.model.specs.declared.geometry.Geometry.{Geometry}
 use Rattle.model.specs.declared.state.Entry.{Entry}
 use Rattle.model.specs.declared.answer.Class.{Class}
-use Rattle.model.specs.declared.answer.Class.the-variants.{Good, Behind, Stale, Failed}
-use Rattle.model.specs.declared.answer.Start.{Start}
 use Rattle.model.specs.declared.answer.Start.the-variants.{Own, Backup, Format}
 use Rattle.model.specs.declared.answer.Answer.{Answer}
 use Rattle.model.specs.declared.answer.Answer.the-variants.{Refused, Nothing, Done, Repaired}
@@ -28,23 +27,12 @@ bit true = 1
 abbrev pub bits : List Bool → List ℕ
 bits bs = map bit bs
 
-abbrev pub classNumber : Class → ℕ
-classNumber Good = 1
-classNumber Behind = 2
-classNumber Stale = 3
-classNumber Failed = 4
-
-abbrev pub startNumber : Start → ℕ
-startNumber Own = 1
-startNumber Backup = 2
-startNumber Format = 3
-
 -- no two answers have the same numbers
 abbrev pub numbers : Answer → List ℕ
 numbers (Refused n) = 100 ∷ n ∷ []
 numbers Nothing = 101 ∷ []
 numbers Done = 102 ∷ []
-numbers (Repaired r) = 103 ∷ classNumber (r .class) ∷ startNumber (r .start) ∷ r .count ∷ []
+numbers (Repaired r) = 103 ∷ reportOf r
 
 -- a page of this class, repaired from its own image, its backup or a format, and how many records were replayed
 abbrev pub fromOwn : Class → ℕ → List ℕ

@@ -9,12 +9,13 @@ use Rattle.model.specs.Geometry.{slotAt, recordAt, noteAt, geometryOf, emptyVol
 use Rattle.model.specs.Item.{validImage, encodeChange, noteBytes}
 use Rattle.model.specs.Index.{entryOf, slotUsed}
 use Rattle.model.specs.Scan.{validLog, validNotes, indexOf}
-use Rattle.model.specs.Repair.{classOf, viewOf, walkOf, isBroken}
+use Rattle.model.specs.Repair.{classOf, viewOf, walkFrom, walkOf, startOf, isBroken}
 use Rattle.model.specs.Calls.{StoredItem, oneItem, restartOf, inspectOf}
 use Rattle.model.specs.declared.change.Change.the-variants.{Format, Put}
 use Rattle.model.specs.declared.answer.Class.the-variants.{Good, Behind, Failed}
 use Rattle.cases.specs.Rows.{Row, row}
-use Rattle.cases.specs.Build.{bit, bits, numbers, classNumber, fromOwn, fromBackup, fromFormat, refused, small, image, broken, writtenNote, backupNote, storedIn, smallVolume, inspected, memory, entryNumbers}
+use Rattle.model.specs.Health.{classNumber, startNumber}
+use Rattle.cases.specs.Build.{bit, bits, numbers, fromOwn, fromBackup, fromFormat, refused, small, image, broken, writtenNote, backupNote, storedIn, smallVolume, inspected, memory, entryNumbers}
 use Rattle.cases.specs.Table.{record1, record2, record3, whole, body1, body3, own, ownFails, at3}
 
 -- ---- the log
@@ -152,9 +153,12 @@ walkRows =
     let two = smallVolume (oneItem (recordAt 1) record1 ∷ oneItem (recordAt 2) record2 ∷ []) in
     let breaks = breaksIn two in
     let holding = storedIn (whole []) in
-    row "class: at 2, 3, 4, 5, 6, and failing"
+    row "class: Good with no durable record, and then no start is Own"
+    (classNumber (classOf true 0 0 0) ∷ startNumber (startOf (walkFrom 0 (λ n. []) 1 0 0 0 .stop)) ∷ [])
+    (1 ∷ 3 ∷ [])
+    ∷ row "class: at 2, 3, 4, 5, 6, and failing"
     (classAt 2 ∷ classAt 3 ∷ classAt 4 ∷ classAt 5 ∷ classAt 6 ∷ classNumber (classOf false 5 5 3) ∷ [])
-    (3 ∷ 2 ∷ 2 ∷ 1 ∷ 4 ∷ 4 ∷ [])
+    (3 ∷ 2 ∷ 2 ∷ 1 ∷ 5 ∷ 4 ∷ [])
     ∷ row "walk: an image at 0 or off the chain starts nothing"
     (take 4 (inspected (holding (own 0 body1 ∷ [])) 1) ++ take 4 (inspected (holding (own 2 body1 ∷ [])) 1))
     (fromFormat Behind 2 ++ fromFormat Behind 2)

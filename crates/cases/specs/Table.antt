@@ -10,7 +10,7 @@ use Rattle.model.specs.Item.{encodeChange, validImage}
 use Rattle.model.specs.Calls.{StoredItem, oneItem, makeOf, begin, change}
 use Rattle.model.specs.History.{Machine, restart, perform}
 use Rattle.model.specs.declared.change.Change.the-variants.{Format, Put, Slide}
-use Rattle.model.specs.declared.answer.Class.the-variants.{Good, Behind, Stale, Failed}
+use Rattle.model.specs.declared.answer.Class.the-variants.{Good, Behind, Stale, Failed, Ahead}
 use Rattle.cases.specs.Rows.{Row, row}
 use Rattle.cases.specs.Build.{bit, numbers, fromOwn, fromBackup, fromFormat, refused, done, small, image, broken, writtenNote, backupNote, smallVolume, buffer, inspected, memory, reach, asked}
 
@@ -86,7 +86,7 @@ kRows =
     ∷ oneItem (noteAt 1) (backupNote 1 1 1 3) ∷ [])) 1)
     (fromBackup Failed 0 ++ at3)
     ∷ row "K9" (inspected (whole (ownFails ∷ [])) 1) (fromFormat Failed 2 ++ at3)
-    ∷ row "K10" (inspected (whole (own 4 body3 ∷ [])) 1) (fromFormat Failed 2 ++ at3)
+    ∷ row "K10" (inspected (whole (own 4 body3 ∷ [])) 1) (fromFormat Ahead 2 ++ at3)
     ∷ row "K11" (inspected (cut (own 1 body1 ∷ [])) 1) (fromOwn Good 0 ++ at1)
     ∷ row "K12"
     (inspected (cut (own 1 body1 ∷ oneItem (recordAt 4) (1 ∷ replicate 63 0) ∷ [])) 1)

@@ -21,8 +21,9 @@ fn legend() {
     say(
         b"  STALE   whole, but older than a write that was confirmed and noted: the disk lost that write\n",
     );
+    say(b"  FAILED  torn, spoiled, never written or another page's\n");
     say(
-        b"  FAILED  torn, spoiled, never written or another page's; or its number is above this page's last durable one\n",
+        b"  AHEAD   whole, but its number is above this page's last durable one: not from this log\n",
     );
     say(b"and the repair starts from\n");
     say(b"  OWN     the page's own image\n");

@@ -1,23 +1,18 @@
 -- The values of the facts of every legal history.
 use mathlib.Core.Path.{_≡_, sym, ap, _∙_, subst}
 use mathlib.Core.Logic.{_≢_}
-use mathlib.Core.Bool.{Bool, true, false, cond}
+use mathlib.Core.Bool.{true}
 use mathlib.Core.List.{List, _++_}
 use Prim.Native.Nat.{ℕ, suc, _≤_}
 use native.Mathlib.Omega.{arith}
 use lib.ListN.{length}
-use lib.Dec.{eqb, ltb}
-use borrow.Author.Tests.{le-ltb}
-use Rattle.laws.proofs.Tables.{byCases}
 use Rattle.model.specs.Geometry.{Place, pageAt, slotAt, item}
 use Rattle.model.specs.Item.{imageLsn, validImage}
 use Rattle.model.specs.Index.{entryOf}
 use Rattle.model.specs.Scan.{indexOf}
-use Rattle.model.specs.Repair.{classOf}
 use Rattle.model.specs.AbstractLog.{Logged}
 use Rattle.model.specs.History.{Power, on, isImage, storedBefore}
 use Rattle.model.specs.Claim.{History, Legal, reached, logOf, durableOf}
-use Rattle.model.specs.declared.answer.Class.the-variants.{Good, Behind, Stale, Failed}
 use Rattle.model.specs.declared.state.Entry.{Entry}
 use Rattle.model.specs.declared.state.State.{State}
 use Rattle.history.specs.Facts.{volumeOf, headingOf, IsReplay, StoredImage, OwnImage, IndexEntry, SameEntry, Counts, LivePage, Facts}
@@ -42,21 +37,11 @@ is-replay p k x f =
       body = rw (f .lsn-is) (f .body-is ∙ sym (replay-take p k (suc (f .place)) (f .below)));
     }
 
--- an image no newer than the page's last durable change is not Failed
-not-failed : (n d w : ℕ) → n ≤ d → classOf true n d w ≢ Failed
-unfolding classOf
-not-failed n d w b e = rest (eqb n d) (ltb n w) (rw (le-ltb d n b) at e)
-  where
-    rest : (a c : Bool) → cond a Good (cond c Stale Behind) ≡ Failed → ⊥
-    rest true c e = let z : _≡_ {A = ℕ} 0 1 = cc in omega arith
-    rest false true e = let z : _≡_ {A = ℕ} 0 1 = cc in omega arith
-    rest false false e = let z : _≡_ {A = ℕ} 0 1 = cc in omega arith
-
 module _ (h : History) (legal : Legal h) where
   i : Inv (madeWith h) (reached h .volume) (reached h .past) (reached h .power) (logOf h)
   i = tied h legal
 
-  heading : headingOf h ≡ madeWith h
+  pub heading : headingOf h ≡ madeWith h
   heading = i .holds .vol .geo
 
   p64 : h .pages ≤ 64
@@ -120,9 +105,6 @@ module _ (h : History) (legal : Legal h) where
         record {
           is-replay = λ t. is-replay p (durableOf h) own (own-good t);
           not-above = not-above;
-          failed = λ e. byCases (validImage (headingOf h) p own)
-              (λ t. absurd (not-failed (imageLsn own) (entryOf (indexOf (headingOf h) (volumeOf h)) p .durable) (entryOf (indexOf (headingOf h) (volumeOf h)) p .written) (not-above t) (rw t at e)))
-              (λ t. t);
         }
 
     noted-page : IndexEntry h p

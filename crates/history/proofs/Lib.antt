@@ -24,3 +24,4 @@ pub mod Theorem
 pub mod WellFormed
 pub mod Refusals
 pub mod Facts
+pub mod Health

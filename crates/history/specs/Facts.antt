@@ -10,14 +10,12 @@ use Rattle.model.specs.Geometry.{Place, pageAt, slotAt, geometryOf, item}
 use Rattle.model.specs.Item.{imageLsn, imageBody, validImage, frameImage}
 use Rattle.model.specs.Index.{entryOf}
 use Rattle.model.specs.Scan.{indexOf}
-use Rattle.model.specs.Repair.{viewOf, classIn}
 use Rattle.model.specs.State.{frameCount, validMemory, frameBytes, holder, held, wellFormed}
 use Rattle.model.specs.Calls.{Call, outcomeOf, restartOf, loadOf, refusalOf}
 use Rattle.model.specs.AbstractLog.{Logged, lastPlace, replay}
 use Rattle.model.specs.History.{on, isImage, storedBefore}
 use Rattle.model.specs.Claim.{History, Legal, reached, logOf, durableOf, inspection}
 use Rattle.model.specs.declared.geometry.Geometry.{Geometry}
-use Rattle.model.specs.declared.answer.Class.the-variants.{Failed}
 use Rattle.model.specs.declared.state.State.{State}
 
 abbrev pub volumeOf : History → List ℕ
@@ -68,14 +66,11 @@ pub record StoredImage (h : History) (x : List ℕ) : Type 0 where
   pub valid : validImage (headingOf h) page x ≡ true
   pub is-replay : IsReplay page (durableOf h) x
 
--- a page's own image: where it is valid it is a replay, and no newer than the page's last durable change; so the class is Failed only where
--- it is not valid
+-- a page's own image: where it is valid it is a replay, and no newer than the page's last durable change; so its class is never Ahead
 pub record OwnImage (h : History) (p : ℕ) : Type 0 where
   pub is-replay : validImage (headingOf h) p (item (headingOf h) (volumeOf h) (pageAt p)) ≡ true → IsReplay p (durableOf h) (item (headingOf h) (volumeOf h) (pageAt p))
   pub not-above : validImage (headingOf h) p (item (headingOf h) (volumeOf h) (pageAt p)) ≡ true
       → imageLsn (item (headingOf h) (volumeOf h) (pageAt p)) ≤ entryOf (indexOf (headingOf h) (volumeOf h)) p .durable
-  pub failed : classIn (headingOf h) p (viewOf (headingOf h) (volumeOf h) (entryOf (indexOf (headingOf h) (volumeOf h)) p) p) ≡ Failed
-      → validImage (headingOf h) p (item (headingOf h) (volumeOf h) (pageAt p)) ≡ false
 
 -- ---- the index
 

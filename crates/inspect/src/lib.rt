@@ -4,6 +4,9 @@ ghost use mathlib.Core.Bool.{cond, not};
 ghost use lib.Dec.{eqb};
 ghost use Rattle.model.specs.Tables.{within};
 ghost use Rattle.model.specs.Calls.{inspectOf, refusalOf};
+
+pub mod examine;
+
 use codec::checksum;
 use model::answer::Answer;
 use repair::answer;
@@ -48,7 +51,7 @@ pub fn inspect(volume: &[u8], page: u32, buffer: &mut [u8]) -> Answer
 }
 
 // The number that stands for an answer.
-fn number(a: Answer) -> u32
+pub fn number(a: Answer) -> u32
     ensures { λ r. ⌜ r ≡ refusalOf a ⌝ }
 {
     match a {

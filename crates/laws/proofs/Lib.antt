@@ -12,3 +12,4 @@ pub mod Notes
 pub mod EmptyVolume
 pub mod WellFormed
 pub mod Demand1
+pub mod Health

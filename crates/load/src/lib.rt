@@ -61,6 +61,7 @@ fn clean(c: Class) -> bool
         Class::Behind => false,
         Class::Stale => false,
         Class::Failed => false,
+        Class::Ahead => false,
     }
 }
 

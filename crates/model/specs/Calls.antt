@@ -25,7 +25,7 @@ use Rattle.model.specs.declared.state.PendingNote.{PendingNote}
 use Rattle.model.specs.declared.state.PendingNote.the-variants.{Absent, Present}
 use Rattle.model.specs.declared.state.State.{State}
 use Rattle.model.specs.declared.answer.Class.{Class}
-use Rattle.model.specs.declared.answer.Class.the-variants.{Good, Behind, Stale, Failed}
+use Rattle.model.specs.declared.answer.Class.the-variants.{Good, Behind, Stale, Failed, Ahead}
 use Rattle.model.specs.declared.answer.Repair.{Repair}
 use Rattle.model.specs.declared.answer.Reply.{Reply}
 use Rattle.model.specs.declared.answer.Answer.{Answer}
@@ -104,6 +104,7 @@ isGood Good = true
 isGood Behind = false
 isGood Stale = false
 isGood Failed = false
+isGood Ahead = false
 
 -- Load: "brings a page in, repaired. Dirty unless its class is Good. A clean page in the frame makes way"
 unfoldable pub loadOf : List ℕ → List ℕ → State → ℕ → ℕ → Outcome

@@ -13,17 +13,18 @@ use Rattle.model.specs.Item.{imageLsn, imageBody, validImage, recordOf, 
 use Rattle.model.specs.declared.geometry.Geometry.{Geometry}
 use Rattle.model.specs.declared.state.Entry.{Entry}
 use Rattle.model.specs.declared.answer.Class.{Class}
-use Rattle.model.specs.declared.answer.Class.the-variants.{Good, Behind, Stale, Failed}
+use Rattle.model.specs.declared.answer.Class.the-variants.{Good, Behind, Stale, Failed, Ahead}
 use Rattle.model.specs.declared.answer.Start.{Start}
 use Rattle.model.specs.declared.answer.Stop.{Stop}
 use Rattle.model.specs.declared.answer.Stop.the-variants.{Own, Backup, Format, Broken}
 use Rattle.model.specs.declared.answer.Repair.{Repair}
 
 -- "Good if n is the newest durable number; Behind if below that and at least the last written number; Stale if below the last
--- written number; Failed if n is above the newest durable number"; and Failed where the image is not valid
+-- written number"; document 02, §8: "a passing own image above the newest durable number gets a class of its own, Ahead". So Failed is
+-- exactly an image that is not valid
 unfoldable pub classOf : Bool → ℕ → ℕ → ℕ → Class
 classOf valid n durable written =
-    cond valid (cond (eqb n durable) Good (cond (ltb durable n) Failed (cond (ltb n written) Stale Behind))) Failed
+    cond valid (cond (eqb n durable) Good (cond (ltb durable n) Ahead (cond (ltb n written) Stale Behind))) Failed
 
 -- All that a page's repair depends on: its own image, its durable and written lsn, the noted backup's lsn (0: none) and image, and the
 -- log's records by number.

@@ -6,6 +6,7 @@ pub enum Class {
     Behind,
     Stale,
     Failed,
+    Ahead,
 }
 
 // Where a replay starts.

@@ -19,6 +19,7 @@ fn class(c: Class) {
         Class::Behind => say(b"BEHIND"),
         Class::Stale => say(b"STALE"),
         Class::Failed => say(b"FAILED"),
+        Class::Ahead => say(b"AHEAD"),
     }
 }
 

@@ -4,7 +4,7 @@ ghost use Rattle.model.specs.Repair.{classOf};
 use model::answer::Class;
 
 // The class of an image that is valid or not, with number n.
-// Ruled out: Good for every valid image; Behind for an image above the newest durable number.
+// Ruled out: Good for every valid image; Failed or Behind for an image above the newest durable number.
 pub fn class(valid: bool, n: u32, durable: u32, written: u32) -> Class
     ensures { λ r. ⌜ r ≡ classOf valid n durable written ⌝ }
 {
@@ -13,7 +13,7 @@ pub fn class(valid: bool, n: u32, durable: u32, written: u32) -> Class
             return Class::Good;
         }
         if durable < n {
-            return Class::Failed;
+            return Class::Ahead;
         }
         if n < written {
             return Class::Stale;
