@@ -42,11 +42,12 @@ scan: volume-given
 	@$(MAKE) --no-print-directory scan-program
 	@./target/bin/scan < "$$VOLUME"
 
-# make demo-check         the program on the sample volume against what it must print
+# make demo-check         the program on the sample volume, under each heading, against what it must print
 demo-check: scan-program
-	@python3 tools/sample.py demo target/demo.vol
-	@cmp target/demo.vol samples/demo.vol
-	@./target/bin/scan < samples/demo.vol | diff - samples/demo.txt
+	@for name in demo demo-first; do \
+	    python3 tools/sample.py $$name target/$$name.vol && cmp target/$$name.vol samples/$$name.vol \
+	    && ./target/bin/scan < samples/$$name.vol | diff - samples/demo.txt || exit 1; \
+	done
 
 # make c-test             the C function: K6 to K12, every refusal, full and smallest volumes, the stack it takes
 # make example-check      the program that README quotes, on the sample volume, against what it must print

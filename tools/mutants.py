@@ -40,13 +40,14 @@ use Rattle.cases.specs.All.{rows}
 use Rattle.cases.specs.Worked.{Worked, computes}
 use Rattle.cases.specs.Histories.{histories}
 
+-- all that have the name: some stand there once for each heading
 row : String → List Row → Bool
-row n [] = false
-row n (r ∷ rs) = let rest = row n rs in let here = same (r .found) (r .says) in cond (eqt (r .name) n) here rest
+row n [] = true
+row n (r ∷ rs) = let rest = row n rs in let here = cond (same (r .found) (r .says)) rest false in cond (eqt (r .name) n) here rest
 
 history : String → List Worked → Bool
-history n [] = false
-history n (w ∷ ws) = let rest = history n ws in let here = computes w in cond (eqt (w .name) n) here rest
+history n [] = true
+history n (w ∷ ws) = let rest = history n ws in let here = cond (computes w) rest false in cond (eqt (w .name) n) here rest
 """
 # errors that say that an edit is no definition, and nothing of what it means
 NOT_READ = re.compile(

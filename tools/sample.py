@@ -1,8 +1,9 @@
 #!/usr/bin/env python3
-"""Makes the two volumes that the program `scan` is shown on.
+"""Makes the volumes that the program `scan` is shown on.
 
-    python3 tools/sample.py demo FILE   six pages: good, behind, stale, failed twice (backup, format) and blank
-    python3 tools/sample.py k6 FILE     the worked case K6 with page 2 good
+    python3 tools/sample.py demo FILE         six pages: good, behind, stale, failed twice (backup, format) and blank
+    python3 tools/sample.py demo-first FILE   the same under the first heading
+    python3 tools/sample.py k6 FILE           the worked case K6 with page 2 good, under the first heading
 
 A second reader of the format, on purpose: it shares no code with the store.
 """
@@ -10,20 +11,32 @@ import struct
 import sys
 
 
-def checksum(data):
+def total(terms):
     a, b = 1, 0
-    for (word,) in struct.iter_unpack("<H", data):
-        a = (a + word) % 65535
+    for term in terms:
+        a = (a + term) % 65535
         b = (b + a) % 65535
     return b * 65536 + a
 
 
-def sealed(data):
-    return data + struct.pack("<I", checksum(data))
+def word_sum(data):
+    return total(word for (word,) in struct.iter_unpack("<H", data))
 
 
-def image(page, lsn, body):
-    return sealed(struct.pack("<HHI", page, 0, lsn) + body.ljust(244, b"\0")[:244])
+def byte_sum(data):
+    return total(data)
+
+
+# a heading's four bytes, and how its images are summed
+FIRST, SECOND = (b"CHPV", word_sum), (b"CHP2", byte_sum)
+
+
+def sealed(data, add=word_sum):
+    return data + struct.pack("<I", add(data))
+
+
+def image(heading, page, lsn, body):
+    return sealed(struct.pack("<HHI", page, 0, lsn) + body.ljust(244, b"\0")[:244], heading[1])
 
 
 def record(lsn, prev, page, kind, offset=0, fill=0, payload=b""):
@@ -35,11 +48,11 @@ def note(number, page, kind, slot, lsn):
     return sealed(struct.pack("<IHBBI", number, page, kind, slot, lsn))
 
 
-def volume(pages, slots, log, notes, log_slots, note_slots):
+def volume(heading, pages, slots, log, notes, log_slots, note_slots):
     """The sections in their order, each after its count; unused log and note slots are zero."""
     log = b"".join(log).ljust(64 * log_slots, b"\0")
     notes = b"".join(notes).ljust(16 * note_slots, b"\0")
-    parts = [b"CHPV"]
+    parts = [heading[0]]
     images = ((len(pages), b"".join(pages)), (len(slots), b"".join(slots)))
     for count, items in (*images, (log_slots, log), (note_slots, notes)):
         parts += [struct.pack("<I", count), items]
@@ -55,7 +68,7 @@ FORMAT, PUT, SLIDE = 1, 2, 3
 WRITTEN, BACKED_UP = 1, 2
 
 
-def demo():
+def demo(heading):
     """A ward's handover pages after a night of power cuts."""
     spaces = b" " * 244
     line = [b"06:00 all calm", b"06:10 bed 4 moved", b"06:20 dose given"]
@@ -78,30 +91,30 @@ def demo():
         return b"".join(lines).ljust(244, b" ")
 
     pages = [
-        image(1, 6, body(line[0])),              # good
-        image(2, 7, body(line[0])),              # behind: record 11 is durable, the page was not written since
-        image(3, 3, spaces),                     # stale: a confirmed write that the disk lost
-        torn(image(4, 9, body(line[1]))),        # failed, with a backup at 9
-        torn(image(5, 10, body(line[2]))),       # failed, no backup
+        image(heading, 1, 6, body(line[0])),              # good
+        image(heading, 2, 7, body(line[0])),              # behind: record 11 is durable, the page was not written since
+        image(heading, 3, 3, spaces),                     # stale: a confirmed write that the disk lost
+        torn(image(heading, 4, 9, body(line[1]))),        # failed, with a backup at 9
+        torn(image(heading, 5, 10, body(line[2]))),       # failed, no backup
         b"\0" * 256,                             # blank
     ]
-    slots = [image(4, 9, body(line[1])), b"\0" * 256]
+    slots = [image(heading, 4, 9, body(line[1])), b"\0" * 256]
     notes = [
         note(1, 1, WRITTEN, 0, 6),
         note(2, 2, WRITTEN, 0, 7),
         note(3, 3, WRITTEN, 0, 8),
         note(4, 4, BACKED_UP, 1, 9),
     ]
-    return volume(pages, slots, log, notes, 16, 8)
+    return volume(heading, pages, slots, log, notes, 16, 8)
 
 
 def k6():
     log = [record(1, 0, 1, FORMAT, fill=7), record(2, 0, 2, FORMAT, fill=9), record(3, 1, 1, PUT, payload=b"AB")]
-    return volume([image(1, 1, b"\7" * 244), image(2, 2, b"\t" * 244)], [b"\0" * 256], log, [], 4, 4)
+    return volume(FIRST, [image(FIRST, 1, 1, b"\7" * 244), image(FIRST, 2, 2, b"\t" * 244)], [b"\0" * 256], log, [], 4, 4)
 
 
 def main():
-    makers = {"demo": demo, "k6": k6}
+    makers = {"demo": lambda: demo(SECOND), "demo-first": lambda: demo(FIRST), "k6": k6}
     if len(sys.argv) != 3 or sys.argv[1] not in makers:
         sys.exit(__doc__)
     with open(sys.argv[2], "wb") as out:

@@ -5,7 +5,8 @@ use crate::cell::{Call, Cell, Op, MAX_CELLS};
 use crate::choose::Kind;
 use crate::edge_episodes;
 use crate::episodes::{self, probe};
-use crate::geometry::{frame_count, memory_len_for, Geometry, HEADING};
+use crate::geometry::{frame_count, memory_len_for, Geometry};
+use crate::heading::Heading;
 use crate::history::{choose_geometry, Style};
 use crate::item_episodes;
 use crate::restart::recover;
@@ -16,9 +17,10 @@ use crate::world::World;
 /// A mutation and the calls that look at it.
 type Episode = fn(&mut World, &mut Rng);
 
-const EPISODES: [(Episode, usize); 18] = [
+const EPISODES: [(Episode, usize); 19] = [
     (episodes::wrong_length, 5),
     (episodes::wrong_heading, 5),
+    (episodes::other_heading, 4),
     (episodes::state_numbers, 12),
     (edge_episodes::sound_edges, 14),
     (edge_episodes::taken_slot, 5),
@@ -115,12 +117,13 @@ fn counts_out_of_range(world: &mut World, rng: &mut Rng) {
     let length = notes_at + 4 + 16 * notes + rng.pick(&[0, 0, 0, 1]);
     let script = &mut world.script;
     script.sizes(length, script.driver.memory_len, 256);
-    script.call(Call::Make { counts: counts.map(|count| count as u32) });
+    let heading = rng.pick(&Heading::ALL);
+    script.call(Call::Make { heading, counts: counts.map(|count| count as u32) });
     script.emit(Op::Fill { target: 0, byte: 0 });
     if length > script.driver.volume.len() {
         return;
     }
-    script.poke(0..4, &HEADING);
+    script.poke(0..4, &heading.bytes());
     for (at, count) in [(4, pages), (slots_at, slots), (records_at, records), (notes_at, notes)] {
         let mut bytes = [0; 4];
         put_u32(&mut bytes, 0, count as u32);

@@ -1,4 +1,4 @@
-//! Little-endian number fields and the checksum that seals every item on disk.
+//! Little-endian number fields and the checksums that seal items on disk.
 
 /// The 16-bit number at `at`.
 pub fn u16_at(bytes: &[u8], at: usize) -> u16 {
@@ -32,13 +32,23 @@ pub fn checksum(bytes: &[u8]) -> u32 {
     b * 65_536 + a
 }
 
-/// Whether an item's last four bytes hold the checksum of those before.
+/// The same over single bytes: the check of images under the second heading.
+pub fn byte_checksum(bytes: &[u8]) -> u32 {
+    let (mut a, mut b) = (1u32, 0u32);
+    for &byte in bytes {
+        a = (a + u32::from(byte)) % 65_535;
+        b = (b + a) % 65_535;
+    }
+    b * 65_536 + a
+}
+
+/// Whether a record's or note's last four bytes hold the checksum of those before.
 pub fn is_sealed(item: &[u8]) -> bool {
     let at = item.len() - 4;
     checksum(&item[..at]) == u32_at(item, at)
 }
 
-/// Sets an item's last four bytes to the checksum of those before.
+/// Sets a record's or note's last four bytes to the checksum of those before.
 pub fn seal(item: &mut [u8]) {
     let at = item.len() - 4;
     let sum = checksum(&item[..at]);

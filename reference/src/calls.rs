@@ -2,6 +2,7 @@
 
 use crate::answer::{Answer, Class, Refusal};
 use crate::geometry::{frame_count, frame_place, pending_place, Geometry, IMAGE_LEN, MAX_PENDING};
+use crate::heading::Heading;
 use crate::image::{as_stored, blank_image, image_lsn, Image};
 use crate::note::{Note, NoteKind};
 use crate::record::{Change, Payload, Record, PAYLOAD_LEN};
@@ -12,8 +13,8 @@ use crate::walk::rebuild;
 type Next = Result<(State, Answer), Refusal>;
 
 /// Writes heading, counts (P, B, L, N) and zeros.
-pub fn make(volume: &mut [u8], counts: [u32; 4]) -> Answer {
-    match Geometry::new(counts) {
+pub fn make(volume: &mut [u8], heading: Heading, counts: [u32; 4]) -> Answer {
+    match Geometry::new(heading, counts) {
         Some(geometry) if geometry.volume_len() == volume.len() => {
             geometry.format(volume);
             Answer::Done
@@ -59,7 +60,7 @@ fn rebuilt(volume: &[u8], page: u16, buffer_len: usize) -> Result<(Answer, Image
     ensure(entry.newest_durable != 0, Refusal::Blank)?;
     // A recovered log has no broken chain, so the walk does not fail here.
     let (rebuild, image) = rebuild(volume, &geometry, page, entry)?;
-    Ok((Answer::Rebuilt(rebuild), as_stored(&image)))
+    Ok((Answer::Rebuilt(rebuild), as_stored(geometry.heading, &image)))
 }
 
 impl State {
@@ -170,7 +171,7 @@ impl State {
         }
         let image = &memory[frame_place(frame)];
         self.ensure_storable(image, &geometry)?;
-        volume[geometry.page(page.into())].copy_from_slice(&as_stored(image));
+        volume[geometry.page(page.into())].copy_from_slice(&as_stored(geometry.heading, image));
         self.frames[frame - 1].dirty = false;
         Ok((self.owe(page, NoteKind::Written, 0, image_lsn(image)), Answer::Done))
     }
@@ -188,7 +189,7 @@ impl State {
         let image = &memory[frame_place(frame)];
         self.ensure_storable(image, &geometry)?;
         ensure(!self.slot_in_index(slot as u8), Refusal::SlotInIndex)?;
-        volume[geometry.slot(slot.into())].copy_from_slice(&as_stored(image));
+        volume[geometry.slot(slot.into())].copy_from_slice(&as_stored(geometry.heading, image));
         Ok((self.owe(page, NoteKind::BackedUp, slot as u8, image_lsn(image)), Answer::Done))
     }
 

@@ -1,6 +1,7 @@
 //! The cells of a driver script: 64 bytes each, decoded to and encoded from `Op`.
 
 use crate::bytes::{put_u16, put_u32, u16_at, u32_at};
+use crate::heading::Heading;
 use crate::record::{Change, Payload, PAYLOAD_LEN};
 
 pub const CELL_LEN: usize = 64;
@@ -12,10 +13,10 @@ const NUMBER_B: usize = 60;
 
 pub type Cell = [u8; CELL_LEN];
 
-/// One of the ten calls with its arguments.
+/// A call with its arguments.
 #[derive(Clone, Copy, Debug, PartialEq, Eq)]
 pub enum Call {
-    Make { counts: [u32; 4] },
+    Make { heading: Heading, counts: [u32; 4] },
     Restart,
     Begin { page: u16, frame: u16, fill: u8 },
     Load { page: u16, frame: u16 },
@@ -44,7 +45,8 @@ impl Call {
     /// The op number of the script format.
     pub fn code(&self) -> u8 {
         match self {
-            Call::Make { .. } => 1,
+            Call::Make { heading: Heading::Second, .. } => 1,
+            Call::Make { heading: Heading::First, .. } => 21,
             Call::Restart => 2,
             Call::Begin { .. } => 3,
             Call::Load { .. } => 4,
@@ -67,7 +69,8 @@ pub fn decode(cell: &Cell) -> Op {
     let mut bytes = [0; PAYLOAD_LEN];
     bytes.copy_from_slice(&cell[PAYLOAD_AT..PAYLOAD_AT + PAYLOAD_LEN]);
     let call = match cell[0] {
-        1 => Call::Make { counts: [16, 20, 24, 28].map(|at| u32_at(cell, at)) },
+        1 => Call::Make { heading: Heading::Second, counts: counts(cell) },
+        21 => Call::Make { heading: Heading::First, counts: counts(cell) },
         2 => Call::Restart,
         3 => Call::Begin { page, frame: frame_or_slot, fill: cell[9] },
         4 => Call::Load { page, frame: frame_or_slot },
@@ -95,6 +98,11 @@ pub fn decode(cell: &Cell) -> Op {
         _ => return Op::Skip,
     };
     Op::Call(call)
+}
+
+/// P, B, L and N of a Make.
+fn counts(cell: &Cell) -> [u32; 4] {
+    [0, 4, 8, 12].map(|at| u32_at(cell, PAYLOAD_AT + at))
 }
 
 fn decode_change(cell: &Cell) -> Option<Change> {
@@ -146,7 +154,7 @@ fn encode_poke(code: u8, at: u32, count: u8, bytes: &Payload, cell: &mut Cell) {
 fn encode_call(call: &Call, cell: &mut Cell) {
     cell[0] = call.code();
     match *call {
-        Call::Make { counts } => {
+        Call::Make { heading: _, counts } => {
             for (at, count) in counts.into_iter().enumerate() {
                 put_u32(cell, PAYLOAD_AT + 4 * at, count);
             }

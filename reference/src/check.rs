@@ -2,7 +2,7 @@
 
 use crate::answer::{Answer, Class, Rebuild, Refusal, Start};
 use crate::book::{Book, Replay};
-use crate::bytes::{all_zero, is_sealed, u16_at, u32_at};
+use crate::bytes::{all_zero, u16_at, u32_at};
 use crate::calls::inspect;
 use crate::cell::Call;
 use crate::geometry::{frame_count, frame_place};
@@ -143,7 +143,7 @@ impl Checker {
                 }
                 (Answer::Rebuilt(rebuild), replay @ Some(_)) => {
                     same(&buffer, replay, "Inspect", page)?;
-                    ensure(is_sealed(&buffer), || "Inspect set no checksum".into())?;
+                    ensure(self.world.item_sealed(&buffer), || "Inspect set no checksum".into())?;
                     self.check_rebuild(page, &rebuild, &buffer)?;
                 }
                 (answer, replay) => {
@@ -158,7 +158,7 @@ impl Checker {
     /// Class, start and count replayed, told from the book, the own image and the notes.
     fn check_rebuild(&self, page: u16, rebuild: &Rebuild, image: &[u8]) -> Result<(), String> {
         let own = &self.world.volume()[self.world.geometry.page(page.into())];
-        let good = own[..252] == image[..252] && is_sealed(own);
+        let good = own[..252] == image[..252] && self.world.item_sealed(own);
         ensure(good == (rebuild.class == Class::Good), || format!("page {page}: {rebuild}"))?;
         ensure(rebuild.class != Class::Ahead, || format!("a history made page {page} {rebuild}"))?;
         let untouched = rebuild.start == Start::Own && rebuild.replayed == 0;

@@ -2,6 +2,7 @@
 
 use crate::answer::{Answer, Refusal};
 use crate::cell::{decode, Call, Cell, Op};
+use crate::coverage_table::{name_of, ROWS};
 use crate::driver::Driver;
 use crate::fault::Fault;
 use crate::geometry::{frame_count, Geometry};
@@ -10,39 +11,6 @@ use crate::sound::clause_names;
 use crate::state::State;
 use crate::walk::rebuild;
 use std::collections::{BTreeMap, BTreeSet};
-
-/// Names of the calls, by op number less 1.
-pub const CALLS: [&str; 10] =
-    ["make", "restart", "begin", "load", "change", "force", "write", "backup", "note", "inspect"];
-
-/// The refusals that each call can give.
-const REFUSALS: [&[u8]; 10] = [
-    &[1],
-    &[1, 2, 17, 18],
-    &[1, 2, 3, 4, 9, 10, 11, 12],
-    &[1, 2, 3, 4, 7, 9, 10, 19],
-    &[1, 2, 3, 6, 8, 11, 12],
-    &[1, 2],
-    &[1, 2, 3, 8, 13, 14, 15],
-    &[1, 2, 3, 5, 8, 13, 14, 15, 16],
-    &[1, 2],
-    &[1, 2, 3, 7, 17, 18],
-];
-
-/// The class and start pairs there are: Good is always own, Failed and Ahead never.
-const REBUILDS: [&str; 11] = [
-    "GOOD OWN",
-    "BEHIND OWN",
-    "BEHIND BACKUP",
-    "BEHIND FORMAT",
-    "STALE OWN",
-    "STALE BACKUP",
-    "STALE FORMAT",
-    "FAILED BACKUP",
-    "FAILED FORMAT",
-    "AHEAD BACKUP",
-    "AHEAD FORMAT",
-];
 
 /// Stands for the call where a hit is the cause of a refusal.
 const CAUSE: &str = "cause";
@@ -62,17 +30,9 @@ pub fn label(answer: &str) -> String {
 /// Every call with every answer that it can give.
 pub fn targets() -> BTreeSet<Hit> {
     let mut all = BTreeSet::new();
-    for (&name, refusals) in CALLS.iter().zip(REFUSALS) {
-        all.extend(refusals.iter().map(|number| (name, format!("REFUSED {number}"))));
-        match name {
-            "load" | "inspect" => {
-                all.extend(REBUILDS.iter().map(|rebuild| (name, rebuild.to_string())));
-            }
-            _ => _ = all.insert((name, "OK".into())),
-        }
-        if matches!(name, "force" | "write" | "note") {
-            all.insert((name, "NOTHING".into()));
-        }
+    for row in ROWS {
+        all.extend(row.refusals.iter().map(|number| (row.name, format!("REFUSED {number}"))));
+        all.extend(row.answers.iter().map(|answer| (row.name, answer.to_string())));
     }
     all
 }
@@ -90,10 +50,6 @@ pub fn call_name(cell: &Cell) -> Option<&'static str> {
         Op::Call(call) => Some(name_of(&call)),
         _ => None,
     }
-}
-
-fn name_of(call: &Call) -> &'static str {
-    CALLS[usize::from(call.code()) - 1]
 }
 
 /// What the calls of a script answer, and the causes of their refusals.

@@ -1,7 +1,8 @@
 //! Damage and torn writes, as far as document 01 allows them.
 
-use crate::bytes::{is_sealed, seal, u16_at};
+use crate::bytes::u16_at;
 use crate::geometry::IMAGE_LEN;
+use crate::heading::Heading;
 use crate::image::set_image_lsn;
 use crate::restart::recover;
 use crate::rng::Rng;
@@ -58,7 +59,7 @@ fn passes_in(world: &World, noted: &State, place: Place, image: &[u8]) -> bool {
             owner.map_or(in_range, |at| usize::from(page) == at + 1)
         }
     };
-    is_sealed(image) && page_right && image[2..4] == [0, 0]
+    world.item_sealed(image) && page_right && image[2..4] == [0, 0]
 }
 
 /// The place's image with something wrong; a sealed image is among the choices.
@@ -73,11 +74,11 @@ fn spoiled(world: &World, noted: &State, place: Place, rng: &mut Rng) -> Vec<u8>
         }
         3 => {
             bytes[2 + rng.below(2)] = rng.byte() | 1;
-            seal(&mut bytes);
+            rng.pick(&Heading::ALL).seal_image(&mut bytes);
         }
         4 => {
             bytes[0] = rng.pick(&[0, world.geometry.pages as u8 + 1, bytes[0].wrapping_add(1)]);
-            seal(&mut bytes);
+            rng.pick(&Heading::ALL).seal_image(&mut bytes);
         }
         // A forged image of any page, at a number near those given.
         _ => {
@@ -85,14 +86,14 @@ fn spoiled(world: &World, noted: &State, place: Place, rng: &mut Rng) -> Vec<u8>
             bytes[..8].fill(0);
             bytes[0] = rng.between(1, world.geometry.pages) as u8;
             set_image_lsn(&mut bytes, rng.between(1, noted.durable as usize + 2) as u32);
-            seal(&mut bytes);
+            rng.pick(&Heading::ALL).seal_image(&mut bytes);
         }
     }
     bytes
 }
 
 /// Bytes that a torn write leaves: they fail their checksum.
-pub fn torn(old: &[u8], new: &[u8], rng: &mut Rng) -> Vec<u8> {
+pub fn torn(old: &[u8], new: &[u8], sealed: impl Fn(&[u8]) -> bool, rng: &mut Rng) -> Vec<u8> {
     let mut bytes = new.to_vec();
     match rng.below(4) {
         0 => {
@@ -106,11 +107,11 @@ pub fn torn(old: &[u8], new: &[u8], rng: &mut Rng) -> Vec<u8> {
         2 => rng.fill(&mut bytes),
         _ => bytes.fill(0),
     }
-    if is_sealed(&bytes) {
+    if sealed(&bytes) {
         let at = rng.below(bytes.len());
         bytes[at] ^= 1;
     }
-    if is_sealed(&bytes) {
+    if sealed(&bytes) {
         bytes.fill(0);
     }
     bytes

@@ -97,7 +97,7 @@ impl Driver {
         let memory = &mut self.memory[..self.memory_len];
         let state = self.state;
         let (state, answer) = match *call {
-            Call::Make { counts } => (state, make(volume, counts)),
+            Call::Make { heading, counts } => (state, make(volume, heading, counts)),
             Call::Restart => restart(volume, memory),
             Call::Begin { page, frame, fill } => state.begin(volume, memory, page, frame, fill),
             Call::Load { page, frame } => state.load(volume, memory, page, frame),

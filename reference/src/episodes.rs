@@ -4,6 +4,7 @@ use crate::bytes::{put_u32, u32_at};
 use crate::cell::{Call, Cell, Op, CELL_LEN};
 use crate::choose::{payload, Kind};
 use crate::geometry::{IMAGE_LEN, MAX_FRAMES};
+use crate::heading::{Heading, HEADING_LEN};
 use crate::history::chooser;
 use crate::mutate::{edit_item, forge_image, near};
 use crate::rng::Rng;
@@ -112,6 +113,13 @@ pub fn wrong_heading(world: &mut World, rng: &mut Rng) {
     probe_any(world, rng);
 }
 
+/// Another of the known headings: the same items, judged by another rule.
+pub fn other_heading(world: &mut World, rng: &mut Rng) {
+    world.script.poke(0..HEADING_LEN, &rng.pick(&Heading::ALL).bytes());
+    look_at(world, rng.between(1, world.geometry.pages) as u16, rng);
+    probe_any(world, rng);
+}
+
 /// One to three state numbers in, at or past their ranges.
 pub fn state_numbers(world: &mut World, rng: &mut Rng) {
     for _ in 0..rng.between(1, 3) {
@@ -157,13 +165,13 @@ pub fn sound_index(world: &mut World, rng: &mut Rng) {
     if slot != 0 && rng.chance(600) {
         let place = world.geometry.slot(slot);
         let edit = |bytes: &mut [u8], rng: &mut Rng| forge_image(bytes, page, backup, rng);
-        edit_item(&mut world.script, place, rng, edit);
+        edit_item(world, place, rng, edit);
     }
     if rng.chance(500) {
         let place = world.geometry.page(page.into());
         let lsn = rng.between(0, top + 1) as u32;
         let edit = |bytes: &mut [u8], rng: &mut Rng| forge_image(bytes, page, lsn, rng);
-        edit_item(&mut world.script, place, rng, edit);
+        edit_item(world, place, rng, edit);
     }
     look_at(world, page, rng);
 }

@@ -2,9 +2,9 @@
 
 use crate::bytes::{put_u32, u32_at};
 use crate::fault::{require, Fault};
+use crate::heading::Heading;
 use std::ops::{Range, RangeInclusive};
 
-pub const HEADING: [u8; 4] = [0x43, 0x48, 0x50, 0x56];
 pub const IMAGE_LEN: usize = 256;
 pub const RECORD_LEN: usize = 64;
 pub const NOTE_LEN: usize = 16;
@@ -22,9 +22,10 @@ const SLOT_COUNTS: RangeInclusive<u32> = 0..=128;
 const RECORD_COUNTS: RangeInclusive<u32> = 1..=1024;
 const NOTE_COUNTS: RangeInclusive<u32> = 0..=1024;
 
-/// The counts P, B, L and N, all in range.
+/// The heading, and the counts P, B, L and N, all in range.
 #[derive(Clone, Copy, Debug, PartialEq, Eq)]
 pub struct Geometry {
+    pub heading: Heading,
     pub pages: usize,
     pub slots: usize,
     pub records: usize,
@@ -33,8 +34,9 @@ pub struct Geometry {
 
 impl Geometry {
     /// None if a count is out of range.
-    pub fn new([pages, slots, records, notes]: [u32; 4]) -> Option<Geometry> {
+    pub fn new(heading: Heading, [pages, slots, records, notes]: [u32; 4]) -> Option<Geometry> {
         Some(Geometry {
+            heading,
             pages: count_in(pages, PAGE_COUNTS)?,
             slots: count_in(slots, SLOT_COUNTS)?,
             records: count_in(records, RECORD_COUNTS)?,
@@ -44,7 +46,7 @@ impl Geometry {
 
     /// The geometry of a volume, unless heading, a count or the length is wrong.
     pub fn read(volume: &[u8]) -> Result<Geometry, Fault> {
-        require(volume.starts_with(&HEADING), Fault::Heading)?;
+        let heading = Heading::read(volume).ok_or(Fault::Heading)?;
         let count = |at, range, fault| {
             let count = count_at(volume, at).ok_or(Fault::Length)?;
             count_in(count, range).ok_or(fault)
@@ -56,7 +58,7 @@ impl Geometry {
         let records = count(records_at, RECORD_COUNTS, Fault::RecordCount)?;
         let notes_at = records_at + 4 + records * RECORD_LEN;
         let notes = count(notes_at, NOTE_COUNTS, Fault::NoteCount)?;
-        let geometry = Geometry { pages, slots, records, notes };
+        let geometry = Geometry { heading, pages, slots, records, notes };
         require(volume.len() == geometry.volume_len(), Fault::Length)?;
         Ok(geometry)
     }
@@ -64,7 +66,7 @@ impl Geometry {
     /// Makes an empty volume: heading, counts and zeros.
     pub fn format(&self, volume: &mut [u8]) {
         volume.fill(0);
-        volume[..4].copy_from_slice(&HEADING);
+        volume[..4].copy_from_slice(&self.heading.bytes());
         put_u32(volume, 4, self.pages as u32);
         put_u32(volume, self.slots_at() - 4, self.slots as u32);
         put_u32(volume, self.records_at() - 4, self.records as u32);

@@ -5,6 +5,7 @@ use crate::cell::{Call, Cell, MAX_CELLS};
 use crate::choose::{Chooser, Kind};
 use crate::damage::{choose_damage, torn};
 use crate::geometry::{memory_len_for, Geometry, MAX_FRAMES};
+use crate::heading::Heading;
 use crate::rng::Rng;
 use crate::script::Script;
 use crate::world::{Event, Left, World};
@@ -99,7 +100,10 @@ fn cut(world: &World, call: Call, rng: &mut Rng) -> Event {
     }
     let left = match (rng.below(3), world.item_of(&call), world.item_after(&call)) {
         (0, Some(_), _) => Left::New,
-        (1, Some(item), Some(new)) => Left::Torn(torn(&world.volume()[item], &new, rng)),
+        (1, Some(item), Some(new)) => {
+            let sealed = |bytes: &[u8]| world.item_sealed(bytes);
+            Left::Torn(torn(&world.volume()[item], &new, sealed, rng))
+        }
         _ => Left::Old,
     };
     Event::Cut { within: Some(call), left }
@@ -127,7 +131,8 @@ pub fn choose_geometry(rng: &mut Rng) -> Geometry {
         10..=15 => [rng.between(1, 5), rng.between(0, 5), rng.between(8, 40), rng.between(0, 15)],
         _ => [rng.between(1, 5), rng.between(1, 5), rng.between(20, 200), rng.between(10, 100)],
     };
-    Geometry::new(counts.map(|count| count as u32)).expect("the counts are in range")
+    let heading = rng.pick(&Heading::ALL);
+    Geometry::new(heading, counts.map(|count| count as u32)).expect("the counts are in range")
 }
 
 /// A script of one history or several, with inspections in between.

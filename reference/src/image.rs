@@ -1,7 +1,8 @@
 //! Page images: 0-1 page, 2-3 zero, 4-7 page lsn, 8-251 body, 252-255 checksum.
 
-use crate::bytes::{is_sealed, put_u16, put_u32, seal, u16_at, u32_at};
+use crate::bytes::{put_u16, put_u32, u16_at, u32_at};
 use crate::geometry::IMAGE_LEN;
+use crate::heading::Heading;
 use std::ops::Range;
 
 pub const BODY: Range<usize> = 8..252;
@@ -31,8 +32,8 @@ pub fn image_page(image: &[u8]) -> u16 {
 }
 
 /// Whether an image passes as one of `page`.
-pub fn passes(image: &[u8], page: u16) -> bool {
-    is_sealed(image) && image_page(image) == page && u16_at(image, 2) == 0
+pub fn passes(heading: Heading, image: &[u8], page: u16) -> bool {
+    heading.image_sealed(image) && image_page(image) == page && u16_at(image, 2) == 0
 }
 
 /// An image as a frame holds it: checksum bytes zero.
@@ -43,9 +44,9 @@ pub fn as_frame(stored: &[u8]) -> Image {
 }
 
 /// An image as the volume holds it: checksum set.
-pub fn as_stored(frame: &[u8]) -> Image {
+pub fn as_stored(heading: Heading, frame: &[u8]) -> Image {
     let mut image = copy(frame);
-    seal(&mut image);
+    heading.seal_image(&mut image);
     image
 }
 

@@ -27,7 +27,7 @@ pub fn edited_record(world: &mut World, rng: &mut Rng) {
         false => rng.pick(&chain) as usize,
     };
     let place = geometry.record(number);
-    edit_item(&mut world.script, place, rng, |bytes, rng| edit_record(bytes, &geometry, rng));
+    edit_item(world, place, rng, |bytes, rng| edit_record(bytes, &geometry, rng));
     if rng.chance(750) {
         let at = geometry.page(page.into()).start + rng.below(IMAGE_LEN);
         let byte = world.volume()[at] ^ 1;
@@ -58,7 +58,7 @@ pub fn aged_page(world: &mut World, rng: &mut Rng) {
     let slot = rng.between(1, geometry.slots) as u8;
     let [own, backup, written] = [(); 3].map(|()| rng.pick(&chain));
     for (place, lsn) in [(geometry.page(page.into()), own), (geometry.slot(slot.into()), backup)] {
-        edit_item(&mut world.script, place, rng, |bytes, rng| forge_image(bytes, page, lsn, rng));
+        edit_item(world, place, rng, |bytes, rng| forge_image(bytes, page, lsn, rng));
     }
     let room = (state.notes as usize) + 2 <= geometry.notes;
     if room && rng.chance(500) {
@@ -95,7 +95,7 @@ pub fn forged_record(world: &mut World, rng: &mut Rng) {
     let place = geometry.record(number);
     world.script.poke(place.clone(), &record.encode());
     if rng.chance(300) {
-        edit_item(&mut world.script, place, rng, |bytes, rng| edit_record(bytes, &geometry, rng));
+        edit_item(world, place, rng, |bytes, rng| edit_record(bytes, &geometry, rng));
     }
     look_at(world, page, rng);
 }
@@ -108,9 +108,7 @@ pub fn edited_note(world: &mut World, rng: &mut Rng) {
         return probe_any(world, rng);
     }
     let place = geometry.note(rng.between(1, last));
-    edit_item(&mut world.script, place, rng, |bytes, rng| {
-        edit_note(bytes, &geometry, state.durable, rng)
-    });
+    edit_item(world, place, rng, |bytes, rng| edit_note(bytes, &geometry, state.durable, rng));
     look_at(world, rng.between(1, geometry.pages) as u16, rng);
 }
 
@@ -151,7 +149,7 @@ pub fn edited_image(world: &mut World, rng: &mut Rng) {
         false => geometry.page(page.into()),
     };
     let durable = state.durable;
-    edit_item(&mut world.script, place, rng, |bytes, rng| match rng.below(4) {
+    edit_item(world, place, rng, |bytes, rng| match rng.below(4) {
         0 => forge_image(bytes, page, rng.between(0, durable as usize + 1) as u32, rng),
         _ => edit_image(bytes, &geometry, durable, rng),
     });

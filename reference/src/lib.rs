@@ -1,4 +1,4 @@
-//! An independent second implementation of document 01, the page store with its log and its
+//! An independent second implementation of documents 01 and 02, the page store with its log and its
 //! page recovery index, with a script driver, a plain book and generators to hold
 //! implementations against each other.
 
@@ -12,12 +12,14 @@ pub mod cell;
 pub mod check;
 pub mod choose;
 pub mod coverage;
+pub mod coverage_table;
 pub mod damage;
 pub mod driver;
 pub mod edge_episodes;
 pub mod episodes;
 pub mod fault;
 pub mod geometry;
+pub mod heading;
 pub mod history;
 pub mod image;
 pub mod item_episodes;

@@ -5,6 +5,7 @@ use crate::arbitrary::one_bench;
 use crate::cell::{Cell, MAX_CELLS};
 use crate::coverage::{causes, hits, targets, Hit};
 use crate::geometry::Geometry;
+use crate::heading::Heading;
 use crate::history::{choose_geometry, one_history};
 use crate::rng::Rng;
 use crate::script::Script;
@@ -62,7 +63,8 @@ fn piece(rng: &mut Rng) -> Vec<Cell> {
 
 /// A piece of the largest geometry, 131,092 bytes.
 fn full_size_piece(rng: &mut Rng) -> Vec<Cell> {
-    let geometry = Geometry::new([64, 128, 1024, 1024]).expect("the counts are in range");
+    let geometry = Geometry::new(rng.pick(&Heading::ALL), [64, 128, 1024, 1024])
+        .expect("the counts are in range");
     one_history(Script::default(), geometry, 2 * PIECE, rng).cells
 }
 

@@ -1,24 +1,35 @@
 //! Mutations of single items: one field set to a value in, at or past its range.
 
 use crate::bytes::{put_u16, put_u32, seal, u32_at};
-use crate::geometry::Geometry;
+use crate::geometry::{Geometry, IMAGE_LEN};
+use crate::heading::Heading;
 use crate::rng::Rng;
 use crate::script::Script;
+use crate::world::World;
 use std::ops::Range;
 
 /// Edits the volume's bytes at `place`, and mostly sets the item's checksum anew.
 pub fn edit_item(
-    script: &mut Script,
+    world: &mut World,
     place: Range<usize>,
     rng: &mut Rng,
     edit: impl FnOnce(&mut [u8], &mut Rng),
 ) {
-    let mut bytes = script.driver.volume[place.clone()].to_vec();
+    let mut bytes = world.script.driver.volume[place.clone()].to_vec();
     edit(&mut bytes, rng);
     if rng.chance(850) {
-        seal(&mut bytes);
+        seal_item(&mut bytes, world.geometry.heading, rng);
     }
-    script.poke(place, &bytes);
+    world.script.poke(place, &bytes);
+}
+
+/// Seals an item by its length; an image mostly by the sum that the heading names.
+pub fn seal_item(bytes: &mut [u8], heading: Heading, rng: &mut Rng) {
+    match bytes.len() {
+        IMAGE_LEN if rng.chance(850) => heading.seal_image(bytes),
+        IMAGE_LEN => rng.pick(&Heading::ALL).seal_image(bytes),
+        _ => seal(bytes),
+    }
 }
 
 /// The same in the memory.

@@ -4,14 +4,15 @@ use crate::answer::{Class, Rebuild, Start};
 use crate::bytes::is_sealed;
 use crate::fault::{require, Fault};
 use crate::geometry::Geometry;
+use crate::heading::Heading;
 use crate::image::{as_frame, blank_image, image_lsn, passes, Image};
 use crate::record::Record;
 use crate::state::IndexEntry;
 
 /// The class of a page's own image, as the index sees it.
-pub fn classify(own: &[u8], page: u16, entry: &IndexEntry) -> Class {
+pub fn classify(heading: Heading, own: &[u8], page: u16, entry: &IndexEntry) -> Class {
     let lsn = image_lsn(own);
-    if !passes(own, page) {
+    if !passes(heading, own, page) {
         Class::Failed
     } else if lsn > entry.newest_durable {
         Class::Ahead
@@ -36,7 +37,7 @@ pub fn rebuild(
     let mut number = entry.newest_durable;
     let mut chain = Vec::new();
     let (start, mut image) = loop {
-        if passes(own, page) && image_lsn(own) == number {
+        if passes(geometry.heading, own, page) && image_lsn(own) == number {
             break (Start::Own, as_frame(own));
         }
         if let Some(backup) = backup_at(volume, geometry, page, entry, number) {
@@ -52,7 +53,7 @@ pub fn rebuild(
     for record in chain.iter().rev() {
         record.apply(&mut image);
     }
-    let class = classify(own, page, entry);
+    let class = classify(geometry.heading, own, page, entry);
     Ok((Rebuild { class, start, replayed: chain.len() }, image))
 }
 
@@ -68,7 +69,7 @@ fn backup_at<'a>(
         return None;
     }
     let backup = &volume[geometry.slot(entry.backup_slot.into())];
-    (passes(backup, page) && image_lsn(backup) == number).then_some(backup)
+    (passes(geometry.heading, backup, page) && image_lsn(backup) == number).then_some(backup)
 }
 
 /// Record `number` of `page`'s chain.

@@ -1,8 +1,10 @@
 //! A history under way: its events and what they do to volume, memory and state.
 
 use crate::answer::Answer;
+use crate::bytes::{byte_checksum, checksum, u32_at};
 use crate::cell::{Call, Op};
-use crate::geometry::{frame_count, Geometry};
+use crate::geometry::{frame_count, Geometry, IMAGE_LEN};
+use crate::heading::Heading;
 use crate::script::Script;
 use std::ops::Range;
 
@@ -63,7 +65,7 @@ impl World {
         script.reset();
         script.emit(Op::Fill { target: 0, byte });
         script.sizes(geometry.volume_len(), 1_280, 256);
-        script.call(Call::Make { counts: geometry.counts() });
+        script.call(Call::Make { heading: geometry.heading, counts: geometry.counts() });
         World { script, geometry, live: false, stored: Vec::new() }
     }
 
@@ -155,6 +157,17 @@ impl World {
             Call::Backup { page: _, slot } => Some(self.geometry.slot(slot.into())),
             Call::Note => Some(self.geometry.note(state.notes as usize + 1)),
             _ => None,
+        }
+    }
+
+    /// Whether an item's checksum is right: an image's by the heading, else the word sum. Told
+    /// apart from the store's own test, which it is to contradict.
+    pub fn item_sealed(&self, item: &[u8]) -> bool {
+        let at = item.len() - 4;
+        let (before, held) = (&item[..at], u32_at(item, at));
+        match (item.len(), self.geometry.heading) {
+            (IMAGE_LEN, Heading::Second) => byte_checksum(before) == held,
+            _ => checksum(before) == held,
         }
     }
 

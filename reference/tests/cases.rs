@@ -1,11 +1,12 @@
-//! Document 01's cases K1 to K12 and its example of the program's output.
+//! Document 01's cases K1 to K12 and its example of the program's output, under both headings.
 
 mod common;
 
 use common::*;
 use reference::answer::{Answer, Class, Rebuild, Refusal, Start};
-use reference::bytes::{checksum, is_sealed};
+use reference::bytes::{byte_checksum, checksum};
 use reference::calls::{inspect, make, restart};
+use reference::heading::Heading;
 use reference::note::NoteKind;
 use reference::record::{Change, Record};
 use reference::scan::scan;
@@ -15,7 +16,7 @@ fn inspect_first(volume: &[u8], lsn: u32) -> Answer {
     let mut buffer = [0; 256];
     let answer = inspect(volume, 1, &mut buffer);
     if let Answer::Rebuilt(_) = answer {
-        assert_eq!(buffer, image(1, lsn));
+        assert_eq!(buffer, image(heading_of(volume), 1, lsn));
     }
     answer
 }
@@ -30,7 +31,7 @@ fn load_first(volume: &[u8], lsn: u32) -> Answer {
     let (state, answer) = restart(volume, &mut memory);
     assert_eq!(answer, Answer::Done);
     let (state, answer) = state.load(volume, &mut memory, 1, 1);
-    assert_eq!(memory[1_024..1_276], image(1, lsn)[..252]);
+    assert_eq!(memory[1_024..1_276], image(heading_of(volume), 1, lsn)[..252]);
     assert_eq!(memory[1_276..], [0; 4]);
     let Answer::Rebuilt(rebuild) = answer else { panic!("{answer}") };
     assert_eq!(state.frames[0].dirty, rebuild.class != Class::Good);
@@ -45,12 +46,17 @@ fn expect(volume: &[u8], lsn: u32, answer: Answer) {
 #[test]
 fn k1_checksum_of_two_words() {
     assert_eq!(checksum(&[1, 0, 2, 0]), 393_220);
+    assert_eq!(byte_checksum(&[1, 0, 2, 0]), 786_436);
 }
 
 #[test]
 fn k2_zero_image_fails() {
     assert_eq!(checksum(&[0; 252]), 8_257_537);
-    assert!(!is_sealed(&[0; 256]));
+    assert_eq!(byte_checksum(&[0; 252]), 16_515_073);
+    for heading in Heading::ALL {
+        assert!(!heading.image_sealed(&[0; 256]));
+        assert!(!heading.image_sealed(&[0xFF; 256]));
+    }
 }
 
 #[test]
@@ -65,141 +71,169 @@ fn k3_slide_twice() {
 
 #[test]
 fn k4_put_at_the_end_of_the_body() {
-    let volume = made();
-    let mut memory = vec![0; 1_280];
-    let (state, _) = restart(&volume, &mut memory);
-    let (state, _) = state.begin(&volume, &mut memory, 1, 1, 0);
-    let put = |offset| Change::Put { offset, length: 44 };
-    let (_, answer) = state.change(&volume, &mut memory, 1, put(201), [9; 44]);
-    assert_eq!(answer, Answer::Refused(Refusal::ChangeRule));
-    let (_, answer) = state.change(&volume, &mut memory, 1, put(200), [9; 44]);
-    assert_eq!(answer, Answer::Done);
-    assert_eq!(memory[1_024 + 207..1_024 + 254], [&[0][..], &[9; 44], &[0; 2]].concat());
+    for heading in Heading::ALL {
+        let volume = made(heading);
+        let mut memory = vec![0; 1_280];
+        let (state, _) = restart(&volume, &mut memory);
+        let (state, _) = state.begin(&volume, &mut memory, 1, 1, 0);
+        let put = |offset| Change::Put { offset, length: 44 };
+        let (_, answer) = state.change(&volume, &mut memory, 1, put(201), [9; 44]);
+        assert_eq!(answer, Answer::Refused(Refusal::ChangeRule));
+        let (_, answer) = state.change(&volume, &mut memory, 1, put(200), [9; 44]);
+        assert_eq!(answer, Answer::Done);
+        assert_eq!(memory[1_024 + 207..1_024 + 254], [&[0][..], &[9; 44], &[0; 2]].concat());
+    }
 }
 
 #[test]
 fn k5_length_of_a_volume() {
-    let mut volume = vec![0; 1_108];
-    assert_eq!(make(&mut volume[..1_107], COUNTS), Answer::Refused(Refusal::Volume));
-    assert_eq!(make(&mut volume, COUNTS), Answer::Done);
-    let mut memory = vec![0; 1_280];
-    assert_eq!(restart(&volume, &mut memory).1, Answer::Done);
-    let answer = restart(&volume[..1_107], &mut memory).1;
-    assert_eq!(answer, Answer::Refused(Refusal::Volume));
+    for heading in Heading::ALL {
+        let mut volume = vec![0; 1_108];
+        assert_eq!(make(&mut volume[..1_107], heading, COUNTS), Answer::Refused(Refusal::Volume));
+        assert_eq!(make(&mut volume, heading, COUNTS), Answer::Done);
+        let mut memory = vec![0; 1_280];
+        assert_eq!(restart(&volume, &mut memory).1, Answer::Done);
+        let answer = restart(&volume[..1_107], &mut memory).1;
+        assert_eq!(answer, Answer::Refused(Refusal::Volume));
+    }
 }
 
 #[test]
 fn k6_image_behind() {
-    let mut volume = with_log();
-    set_page(&mut volume, 1, &image(1, 1));
-    expect(&volume, 3, rebuilt(Class::Behind, Start::Own, 1));
+    for heading in Heading::ALL {
+        let mut volume = with_log(heading);
+        set_page(&mut volume, 1, 1);
+        expect(&volume, 3, rebuilt(Class::Behind, Start::Own, 1));
+    }
 }
 
 #[test]
 fn k7_image_stale() {
-    let mut volume = with_log();
-    set_page(&mut volume, 1, &image(1, 1));
-    set_note(&mut volume, NoteKind::Written, 3);
-    expect(&volume, 3, rebuilt(Class::Stale, Start::Own, 1));
+    for heading in Heading::ALL {
+        let mut volume = with_log(heading);
+        set_page(&mut volume, 1, 1);
+        set_note(&mut volume, NoteKind::Written, 3);
+        expect(&volume, 3, rebuilt(Class::Stale, Start::Own, 1));
+    }
 }
 
 #[test]
 fn image_at_the_written_number_is_behind() {
-    let mut volume = with_log();
-    set_page(&mut volume, 1, &image(1, 1));
-    set_note(&mut volume, NoteKind::Written, 1);
-    expect(&volume, 3, rebuilt(Class::Behind, Start::Own, 1));
+    for heading in Heading::ALL {
+        let mut volume = with_log(heading);
+        set_page(&mut volume, 1, 1);
+        set_note(&mut volume, NoteKind::Written, 1);
+        expect(&volume, 3, rebuilt(Class::Behind, Start::Own, 1));
+    }
 }
 
 #[test]
 fn k8_start_at_the_backup() {
-    let mut volume = with_log();
-    volume[geometry().slot(1)].copy_from_slice(&image(1, 3));
-    set_note(&mut volume, NoteKind::BackedUp, 3);
-    expect(&volume, 3, rebuilt(Class::Failed, Start::Backup, 0));
+    for heading in Heading::ALL {
+        let mut volume = with_log(heading);
+        set_slot(&mut volume, 3);
+        set_note(&mut volume, NoteKind::BackedUp, 3);
+        expect(&volume, 3, rebuilt(Class::Failed, Start::Backup, 0));
+    }
 }
 
 #[test]
 fn k9_start_at_the_format() {
-    expect(&with_log(), 3, rebuilt(Class::Failed, Start::Format, 2));
+    for heading in Heading::ALL {
+        expect(&with_log(heading), 3, rebuilt(Class::Failed, Start::Format, 2));
+    }
 }
 
 #[test]
 fn k10_image_above_the_log() {
-    let mut volume = with_log();
-    set_page(&mut volume, 1, &image(1, 4));
-    expect(&volume, 3, rebuilt(Class::Ahead, Start::Format, 2));
-    assert_eq!(scan(&volume), "1 AHEAD FORMAT 2\n2 FAILED FORMAT 1\n");
+    for heading in Heading::ALL {
+        let mut volume = with_log(heading);
+        set_page(&mut volume, 1, 4);
+        expect(&volume, 3, rebuilt(Class::Ahead, Start::Format, 2));
+        assert_eq!(scan(&volume), "1 AHEAD FORMAT 2\n2 FAILED FORMAT 1\n");
+    }
 }
 
 #[test]
 fn ahead_with_a_backup() {
-    let mut volume = with_log();
-    set_page(&mut volume, 1, &image(1, 5));
-    volume[geometry().slot(1)].copy_from_slice(&image(1, 3));
-    set_note(&mut volume, NoteKind::BackedUp, 3);
-    expect(&volume, 3, rebuilt(Class::Ahead, Start::Backup, 0));
+    for heading in Heading::ALL {
+        let mut volume = with_log(heading);
+        set_page(&mut volume, 1, 5);
+        set_slot(&mut volume, 3);
+        set_note(&mut volume, NoteKind::BackedUp, 3);
+        expect(&volume, 3, rebuilt(Class::Ahead, Start::Backup, 0));
+    }
 }
 
 /// Equal logs, one own image damaged: the bodies are the same, the answers are not.
 #[test]
 fn mended_and_healthy_differ_in_the_answer_only() {
-    let mut healthy = with_log();
-    set_page(&mut healthy, 2, &image(2, 2));
-    let mut mended = healthy.clone();
-    mended[geometry().page(2).start + 9] ^= 1;
-    let look = |volume: &[u8]| {
-        let mut buffer = [0; 256];
-        (inspect(volume, 2, &mut buffer), buffer)
-    };
-    assert_eq!(look(&healthy).1, look(&mended).1);
-    assert_eq!(look(&healthy).0, rebuilt(Class::Good, Start::Own, 0));
-    assert_eq!(look(&mended).0, rebuilt(Class::Failed, Start::Format, 1));
+    for heading in Heading::ALL {
+        let mut healthy = with_log(heading);
+        set_page(&mut healthy, 2, 2);
+        let mut mended = healthy.clone();
+        mended[geometry().page(2).start + 9] ^= 1;
+        let look = |volume: &[u8]| {
+            let mut buffer = [0; 256];
+            (inspect(volume, 2, &mut buffer), buffer)
+        };
+        assert_eq!(look(&healthy).1, look(&mended).1);
+        assert_eq!(look(&healthy).0, rebuilt(Class::Good, Start::Own, 0));
+        assert_eq!(look(&mended).0, rebuilt(Class::Failed, Start::Format, 1));
+    }
 }
 
 #[test]
 fn k11_torn_record() {
-    let mut volume = with_log();
-    let mut torn = record(3);
-    torn[60] ^= 1;
-    set_record(&mut volume, 3, &torn);
-    set_page(&mut volume, 1, &image(1, 1));
-    expect(&volume, 1, rebuilt(Class::Good, Start::Own, 0));
+    for heading in Heading::ALL {
+        let mut volume = with_log(heading);
+        let mut torn = record(3);
+        torn[60] ^= 1;
+        set_record(&mut volume, 3, &torn);
+        set_page(&mut volume, 1, 1);
+        expect(&volume, 1, rebuilt(Class::Good, Start::Own, 0));
+    }
 }
 
 #[test]
 fn k12_bytes_after_a_torn_record() {
-    let mut volume = with_log();
-    let mut torn = record(3);
-    torn[60] ^= 1;
-    set_record(&mut volume, 3, &torn);
-    let mut late = [0; 64];
-    late[63] = 1;
-    set_record(&mut volume, 4, &late);
-    assert_eq!(inspect_first(&volume, 1), Answer::Refused(Refusal::LogBroken));
-    let mut memory = vec![7; 1_280];
-    let (state, answer) = restart(&volume, &mut memory);
-    assert_eq!(answer, Answer::Refused(Refusal::LogBroken));
-    assert_eq!(state, reference::state::State::zero());
-    assert_eq!(memory, vec![7; 1_280]);
+    for heading in Heading::ALL {
+        let mut volume = with_log(heading);
+        let mut torn = record(3);
+        torn[60] ^= 1;
+        set_record(&mut volume, 3, &torn);
+        let mut late = [0; 64];
+        late[63] = 1;
+        set_record(&mut volume, 4, &late);
+        assert_eq!(inspect_first(&volume, 1), Answer::Refused(Refusal::LogBroken));
+        let mut memory = vec![7; 1_280];
+        let (state, answer) = restart(&volume, &mut memory);
+        assert_eq!(answer, Answer::Refused(Refusal::LogBroken));
+        assert_eq!(state, reference::state::State::zero());
+        assert_eq!(memory, vec![7; 1_280]);
+    }
 }
 
 #[test]
 fn example_output() {
-    let mut volume = with_log();
-    set_page(&mut volume, 1, &image(1, 1));
-    set_page(&mut volume, 2, &image(2, 2));
-    assert_eq!(scan(&volume), "1 BEHIND OWN 1\n2 GOOD OWN 0\n");
+    for heading in Heading::ALL {
+        let mut volume = with_log(heading);
+        set_page(&mut volume, 1, 1);
+        set_page(&mut volume, 2, 2);
+        assert_eq!(scan(&volume), "1 BEHIND OWN 1\n2 GOOD OWN 0\n");
+    }
 }
 
 #[test]
 fn scan_of_blank_and_refused_volumes() {
-    let mut volume = made();
-    set_record(&mut volume, 1, &record(1));
-    assert_eq!(scan(&volume), "1 FAILED FORMAT 1\n2 BLANK\n");
-    set_record(&mut volume, 4, &record(1));
-    assert_eq!(scan(&volume), "REFUSED 17\n");
-    assert_eq!(scan(&volume[1..]), "REFUSED 1\n");
-    assert_eq!(scan(&[]), "REFUSED 1\n");
-    assert_eq!(scan(&[0; 32_769]), "REFUSED 1\n");
+    for heading in Heading::ALL {
+        let mut volume = made(heading);
+        set_record(&mut volume, 1, &record(1));
+        assert_eq!(scan(&volume), "1 FAILED FORMAT 1\n2 BLANK\n");
+        set_record(&mut volume, 4, &record(1));
+        assert_eq!(scan(&volume), "REFUSED 17\n");
+        assert_eq!(scan(&volume[1..]), "REFUSED 1\n");
+        assert_eq!(scan(&[]), "REFUSED 1\n");
+        assert_eq!(scan(&[0; 32_769]), "REFUSED 1\n");
+    }
 }

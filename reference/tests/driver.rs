@@ -2,6 +2,7 @@
 
 use reference::cell::{decode, encode, Call, Cell, Op};
 use reference::driver::{drive, Driver};
+use reference::heading::Heading;
 use reference::record::Change;
 
 fn output(cells: &[Cell]) -> String {
@@ -13,7 +14,7 @@ fn output(cells: &[Cell]) -> String {
 #[test]
 fn lines_and_hashes() {
     let sizes = Op::Sizes { volume: 1_108, memory: 1_280, buffer: 256 };
-    let made = Op::Call(Call::Make { counts: [2, 1, 4, 4] });
+    let made = Op::Call(Call::Make { heading: Heading::First, counts: [2, 1, 4, 4] });
     let cells = [Op::Call(Call::Force), sizes, made, Op::Skip].map(|op| encode(&op));
     let rest = "m=1439761655 u=1534058852 s=2015357818";
     let expected =
@@ -38,6 +39,8 @@ fn ops_survive_encoding() {
     let bytes = [7; 44];
     let change = Change::Slide { offset: 300, length: 9 };
     for op in [
+        Op::Call(Call::Make { heading: Heading::First, counts: [1, 2, 3, 4] }),
+        Op::Call(Call::Make { heading: Heading::Second, counts: [5, 6, 7, 8] }),
         Op::Call(Call::Begin { page: 1, frame: 515, fill: 3 }),
         Op::Call(Call::Change { page: 9, change, payload: bytes }),
         Op::Call(Call::Backup { page: 2, slot: 260 }),

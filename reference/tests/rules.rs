@@ -1,4 +1,4 @@
-//! Sound states, the order of refusals, and what calls leave as it was.
+//! Under the first heading: sound states, the order of refusals, and what calls leave as it was.
 
 mod common;
 
@@ -7,6 +7,7 @@ use reference::answer::Answer;
 use reference::calls::{inspect, restart};
 use reference::cell::Call;
 use reference::driver::Driver;
+use reference::heading::Heading;
 use reference::note::NoteKind;
 use reference::record::Change;
 use reference::state::State;
@@ -16,8 +17,8 @@ const INDEX: usize = 40;
 /// A driver after a Restart of the cases' volume: page 1 failed, page 2 good, two frames.
 fn driver() -> Driver {
     let mut driver = Driver::default();
-    let mut volume = with_log();
-    set_page(&mut volume, 2, &image(2, 2));
+    let mut volume = with_log(Heading::First);
+    set_page(&mut volume, 2, 2);
     driver.volume_len = volume.len();
     driver.memory_len = 1_536;
     driver.volume[..volume.len()].copy_from_slice(&volume);
@@ -107,7 +108,7 @@ fn unsound_states() {
 #[test]
 fn at_most_sixteen_pending() {
     let state = |pending| State { pending, ..State::zero() };
-    let geometry = reference::geometry::Geometry::new([1, 0, 64, 0]).unwrap();
+    let geometry = reference::geometry::Geometry::new(Heading::First, [1, 0, 64, 0]).unwrap();
     assert!(state(16).is_sound(&geometry, 1));
     assert!(!state(17).is_sound(&geometry, 1));
 }
@@ -164,7 +165,7 @@ fn a_refusal_changes_nothing() {
 
 #[test]
 fn inspect_looks_at_the_log_before_a_blank_page() {
-    let mut volume = made();
+    let mut volume = made(Heading::First);
     let mut buffer = [0; 256];
     assert_eq!(number(inspect(&volume, 1, &mut buffer)), 7);
     assert_eq!(number(inspect(&volume, 0, &mut buffer)), 3);
@@ -192,7 +193,7 @@ fn load_refuses_a_broken_chain() {
 
 #[test]
 fn restart_takes_a_full_log_and_full_notes() {
-    let mut volume = with_log();
+    let mut volume = with_log(Heading::First);
     set_record(&mut volume, 4, &{
         let change = Change::Format { fill: 5 };
         reference::record::Record { number: 4, previous: 3, page: 1, change, payload: [0; 44] }

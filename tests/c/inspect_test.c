@@ -1,5 +1,5 @@
-/* Plays the cases K6 to K12 and every refusal of inspection through the C function. Prints a line a case; exits with 1
- * if one fails. */
+/* Plays the cases K6 to K12 and every refusal of inspection through the C functions, under each heading. Prints a line
+ * a case; exits with 1 if one fails. */
 #include "pagestore.h"
 #include "volume.h"
 
@@ -27,7 +27,7 @@ static void base(uint8_t *volume, uint32_t lsn) {
 static int failures;
 
 static void check(const char *name, int holds) {
-    printf("%s %s\n", holds ? "ok    " : "FAILED", name);
+    printf("%s %s %s\n", holds ? "ok    " : "FAILED", heading, name);
     if (!holds) failures++;
 }
 
@@ -38,7 +38,7 @@ static int shows(const uint8_t *volume, uint32_t lsn) {
     image(expected, 1, lsn, 7);
     if (lsn == 3) {
         memcpy(expected + 8, "AB", 2);
-        seal(expected, 252);
+        seal_image(expected);
     }
     return pagestore_inspect(volume, SIZE, 1, buffer, 256) == PAGESTORE_OK && memcmp(buffer, expected, 256) == 0;
 }
@@ -89,7 +89,7 @@ static void cases(uint8_t *v) {
     own[100] ^= 1;
     image(slot, 1, 3, 7);
     memcpy(slot + 8, "AB", 2);
-    seal(slot, 252);
+    seal_image(slot);
     note(first, 1, 1, BACKED_UP, 1, 3);
     check("K8  image fails, backup at 3 noted", shows(v, 3));
     check("K8: class, start and count", tells(v, PAGESTORE_FAILED, PAGESTORE_FROM_BACKUP, 0));
@@ -106,6 +106,22 @@ static void cases(uint8_t *v) {
     check("K11: class, start and count", tells(v, PAGESTORE_GOOD, PAGESTORE_FROM_OWN, 0));
     v[record_at(CASES, 4) + 5] = 1;
     check("K12 slot 3 torn, slot 4 not zero: 17", refuses(v, SIZE, 1, 256, PAGESTORE_BAD_LOG));
+}
+
+/* A word of 0000 in page 1's image at 3 reads FFFF: the byte sum is wrong, so that the page is rebuilt; the word sum
+ * does not tell them apart. */
+static void words(uint8_t *v) {
+    uint8_t buffer[256];
+    base(v, 3);
+    memset(v + page_at(1) + 8, 0, 2);
+    seal_image(v + page_at(1));
+    memset(v + page_at(1) + 8, 0xff, 2);
+    uint32_t answer = pagestore_inspect(v, SIZE, 1, buffer, 256);
+    int erased = buffer[8] == 0xff && buffer[9] == 0xff, repaired = memcmp(buffer + 8, "AB", 2) == 0;
+    check("an erased word", answer == PAGESTORE_OK && (heading[3] == 'V' ? erased : repaired));
+    base(v, 1);
+    v[3] = 'W';
+    check("an unknown heading: 1", refuses(v, SIZE, 1, 256, PAGESTORE_BAD_VOLUME));
 }
 
 static void refusals(uint8_t *v) {
@@ -160,10 +176,15 @@ static void smallest(void) {
 
 int main(void) {
     static uint8_t volume[SIZE];
-    cases(volume);
-    refusals(volume);
-    full();
-    smallest();
+    const char *headings[] = {"CHPV", "CHP2"};
+    for (int i = 0; i < 2; i++) {
+        heading = headings[i];
+        cases(volume);
+        words(volume);
+        refusals(volume);
+        full();
+        smallest();
+    }
     printf("%s\n", failures ? "some cases FAILED" : "all cases hold");
     return failures ? 1 : 0;
 }

@@ -25,9 +25,24 @@ void seal(uint8_t *item, size_t n) {
     put(item + n, b * 65536 + a, 4);
 }
 
+const char *heading = "CHP2";
+
+void seal_image(uint8_t *image) {
+    if (heading[3] == 'V') {
+        seal(image, 252);
+        return;
+    }
+    uint32_t a = 1, b = 0;
+    for (size_t i = 0; i < 252; i++) {
+        a = (a + image[i]) % 65535;
+        b = (b + a) % 65535;
+    }
+    put(image + 252, b * 65536 + a, 4);
+}
+
 void make(uint8_t *volume, struct counts c) {
     memset(volume, 0, size_of(c));
-    memcpy(volume, "CHPV", 4);
+    memcpy(volume, heading, 4);
     put(volume + page_at(1) - 4, c.pages, 4);
     put(volume + slot_at(c, 1) - 4, c.slots, 4);
     put(volume + record_at(c, 1) - 4, c.records, 4);
@@ -39,7 +54,7 @@ void image(uint8_t *at, uint32_t page, uint32_t lsn, uint8_t fill) {
     put(at, page, 2);
     put(at + 4, lsn, 4);
     memset(at + 8, fill, 244);
-    seal(at, 252);
+    seal_image(at);
 }
 
 void record(uint8_t *at, uint32_t lsn, uint32_t prev, uint32_t page, int kind, uint8_t fill, const char *bytes) {
@@ -78,5 +93,5 @@ void chain(uint8_t *volume, struct counts c, uint32_t page) {
 void chain_image(uint8_t *expected, struct counts c, uint32_t page) {
     image(expected, page, c.records, 0);
     for (uint32_t i = 0; i < 244 && i + 1 < c.records; i++) expected[8 + i] = (uint8_t)(c.records - i);
-    seal(expected, 252);
+    seal_image(expected);
 }

@@ -19,8 +19,15 @@ size_t slot_at(struct counts c, uint32_t n);
 size_t record_at(struct counts c, uint32_t n);
 size_t note_at(struct counts c, uint32_t n);
 
-/* Sets the checksum behind the first n bytes. */
+/* The heading of the volumes that are built: CHPV, under which images sum words, or CHP2, under which they sum bytes.
+ */
+extern const char *heading;
+
+/* Sets the checksum behind the first n bytes, over words. */
 void seal(uint8_t *item, size_t n);
+
+/* Sets an image's sum, by the heading. */
+void seal_image(uint8_t *image);
 
 /* Zeros, with magic and counts. */
 void make(uint8_t *volume, struct counts c);

@@ -1,7 +1,7 @@
 -- The worked histories are as written: one test, which the checker computes, and one law that turns it into what it shows of each.
 use mathlib.Core.Path.{_≡_, refl, sym, ap, ap₂, _∙_}
 use mathlib.Core.Bool.{Bool, true, false, cond, _&&_}
-use mathlib.Core.List.{List, [], _∷_}
+use mathlib.Core.List.{List, [], _∷_, _++_}
 use Prim.Native.Nat.{ℕ}
 use lib.Dec.{T, eqb, eqb→eq}
 use lib.ListN.{getD, drop}
@@ -14,7 +14,8 @@ use Rattle.model.specs.declared.change.Change.the-variants.{Format, Put, Slide}
 use Rattle.cases.specs.Opened.{opened}
 use Rattle.cases.specs.Rows.{same}
 use Rattle.cases.specs.Worked.{Worked, historyOf, joined, makes, answersOf, eventStep, taleFrom, taleOf, saysAnswers, loggedNumbers, sameChanges, pagesOf, allReplay, agrees, computes, allCompute, Computed, AllComputed}
-use Rattle.cases.specs.Histories.{histories}
+use Rattle.model.specs.declared.geometry.Heading.the-variants.{First, Second}
+use Rattle.cases.specs.Histories.{under, others, histories}
 use Rattle.cases.proofs.Steps.{machine-step, log-step, answer-step}
 use Rattle.cases.proofs.Cases.{left, right, equal}
 
@@ -108,6 +109,23 @@ all : (ws : List Worked) → T (allCompute ws) → AllComputed ws
 all [] t = tt
 all (w ∷ ws) t = (computed w (left (computes w) (allCompute ws) t), all ws (right (computes w) (allCompute ws) t))
 
+both : (ws zs : List Worked) → AllComputed ws → AllComputed zs → AllComputed (ws ++ zs)
+both [] zs a b = b
+both (w ∷ ws) zs a b = (a .0, both ws zs (a .1) b)
+
+-- each heading's by itself, since the checker bounds what one declaration may compute
+first-worked : AllComputed (under First)
+unfolding opened
+first-worked = all (under First) tt
+
+second-worked : AllComputed (under Second)
+unfolding opened
+second-worked = all (under Second) tt
+
+others-worked : AllComputed others
+unfolding opened
+others-worked = all others tt
+
 pub worked : AllComputed histories
-unfolding opened histories
-worked = all histories tt
+unfolding histories
+worked = both (under First) (under Second ++ others) first-worked (both (under Second) others second-worked others-worked)

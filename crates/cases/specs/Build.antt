@@ -6,12 +6,14 @@ use mathlib.Core.List.{List, [], _∷_, _++_, map}
 use lib.ListN.{replicate, set}
 use Rattle.model.specs.Bytes.{part}
 use Rattle.model.specs.Checksum.{sealImage}
-use Rattle.model.specs.Geometry.{emptyVolume, lengthFor}
+use Rattle.model.specs.Geometry.{tagOf, emptyVolume, lengthFor}
 use Rattle.model.specs.Item.{frameImage, noteBytes}
 use Rattle.model.specs.Calls.{StoredItem, volumeAfter, inspectOf, Call, outcomeOf}
 use Rattle.model.specs.History.{Power, off, on, Machine, Event, freshMachine, run}
 use Rattle.model.specs.Health.{reportOf}
 use Rattle.model.specs.declared.geometry.Geometry.{Geometry}
+use Rattle.model.specs.declared.geometry.Heading.{Heading}
+use Rattle.model.specs.declared.geometry.Heading.the-variants.{Second}
 use Rattle.model.specs.declared.state.Entry.{Entry}
 use Rattle.model.specs.declared.answer.Class.{Class}
 use Rattle.model.specs.declared.answer.Start.the-variants.{Own, Backup, Format}
@@ -56,15 +58,21 @@ idle = numbers Nothing
 abbrev pub entryNumbers : Entry → List ℕ
 entryNumbers e = e .last ∷ e .durable ∷ e .written ∷ e .slot ∷ e .backup ∷ []
 
--- ---- items and volumes
+-- ---- items and volumes, under a heading; where none is said it is the second, which Make writes
 
 -- K5's counts
+abbrev pub smallUnder : Heading → Geometry
+smallUnder h = record { tag = tagOf h; pages = 2; slots = 1; records = 4; notes = 4 }
+
 abbrev pub small : Geometry
-small = record { tag = 0x56; pages = 2; slots = 1; records = 4; notes = 4 }
+small = smallUnder Second
 
 -- an image of page p at a number, check set
+abbrev pub imageUnder : Heading → ℕ → ℕ → List ℕ → List ℕ
+imageUnder h p lsn body = sealImage (smallUnder h) (frameImage p lsn body)
+
 abbrev pub image : ℕ → ℕ → List ℕ → List ℕ
-image p lsn body = sealImage small (frameImage p lsn body)
+image p lsn body = imageUnder Second p lsn body
 
 -- an item torn: one byte of it is another, so that its check is wrong
 abbrev pub broken : List ℕ → List ℕ
@@ -81,8 +89,11 @@ abbrev pub storedIn : List ℕ → List StoredItem → List ℕ
 storedIn v [] = v
 storedIn v (x ∷ xs) = storedIn (volumeAfter v x) xs
 
+abbrev pub volumeUnder : Heading → List StoredItem → List ℕ
+volumeUnder h xs = storedIn (emptyVolume h 2 1 4 4) xs
+
 abbrev pub smallVolume : List StoredItem → List ℕ
-smallVolume xs = storedIn (emptyVolume 2 1 4 4) xs
+smallVolume xs = volumeUnder Second xs
 
 -- ---- inspection
 
@@ -99,8 +110,11 @@ abbrev pub memory : ℕ → List ℕ
 memory frames = replicate (1024 + 256 * frames) 0xCC
 
 -- the machine that events reach after Make with these counts
+abbrev pub reachUnder : Heading → ℕ → ℕ → ℕ → ℕ → List Event → Machine
+reachUnder h p b l n es = run (freshMachine h (replicate (lengthFor p b l n) 0xDD) p b l n) es
+
 abbrev pub reach : ℕ → ℕ → ℕ → ℕ → List Event → Machine
-reach p b l n es = run (freshMachine (replicate (lengthFor p b l n) 0xDD) p b l n) es
+reach p b l n es = reachUnder Second p b l n es
 
 -- what a call answers then; in a machine that is off there is no call
 abbrev pub askedIn : Power → List ℕ → Call → List ℕ

@@ -5,16 +5,17 @@ use mathlib.Core.Bool.{Bool}
 use mathlib.Core.List.{List, [], _∷_, _++_, map}
 use lib.ListN.{length, replicate, take, drop, set}
 use Rattle.model.specs.Bytes.{bytesOf, field, part, splice, allZero, startsWith, sameBytes}
-use Rattle.model.specs.Checksum.{checksum, withChecksum, seal, sealed, sealedRun}
+use Rattle.model.specs.Checksum.{checksum, withChecksum, seal, sealed, sealedRun, sealImage}
 use Rattle.model.specs.Geometry.{pageAt, slotAt, recordAt, noteAt, itemOf, start, geometryOf, validCounts, validVolume, emptyVolume}
 use Rattle.model.specs.Item.{validImage, validSomewhere, frameImage, recordLayout, recordBytes, encodeChange, applyRecord, noteLayout, noteBytes}
 use Rattle.model.specs.Calls.{makeOf}
 use Rattle.model.specs.declared.change.Change.the-variants.{Format, Put, Slide}
 use Rattle.model.specs.declared.geometry.Geometry.{Geometry}
+use Rattle.model.specs.declared.geometry.Heading.the-variants.{First, Second}
 use Rattle.cases.specs.Rows.{Row, row}
 use Rattle.cases.specs.Build.{bits, small, image, numbers, refused}
 
--- ---- bytes and checksum
+-- ---- bytes and the word sum
 
 abbrev ten : List ℕ
 ten = 10 ∷ 11 ∷ 12 ∷ 13 ∷ 14 ∷ 15 ∷ 16 ∷ 17 ∷ 18 ∷ 19 ∷ []
@@ -58,13 +59,16 @@ geometryRows =
     ∷ validCounts 1 0 1025 0 ∷ validCounts 1 0 1 1025 ∷ []))
     (1 ∷ 1 ∷ 0 ∷ 0 ∷ 0 ∷ 0 ∷ 0 ∷ 0 ∷ [])
     ∷ row "make"
-    (numbers (makeOf [] 0 1 4 4 .answer)
-    ++ (makeOf (9 ∷ []) 2 1 4 4 .volume ++ take 8 (makeOf (replicate 1108 9) 2 1 4 4 .volume)))
-    (refused 1 ++ (9 ∷ 0x43 ∷ 0x48 ∷ 0x50 ∷ 0x56 ∷ 2 ∷ 0 ∷ 0 ∷ 0 ∷ []))
+    (numbers (makeOf Second [] 0 1 4 4 .answer) ++ (makeOf Second (9 ∷ []) 2 1 4 4 .volume
+    ++ (take 8 (makeOf First (replicate 1108 9) 2 1 4 4 .volume)
+    ++ take 8 (makeOf Second (replicate 1108 9) 2 1 4 4 .volume))))
+    (refused 1 ++ (9 ∷ 0x43 ∷ 0x48 ∷ 0x50 ∷ 0x56 ∷ 2 ∷ 0 ∷ 0 ∷ 0 ∷ 0x43 ∷ 0x48 ∷ 0x50 ∷ 0x32 ∷ 2 ∷ 0 ∷ 0 ∷ 0 ∷ []))
     ∷ row "heading"
-    (shape (geometryOf (emptyVolume 2 3 5 7))
-    ++ bits (validVolume (emptyVolume 2 3 5 7) ∷ validVolume (set (emptyVolume 2 3 5 7) 3 0x57) ∷ []))
-    (0x56 ∷ 2 ∷ 3 ∷ 5 ∷ 7 ∷ 1 ∷ 0 ∷ [])
+    (let v = emptyVolume Second 2 3 5 7 in
+    shape (geometryOf v) ++ (shape (geometryOf (emptyVolume First 2 3 5 7))
+    ++ bits (validVolume v ∷ validVolume (set v 3 0x56) ∷ validVolume (set v 3 0x57) ∷ validVolume (set v 3 0x33)
+    ∷ validVolume (set v 2 0x51) ∷ [])))
+    (0x32 ∷ 2 ∷ 3 ∷ 5 ∷ 7 ∷ 0x56 ∷ 2 ∷ 3 ∷ 5 ∷ 7 ∷ 1 ∷ 1 ∷ 0 ∷ 0 ∷ 0 ∷ [])
     ∷ row "places"
     (start small (pageAt 2) ∷ start small (slotAt 1) ∷ start small (recordAt 2) ∷ start small (noteAt 2) ∷ [])
     (264 ∷ 524 ∷ 848 ∷ 1060 ∷ [])
@@ -99,7 +103,7 @@ layoutRows =
     (let x = image 1 3 (replicate 244 9) in
     bits
     (validImage small 1 x ∷ validImage small 2 x ∷ validImage small 1 (set x 9 8)
-    ∷ validImage small 1 (seal 252 (set x 2 1)) ∷ validImage small 1 (seal 252 (set x 3 1))
+    ∷ validImage small 1 (sealImage small (set x 2 1)) ∷ validImage small 1 (sealImage small (set x 3 1))
     ∷ validSomewhere small x ∷ validSomewhere small (image 3 3 (replicate 244 9))
     ∷ validSomewhere small (image 0 3 (replicate 244 9)) ∷ []))
     (1 ∷ 0 ∷ 0 ∷ 0 ∷ 0 ∷ 1 ∷ 0 ∷ 0 ∷ [])

@@ -8,6 +8,7 @@ pub mod Rules
 pub mod Worked
 pub mod Histories
 pub mod Orders
+pub mod Sums
 pub mod States
 pub mod Refused
 pub mod Allowed

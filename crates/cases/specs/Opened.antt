@@ -2,7 +2,7 @@
 -- `unfolding opened` computes with all of them.
 use Rattle.model.specs.Tables.{every}
 use Rattle.model.specs.Bytes.{le, bytesOf, part, splice, allZero, startsWith, sameBytes}
-use Rattle.model.specs.Checksum.{checksumFrom, withChecksum, sealed, sealedRun, withSum, sumHolds}
+use Rattle.model.specs.Checksum.{checksumFrom, byteSumFrom, sealedRun, withSum, sumHolds, imageSum, imageSealed}
 use Rattle.model.specs.Geometry.{geometryOf, validCounts, validVolume, emptyVolume, item, store}
 use Rattle.model.specs.Change.{changeOf, changeFits, applyChange}
 use Rattle.model.specs.Item.{validImage, validSomewhere, frameImage, recordOf, recordLayout, recordBytes, encodeChange, applyRecord, noteOf, noteLayout, noteBytes}
@@ -17,5 +17,5 @@ use Rattle.model.specs.History.{step, validAsNoted, storedBefore, allowed, step
 use Rattle.model.specs.Claim.{reached, logOf}
 
 unfoldable pub opened : Unit {0}
-unfolding every le bytesOf part splice allZero startsWith sameBytes checksumFrom withSum sumHolds sealedRun geometryOf validCounts validVolume emptyVolume item store changeOf changeFits applyChange validImage validSomewhere frameImage recordOf recordLayout recordBytes encodeChange applyRecord noteOf noteLayout noteBytes emptyIndex enterNote slotUsed restZero durableCount logIndex recordFits validLog noteCount noteIndex noteFollows noteFits validNotes classOf chainRecord walkFrom walkOf replayChain rebuiltBody repairOf validMemory zeroState holderFrom pendingNoteFits frameFits entryFits pageFits wellFormed makeRows restartRows beginRows loadRows changeRows forceRows writeRows backupRows noteRows inspectRows volumeAfter appendedState appendedMemory beginOf loadOf changeCall forcedState forceOf writeOf backupOf notedState noteCall restartState restartOf makeOf inspectOf replayOn lastPlaceFrom stepCall stepCut step validAsNoted storedBefore allowed stepLog freshMachine allAllowed run logAfter reached logOf
+unfolding every le bytesOf part splice allZero startsWith sameBytes checksumFrom byteSumFrom withSum sumHolds sealedRun imageSum imageSealed geometryOf validCounts validVolume emptyVolume item store changeOf changeFits applyChange validImage validSomewhere frameImage recordOf recordLayout recordBytes encodeChange applyRecord noteOf noteLayout noteBytes emptyIndex enterNote slotUsed restZero durableCount logIndex recordFits validLog noteCount noteIndex noteFollows noteFits validNotes classOf chainRecord walkFrom walkOf replayChain rebuiltBody repairOf validMemory zeroState holderFrom pendingNoteFits frameFits entryFits pageFits wellFormed makeRows restartRows beginRows loadRows changeRows forceRows writeRows backupRows noteRows inspectRows volumeAfter appendedState appendedMemory beginOf loadOf changeCall forcedState forceOf writeOf backupOf notedState noteCall restartState restartOf makeOf inspectOf replayOn lastPlaceFrom stepCall stepCut step validAsNoted storedBefore allowed stepLog freshMachine allAllowed run logAfter reached logOf
 opened = tt

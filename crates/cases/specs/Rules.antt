@@ -11,6 +11,7 @@ use Rattle.model.specs.Index.{entryOf, slotUsed}
 use Rattle.model.specs.Scan.{validLog, validNotes, indexOf}
 use Rattle.model.specs.Repair.{classOf, viewOf, walkFrom, walkOf, startOf, isBroken}
 use Rattle.model.specs.Calls.{StoredItem, oneItem, restartOf, inspectOf}
+use Rattle.model.specs.declared.geometry.Heading.the-variants.{Second}
 use Rattle.model.specs.declared.change.Change.the-variants.{Format, Put}
 use Rattle.model.specs.declared.answer.Class.the-variants.{Good, Behind, Failed}
 use Rattle.cases.specs.Rows.{Row, row}
@@ -78,7 +79,7 @@ notesKeepIn v ns = let x = storedIn v (noted ns) in bit (validNotes (geometryOf 
 -- the log of K6 with two slots and two notes
 abbrev twoSlots : List ℕ → List ℕ → List ℕ
 twoSlots n k =
-    storedIn (emptyVolume 2 2 4 4)
+    storedIn (emptyVolume Second 2 2 4 4)
     (oneItem (recordAt 1) record1 ∷ oneItem (recordAt 2) record2 ∷ oneItem (recordAt 3) record3 ∷ oneItem (noteAt 1) n
     ∷ oneItem (noteAt 2) k ∷ [])
 

@@ -15,6 +15,7 @@ use Rattle.model.specs.Calls.{StoredItem, Call, makeOf, inspectOf, restartOf, o
 use Rattle.model.specs.AbstractLog.{Logged, AbstractLog, emptyLog, lastPlace, replay, forget, stepCall}
 use Rattle.model.specs.History.{Power, off, on, Machine, Event, restart, perform, crash, crashIn, damage, lent, step, allowed, stepLog}
 use Rattle.model.specs.Claim.{History, Legal, fresh, reached, durableOf}
+use Rattle.model.specs.declared.geometry.Heading.{Heading}
 use Rattle.model.specs.declared.answer.Answer.{Answer}
 use Rattle.model.specs.declared.answer.Answer.the-variants.{Refused, Nothing, Done, Repaired}
 use Rattle.cases.specs.Rows.{same}
@@ -33,6 +34,7 @@ quiet e = told e []
 
 pub record Worked : Type 0 where
   pub name : String
+  pub heading : Heading
   pub pages : ℕ
   pub slots : ℕ
   pub records : ℕ
@@ -41,13 +43,13 @@ pub record Worked : Type 0 where
   pub durable : List Logged
   pub shows : List (List ℕ)
 
--- a history with these counts, whose Make found other bytes than zeros
-abbrev pub historyWith : ℕ → ℕ → ℕ → ℕ → List Event → History
-historyWith p b l n es =
-    record { found = replicate (lengthFor p b l n) 0xDD; pages = p; slots = b; records = l; notes = n; events = es }
+-- a history under a heading with these counts, whose Make found other bytes than zeros
+abbrev pub historyWith : Heading → ℕ → ℕ → ℕ → ℕ → List Event → History
+historyWith h p b l n es =
+    record { heading = h; found = replicate (lengthFor p b l n) 0xDD; pages = p; slots = b; records = l; notes = n; events = es }
 
 abbrev pub historyOf : Worked → History
-historyOf w = historyWith (w .pages) (w .slots) (w .records) (w .notes) (map (λ t. t .event) (w .events))
+historyOf w = historyWith (w .heading) (w .pages) (w .slots) (w .records) (w .notes) (map (λ t. t .event) (w .events))
 
 -- ---- what is found
 
@@ -166,7 +168,7 @@ allReplay (suc n) v durable = replays v durable (suc n) && allReplay n v durable
 -- ---- the test and the statement
 
 abbrev pub makes : History → ℕ
-makes h = refusalOf (makeOf (h .found) (h .pages) (h .slots) (h .records) (h .notes) .answer)
+makes h = refusalOf (makeOf (h .heading) (h .found) (h .pages) (h .slots) (h .records) (h .notes) .answer)
 
 abbrev pub answers : History → List ℕ
 answers h = joined (answersOf (fresh h) (h .events))

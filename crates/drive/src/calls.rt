@@ -1,4 +1,4 @@
-// The cells that call the store, ops 1 to 10: each call gets the lent parts of the buffers.
+// The cells that call the store, ops 1 to 10 and 21: each call gets the lent parts of the buffers.
 use crate::cell;
 use crate::session;
 use crate::session::Session;
@@ -19,11 +19,24 @@ fn make(c: &[u8], volume: &mut [u8]) -> Answer {
     )
 }
 
-// Make and Inspect, which take no state.
+// The Make of the first heading.
+fn make_first(c: &[u8], v: &mut [u8]) -> Answer {
+    Store::make_first(
+        v,
+        field::u32_at(c, 16),
+        field::u32_at(c, 20),
+        field::u32_at(c, 24),
+        field::u32_at(c, 28),
+    )
+}
+
+// Make under either heading and Inspect, which take no state.
 pub fn plain(b: Session, c: &[u8], volume: &mut [u8], lent: &mut [u8]) -> Turn {
     let n = session::least(b.volume, volume.len());
     if cell::op(c) == 1 {
         session::told(b, make(c, &mut volume[0..n]))
+    } else if cell::op(c) == 21 {
+        session::told(b, make_first(c, &mut volume[0..n]))
     } else {
         let k = session::least(b.lent, lent.len());
         session::told(

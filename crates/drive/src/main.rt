@@ -18,7 +18,7 @@ use model::answer::Answer;
 // Does what a cell says.
 fn turn(b: Session, c: &[u8], volume: &mut [u8], memory: &mut [u8], lent: &mut [u8]) -> Turn {
     let op = cell::op(c);
-    if (op == 1) | (op == 10) {
+    if (op == 1) | (op == 10) | (op == 21) {
         calls::plain(b, c, volume, lent)
     } else if (2 <= op) & (op <= 9) {
         calls::stateful(b, c, volume, memory)

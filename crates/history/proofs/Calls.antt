@@ -81,6 +81,11 @@ module _ {g : Geometry} {v m : List ℕ} {past : List StoredItem} {s : State} {k
   cut-item at xs ns′ st new t = cut-new at xs k ns′ st
   cut-item at xs ns′ st (torn ys) t = cut-torn at xs ys k ns′ st t
 
+  -- an image, summed as the volume's heading says
+  cut-image : (at : Place) (y : List ℕ) → StoreOk g v past k (x .ns) at (sealImage g y) k (x .ns) → (l : Left) → tornFits (geometryOf v) (oneItem at (sealImage (geometryOf v) y)) l ≡ true
+      → Cut (oneItem at (sealImage (geometryOf v) y)) l (record { durable = k; pending = w })
+  cut-image at y st l t = cut-item at (sealImage (geometryOf v) y) (x .ns) (rw (geo x) st) l t
+
   cut-force : (w′ : List Logged) → w ≡ w′ → (l : Left) → tornFits (geometryOf v) (forced x .stored) l ≡ true
       → Cut (forced x .stored) l (stepCut (record { durable = k; pending = w }) force l)
   unfolding stepCut
@@ -96,7 +101,7 @@ module _ {g : Geometry} {v m : List ℕ} {past : List StoredItem} {s : State} {k
 
   cut-write : (p : ℕ) → Writes x p → (l : Left) → tornFits (geometryOf v) (written x p .stored) l ≡ true → Cut (written x p .stored) l (record { durable = k; pending = w })
   cut-write p f l t = byCases (pageDirty s p)
-      (λ d. rw d (cut-item (pageAt p) (sealImage g (frameBytes m (holder s p))) (x .ns) (write-store x p (f .frame-of) (f .ready d .2)) l (rw d at t)))
+      (λ d. rw d (cut-image (pageAt p) (frameBytes m (holder s p)) (write-store x p (f .frame-of) (f .ready d .2)) l (rw d at t)))
       (λ d. rw d (cut-nothing l w))
 
   cut-note : (y : PendingNote) → PendingOk g v k (x .ns) y → (l : Left) → tornFits (geometryOf v) (noteStored v m s y .stored) l ≡ true
@@ -120,5 +125,5 @@ module _ {g : Geometry} {v m : List ℕ} {past : List StoredItem} {s : State} {k
   inv-crash (write page) l t = cut-decided (writeRows v m s page) (written x page) _ l t (λ e u. cut-write page (writes x page e) l u)
   inv-crash (backup page b) l t =
       cut-decided (backupRows v m s page b) _ _ l t
-      (λ e u. let f = backs x page b e in cut-item (slotAt b) (sealImage g (frameBytes m (holder s page))) (x .ns) (backup-store x page (f .frame-of) (f .forced-to) b (f .slot-low) (f .slot-high)) l u)
+      (λ e u. let f = backs x page b e in cut-image (slotAt b) (frameBytes m (holder s page)) (backup-store x page (f .frame-of) (f .forced-to) b (f .slot-low) (f .slot-high)) l u)
   inv-crash note l t = cut-decided (noteRows v m s) (noteStored v m s (s .note)) _ l t (λ e u. cut-note (s .note) (x .al .note-ok) l u)

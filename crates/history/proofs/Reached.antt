@@ -9,10 +9,10 @@ use lib.ListN.{length, replicate}
 use lib.Dec.{eqb}
 use borrow.Author.Tests.{eqb-true, not-true}
 use Rattle.laws.proofs.Tables.{byCases, and-left, and-right, or-cases, true-not-false}
-use Rattle.laws.proofs.Zeros.{zero-replicate, zero-fails}
+use Rattle.laws.proofs.Zeros.{zero-replicate, zero-fails, zero-image-fails}
 use Rattle.laws.proofs.EmptyVolume.{empty-geometry, empty-valid, empty-item}
-use Rattle.model.specs.Checksum.{sealed}
-use Rattle.model.specs.Geometry.{Place, pageAt, recordAt, noteAt, geometryOf, validCounts, lengthFor, emptyVolume, item}
+use Rattle.model.specs.Checksum.{imageSealed}
+use Rattle.model.specs.Geometry.{tagOf, Place, pageAt, recordAt, noteAt, geometryOf, validCounts, lengthFor, emptyVolume, item}
 use Rattle.model.specs.Item.{validImage}
 use Rattle.model.specs.Scan.{indexOf}
 use Rattle.model.specs.Refusals.{makeRows}
@@ -21,6 +21,7 @@ use Rattle.model.specs.AbstractLog.{AbstractLog, emptyLog}
 use Rattle.model.specs.History.{Power, off, on, Machine, Event, restart, perform, crash, crashIn, damage, lent, isImage, payloadFits, tornFits, passesAt, storedBefore, step, allowed, stepLog, freshMachine, allAllowed, run, logAfter}
 use Rattle.model.specs.Claim.{History, Legal, fresh, reached, logOf}
 use Rattle.model.specs.declared.geometry.Geometry.{Geometry}
+use Rattle.model.specs.declared.geometry.Heading.{Heading}
 use Rattle.model.specs.declared.state.State.{State}
 use Rattle.history.proofs.Entries.{Mark, mark-zero}
 use Rattle.history.proofs.Leaf.{valid-sealed}
@@ -67,40 +68,40 @@ module _ (g : Geometry) where
 
 -- ---- Make
 
-abbrev pub geometryFor : ℕ → ℕ → ℕ → ℕ → Geometry
-geometryFor p b l n = record { tag = 0x56; pages = p; slots = b; records = l; notes = n }
+abbrev pub geometryFor : Heading → ℕ → ℕ → ℕ → ℕ → Geometry
+geometryFor h p b l n = record { tag = tagOf h; pages = p; slots = b; records = l; notes = n }
 
-module _ (p b l n : ℕ) (ok : validCounts p b l n ≡ true) where
+module _ (h : Heading) (p b l n : ℕ) (ok : validCounts p b l n ≡ true) where
   abbrev g : Geometry
-  g = geometryFor p b l n
+  g = geometryFor h p b l n
 
-  zero-image : (q : ℕ) (at : Place) → item g (emptyVolume p b l n) at ≡ replicate 256 0 → validImage g q (item g (emptyVolume p b l n) at) ≡ true → ⊥
+  zero-image : (q : ℕ) (at : Place) → item g (emptyVolume h p b l n) at ≡ replicate 256 0 → validImage g q (item g (emptyVolume h p b l n) at) ≡ true → ⊥
   zero-image q at e t =
-      let z : sealed 252 (item g (emptyVolume p b l n) at) ≡ false = rw e (zero-fails 252 256 (omega arith)) in
-      true-not-false (valid-sealed g q (item g (emptyVolume p b l n) at) t) z
+      let z : imageSealed g (item g (emptyVolume h p b l n) at) ≡ false = rw e (zero-image-fails g) in
+      true-not-false (valid-sealed g q (item g (emptyVolume h p b l n) at) t) z
 
-  fresh-tied : Inv (geometryFor p b l n) (emptyVolume p b l n) [] off emptyLog
+  fresh-tied : Inv (geometryFor h p b l n) (emptyVolume h p b l n) [] off emptyLog
   unfolding storedBefore
   fresh-tied =
       record {
         ns = [];
         holds = record {
-          vol = record { geo = empty-geometry p b l n ok; ok = empty-valid p b l n ok };
+          vol = record { geo = empty-geometry h p b l n ok; ok = empty-valid h p b l n ok };
           room = omega arith;
           fair = λ i h. absurd (omega arith);
           log = λ i h. absurd (omega arith);
           tail = record {
-            gap = λ h. rw (empty-item p b l n g refl refl refl refl (recordAt 1) (omega arith)) (zero-fails 60 64 (omega arith));
-            rest = λ i h z. rw (empty-item p b l n g refl refl refl refl (recordAt i) (omega arith)) (zero-replicate 64);
+            gap = λ j. rw (empty-item h p b l n g refl refl refl refl (recordAt 1) (omega arith)) (zero-fails 60 64 (omega arith));
+            rest = λ i j z. rw (empty-item h p b l n g refl refl refl refl (recordAt i) (omega arith)) (zero-replicate 64);
           };
-          images = λ q lo hi t. absurd (zero-image q (pageAt q) (empty-item p b l n g refl refl refl refl (pageAt q) (lo, hi)) t);
+          images = λ q lo hi t. absurd (zero-image q (pageAt q) (empty-item h p b l n g refl refl refl refl (pageAt q) (lo, hi)) t);
         };
         noted = record {
           few = omega arith;
           each = λ i h. absurd (omega arith);
           tail = record {
-            gap = λ h. rw (empty-item p b l n g refl refl refl refl (noteAt 1) (omega arith)) (zero-fails 12 16 (omega arith));
-            rest = λ i h z. rw (empty-item p b l n g refl refl refl refl (noteAt i) (omega arith)) (zero-replicate 16);
+            gap = λ j. rw (empty-item h p b l n g refl refl refl refl (noteAt 1) (omega arith)) (zero-fails 12 16 (omega arith));
+            rest = λ i j z. rw (empty-item h p b l n g refl refl refl refl (noteAt i) (omega arith)) (zero-replicate 16);
           };
           fit = λ i h. absurd (omega arith);
           backups = λ q lo hi z. absurd (z (ap (λ (k : Mark). k .slot) (mark-zero q [])));
@@ -113,13 +114,13 @@ module _ (p b l n : ℕ) (ok : validCounts p b l n ≡ true) where
       none at xs e = true-not-false e refl
 
 -- a Make that is not refused
-pub record Made (found : List ℕ) (p b l n : ℕ) : Type 0 where
+pub record Made (h : Heading) (found : List ℕ) (p b l n : ℕ) : Type 0 where
   pub counts : validCounts p b l n ≡ true
-  pub volume-is : makeOf found p b l n .volume ≡ emptyVolume p b l n
+  pub volume-is : makeOf h found p b l n .volume ≡ emptyVolume h p b l n
 
-made : (found : List ℕ) (p b l n : ℕ) → refusalOf (makeOf found p b l n .answer) ≡ 0 → Made found p b l n
+made : (h : Heading) (found : List ℕ) (p b l n : ℕ) → refusalOf (makeOf h found p b l n .answer) ≡ 0 → Made h found p b l n
 unfolding makeOf makeRows
-made found p b l n e = byCases (validCounts p b l n && eqb (length found) (lengthFor p b l n))
+made h found p b l n e = byCases (validCounts p b l n && eqb (length found) (lengthFor p b l n))
     (λ t. record { counts = and-left (validCounts p b l n) (eqb (length found) (lengthFor p b l n)) t; volume-is = rw t })
     (λ t. absurd (let z : 1 ≡ 0 = rw t at e in omega arith))
 
@@ -127,15 +128,15 @@ made found p b l n e = byCases (validCounts p b l n && eqb (length found) (lengt
 
 -- the geometry that Make was given
 abbrev pub madeWith : History → Geometry
-madeWith h = geometryFor (h .pages) (h .slots) (h .records) (h .notes)
+madeWith h = geometryFor (h .heading) (h .pages) (h .slots) (h .records) (h .notes)
 
 module _ (h : History) (legal : Legal h) where
-  mk : Made (h .found) (h .pages) (h .slots) (h .records) (h .notes)
-  mk = made (h .found) (h .pages) (h .slots) (h .records) (h .notes) (legal .make)
+  mk : Made (h .heading) (h .found) (h .pages) (h .slots) (h .records) (h .notes)
+  mk = made (h .heading) (h .found) (h .pages) (h .slots) (h .records) (h .notes) (legal .make)
 
   start-tied : Tied (madeWith h) (fresh h) emptyLog
   unfolding freshMachine
-  start-tied = rw (mk .volume-is) (fresh-tied (h .pages) (h .slots) (h .records) (h .notes) (mk .counts))
+  start-tied = rw (mk .volume-is) (fresh-tied (h .heading) (h .pages) (h .slots) (h .records) (h .notes) (mk .counts))
 
   pub tied : Tied (madeWith h) (reached h) (logOf h)
   unfolding reached logOf

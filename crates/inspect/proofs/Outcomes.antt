@@ -10,7 +10,7 @@ use borrow.Author.Tests.{eq-eqb, ne-eqb, eqb-true, eqb-false, not-false}
 use Rattle.laws.proofs.Tables.{Numbered, none-at, within-bounds}
 use Rattle.repair.proofs.Scanned.{scanned-ready}
 use Rattle.model.specs.Tables.{Row, firstOf, within}
-use Rattle.model.specs.Checksum.{seal}
+use Rattle.model.specs.Checksum.{sealImage}
 use Rattle.model.specs.Geometry.{geometryOf, validVolume}
 use Rattle.model.specs.Index.{entryOf}
 use Rattle.model.specs.Scan.{validLog, validNotes, indexOf}
@@ -82,12 +82,12 @@ module _ (v : List ℕ) (page : ℕ) (b : List ℕ) where
       }
 
   pub done : (g : Geometry) (e : Entry) (r : Repair) (x y : List ℕ) → g ≡ geometryOf v → Open g e → firstOf (inspectRows v page (length b)) ≡ 0
-      → r ≡ repairOf g page (viewOf g v e page) → x ≡ rebuilt g page (viewOf g v e page) → y ≡ seal 252 x
+      → r ≡ repairOf g page (viewOf g v e page) → x ≡ rebuilt g page (viewOf g v e page) → y ≡ sealImage g x
       → (Repaired r ≡ inspectOf v page b .answer) × (y ≡ inspectOf v page b .buffer)
   unfolding inspectOf
   done g e r x y eg o h er ex ey =
       rw (eq-eqb (firstOf (inspectRows v page (length b))) 0 h)
-      (ap Repaired (er ∙ same (λ k q. repairOf k page (viewOf k v q page))), ey ∙ ap (seal 252) (ex ∙ same (λ k q. rebuilt k page (viewOf k v q page))))
+      (ap Repaired (er ∙ same (λ k q. repairOf k page (viewOf k v q page))), ey ∙ ap (sealImage g) ex ∙ same (λ k q. sealImage k (rebuilt k page (viewOf k v q page))))
     where
       same : {A : Type 0} (f : Geometry → Entry → A) → f g e ≡ f (geometryOf v) (entryOf (indexOf (geometryOf v) v) page)
       same f = ap (λ (k : Geometry). f k e) eg ∙ ap (f (geometryOf v)) (o .entry)

@@ -7,7 +7,7 @@ ghost use Rattle.model.specs.Calls.{inspectOf, refusalOf};
 
 pub mod examine;
 
-use codec::checksum;
+use item::image;
 use model::answer::Answer;
 use repair::answer;
 use repair::rebuild;
@@ -46,7 +46,7 @@ pub fn inspect(volume: &[u8], page: u32, buffer: &mut [u8]) -> Answer
     }
     let walked = walk::walk(volume, g, e, page);
     rebuild::rebuild(volume, g, e, page, walked, buffer);
-    checksum::set(buffer, 252);
+    image::seal(buffer, g);
     Answer::Repaired(answer::answer(volume, g, e, page, walked))
 }
 

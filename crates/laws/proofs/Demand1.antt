@@ -28,6 +28,7 @@ use Rattle.model.specs.Index.{slotUsed}
 use Rattle.model.specs.Calls.{StoredItem, nothing, oneItem, Outcome, volumeAfter, unchanged, decided, beginOf, loadOf, changeCall, forceOf, writeOf, backupOf, noteCall, noteStored, restartOf, makeOf, inspectOf, refusalOf, Call, begin, load, change, force, write, backup, note, rowsOf, outcomeOf, Made, Inspected}
 use Rattle.model.specs.Demand1.{Decides, ByTable, StoresItem, DiffersAt, AtMostOneItem, Keeps, Arrays, Demand1}
 use Rattle.model.specs.declared.geometry.Geometry.{Geometry}
+use Rattle.model.specs.declared.geometry.Heading.{Heading}
 use Rattle.model.specs.declared.state.State.{State}
 use Rattle.model.specs.declared.state.PendingNote.{PendingNote}
 use Rattle.model.specs.declared.state.PendingNote.the-variants.{Absent, Present}
@@ -264,11 +265,11 @@ call-keeps (write page) v m s a = keeps (write-keeps v m s page a)
 call-keeps (backup page slot) v m s a = keeps (backup-keeps v m s page slot a)
 call-keeps note v m s a = keeps (note-keeps v m s)
 
-make-keeps : (v : List ℕ) (p b l n : ℕ) → ByTable (makeRows v p b l n) (refusalOf (makeOf v p b l n .answer)) × (refusalOf (makeOf v p b l n .answer) ≢ 0 → makeOf v p b l n .volume ≡ v)
+make-keeps : (h : Heading) (v : List ℕ) (p b l n : ℕ) → ByTable (makeRows v p b l n) (refusalOf (makeOf h v p b l n .answer)) × (refusalOf (makeOf h v p b l n .answer) ≢ 0 → makeOf h v p b l n .volume ≡ v)
 unfolding makeOf makeRows
-make-keeps v p b l n =
+make-keeps h v p b l n =
     let rows : List Row = (not (validCounts p b l n && eqb (length v) (lengthFor p b l n)), 1) ∷ [] in
-    let e : refusalOf (makeOf v p b l n .answer) ≡ firstOf rows =
+    let e : refusalOf (makeOf h v p b l n .answer) ≡ firstOf rows =
     byCases (eqb (firstOf rows) 0) (λ t. rw t (sym (eqb-true _ _ t))) (λ t. rw t) in (
       by-table rows (eqb-false 1 0 refl, tt) _ e,
       λ h. ap (λ (o : Made). o .volume) (when-false _ _ (ne-eqb (firstOf rows) 0 (λ z. h (e ∙ z)))),

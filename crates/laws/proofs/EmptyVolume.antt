@@ -13,8 +13,10 @@ use Rattle.laws.proofs.Fields.{bytesOf-length, field-back}
 use Rattle.laws.proofs.Zeros.{zeros, drop-zeros, take-zeros}
 use Rattle.laws.proofs.Places.{In, Counts, counts-bounds}
 use Rattle.model.specs.Bytes.{le, bytesOf, field, byteAt, part, startsWith}
-use Rattle.model.specs.Geometry.{magic, slotCountAt, recordCountAt, noteCountAt, lengthFor, pagesOf, slotsOf, recordsOf, notesOf, geometryOf, validCounts, validVolume, emptyVolume, Place, pageAt, slotAt, recordAt, noteAt, width, start, item}
+use Rattle.model.specs.Geometry.{tagOf, magic, knownMagic, slotCountAt, recordCountAt, noteCountAt, lengthFor, pagesOf, slotsOf, recordsOf, notesOf, geometryOf, validCounts, validVolume, emptyVolume, Place, pageAt, slotAt, recordAt, noteAt, width, start, item}
 use Rattle.model.specs.declared.geometry.Geometry.{Geometry}
+use Rattle.model.specs.declared.geometry.Heading.{Heading}
+use Rattle.model.specs.declared.geometry.Heading.the-variants.{First, Second}
 
 -- a part within zeros that stand behind l
 part-behind : (l r : List ℕ) (m k w at : ℕ) → at ≡ length l + k → k + w ≤ m → part (l ++ (zeros m ++ r)) at w ≡ zeros w
@@ -26,10 +28,16 @@ part-behind l r m k w at e h =
     ∙ ap (take w) (drop-append-add l (zeros m ++ r) k ∙ drop-append-le k (zeros m) r a ∙ ap (λ (z : List ℕ). z ++ r) (drop-zeros k m (omega arith)))
     ∙ take-append-le w (zeros (m - k)) r b ∙ take-zeros w (m - k) (omega arith)
 
-module _ (p b l n : ℕ) where
+-- it starts with a known magic
+starts : (h : Heading) (p b l n : ℕ) → knownMagic (emptyVolume h p b l n) ≡ true
+unfolding startsWith emptyVolume
+starts First p b l n = refl
+starts Second p b l n = refl
+
+module _ (h : Heading) (p b l n : ℕ) where
   -- what stands before each section
   before-pages : List ℕ
-  before-pages = magic ++ bytesOf 4 p
+  before-pages = magic h ++ bytesOf 4 p
 
   before-slot-count : List ℕ
   before-slot-count = before-pages ++ zeros (256 * p)
@@ -62,31 +70,31 @@ module _ (p b l n : ℕ) where
   pages-on : List ℕ
   pages-on = zeros (256 * p) ++ (bytesOf 4 b ++ slots-on)
 
-  at-pages : emptyVolume p b l n ≡ before-pages ++ pages-on
+  at-pages : emptyVolume h p b l n ≡ before-pages ++ pages-on
   unfolding emptyVolume before-pages pages-on slots-on records-on notes-on
   at-pages = rw (append-nil (zeros (16 * n)))
 
-  at-slot-count : emptyVolume p b l n ≡ before-slot-count ++ (bytesOf 4 b ++ slots-on)
+  at-slot-count : emptyVolume h p b l n ≡ before-slot-count ++ (bytesOf 4 b ++ slots-on)
   unfolding before-slot-count pages-on
   at-slot-count = at-pages ∙ sym (append-assoc before-pages (zeros (256 * p)) (bytesOf 4 b ++ slots-on))
 
-  at-slots : emptyVolume p b l n ≡ before-slots ++ slots-on
+  at-slots : emptyVolume h p b l n ≡ before-slots ++ slots-on
   unfolding before-slots
   at-slots = at-slot-count ∙ sym (append-assoc before-slot-count (bytesOf 4 b) slots-on)
 
-  at-record-count : emptyVolume p b l n ≡ before-record-count ++ (bytesOf 4 l ++ records-on)
+  at-record-count : emptyVolume h p b l n ≡ before-record-count ++ (bytesOf 4 l ++ records-on)
   unfolding before-record-count slots-on
   at-record-count = at-slots ∙ sym (append-assoc before-slots (zeros (256 * b)) (bytesOf 4 l ++ records-on))
 
-  at-records : emptyVolume p b l n ≡ before-records ++ records-on
+  at-records : emptyVolume h p b l n ≡ before-records ++ records-on
   unfolding before-records
   at-records = at-record-count ∙ sym (append-assoc before-record-count (bytesOf 4 l) records-on)
 
-  at-note-count : emptyVolume p b l n ≡ before-note-count ++ (bytesOf 4 n ++ notes-on)
+  at-note-count : emptyVolume h p b l n ≡ before-note-count ++ (bytesOf 4 n ++ notes-on)
   unfolding before-note-count records-on
   at-note-count = at-records ∙ sym (append-assoc before-records (zeros (64 * l)) (bytesOf 4 n ++ notes-on))
 
-  at-notes : emptyVolume p b l n ≡ before-notes ++ notes-on
+  at-notes : emptyVolume h p b l n ≡ before-notes ++ notes-on
   unfolding before-notes
   at-notes = at-note-count ∙ sym (append-assoc before-note-count (bytesOf 4 n) notes-on)
 
@@ -119,7 +127,7 @@ module _ (p b l n : ℕ) where
   unfolding before-notes
   len-notes = length-append before-note-count (bytesOf 4 n) ∙ rw (len-note-count, bytesOf-length) (omega arith)
 
-  pub empty-length : length (emptyVolume p b l n) ≡ lengthFor p b l n
+  pub empty-length : length (emptyVolume h p b l n) ≡ lengthFor p b l n
   unfolding notes-on
   empty-length = ap length at-notes ∙ length-append before-notes notes-on ∙ rw (len-notes, append-nil (zeros (16 * n)), length-replicate)
 
@@ -127,52 +135,48 @@ module _ (p b l n : ℕ) where
     bounds : Counts p b l n
     bounds = counts-bounds p b l n ok
 
-    pages-is : pagesOf (emptyVolume p b l n) ≡ p
+    pages-is : pagesOf (emptyVolume h p b l n) ≡ p
     unfolding emptyVolume
-    pages-is = field-back 4 p magic _ 4 refl (omega (arith, bounds .p-high))
+    pages-is = field-back 4 p (magic h) _ 4 refl (omega (arith, bounds .p-high))
 
-    slots-is : field 4 (slotCountAt p) (emptyVolume p b l n) ≡ b
+    slots-is : field 4 (slotCountAt p) (emptyVolume h p b l n) ≡ b
     slots-is = ap (field 4 (slotCountAt p)) at-slot-count ∙ field-back 4 b before-slot-count slots-on (slotCountAt p) len-slot-count (omega (arith, bounds .b-high))
 
-    records-is : field 4 (recordCountAt p b) (emptyVolume p b l n) ≡ l
+    records-is : field 4 (recordCountAt p b) (emptyVolume h p b l n) ≡ l
     records-is =
         ap (field 4 (recordCountAt p b)) at-record-count
         ∙ field-back 4 l before-record-count records-on (recordCountAt p b) len-record-count (omega (arith, bounds .l-high))
 
-    notes-is : field 4 (noteCountAt p b l) (emptyVolume p b l n) ≡ n
+    notes-is : field 4 (noteCountAt p b l) (emptyVolume h p b l n) ≡ n
     notes-is =
         ap (field 4 (noteCountAt p b l)) at-note-count
         ∙ field-back 4 n before-note-count notes-on (noteCountAt p b l) len-note-count (omega (arith, bounds .n-high))
 
-    tag-is : byteAt (emptyVolume p b l n) 3 ≡ 0x56
+    tag-is : byteAt (emptyVolume h p b l n) 3 ≡ tagOf h
     unfolding emptyVolume
     tag-is = refl
 
-    slots-is′ : slotsOf (emptyVolume p b l n) ≡ b
-    slots-is′ = ap (λ (k : ℕ). field 4 (slotCountAt k) (emptyVolume p b l n)) pages-is ∙ slots-is
+    slots-is′ : slotsOf (emptyVolume h p b l n) ≡ b
+    slots-is′ = ap (λ (k : ℕ). field 4 (slotCountAt k) (emptyVolume h p b l n)) pages-is ∙ slots-is
 
-    records-is′ : recordsOf (emptyVolume p b l n) ≡ l
+    records-is′ : recordsOf (emptyVolume h p b l n) ≡ l
     records-is′ =
-        ap (λ (k : ℕ). field 4 (recordCountAt k (slotsOf (emptyVolume p b l n))) (emptyVolume p b l n)) pages-is
-        ∙ ap (λ (k : ℕ). field 4 (recordCountAt p k) (emptyVolume p b l n)) slots-is′ ∙ records-is
+        ap (λ (k : ℕ). field 4 (recordCountAt k (slotsOf (emptyVolume h p b l n))) (emptyVolume h p b l n)) pages-is
+        ∙ ap (λ (k : ℕ). field 4 (recordCountAt p k) (emptyVolume h p b l n)) slots-is′ ∙ records-is
 
-    notes-is′ : notesOf (emptyVolume p b l n) ≡ n
+    notes-is′ : notesOf (emptyVolume h p b l n) ≡ n
     notes-is′ =
-        ap (λ (k : ℕ). field 4 (noteCountAt k (slotsOf (emptyVolume p b l n)) (recordsOf (emptyVolume p b l n))) (emptyVolume p b l n)) pages-is
-        ∙ ap (λ (k : ℕ). field 4 (noteCountAt p k (recordsOf (emptyVolume p b l n))) (emptyVolume p b l n)) slots-is′
-        ∙ ap (λ (k : ℕ). field 4 (noteCountAt p b k) (emptyVolume p b l n)) records-is′ ∙ notes-is
+        ap (λ (k : ℕ). field 4 (noteCountAt k (slotsOf (emptyVolume h p b l n)) (recordsOf (emptyVolume h p b l n))) (emptyVolume h p b l n)) pages-is
+        ∙ ap (λ (k : ℕ). field 4 (noteCountAt p k (recordsOf (emptyVolume h p b l n))) (emptyVolume h p b l n)) slots-is′
+        ∙ ap (λ (k : ℕ). field 4 (noteCountAt p b k) (emptyVolume h p b l n)) records-is′ ∙ notes-is
 
     -- the geometry is what Make was given
-    pub empty-geometry : _≡_ {A = Geometry} (geometryOf (emptyVolume p b l n)) (record { tag = 0x56; pages = p; slots = b; records = l; notes = n })
+    pub empty-geometry : _≡_ {A = Geometry} (geometryOf (emptyVolume h p b l n)) (record { tag = tagOf h; pages = p; slots = b; records = l; notes = n })
     unfolding geometryOf
     empty-geometry = λ i. record { tag = tag-is i; pages = pages-is i; slots = slots-is′ i; records = records-is′ i; notes = notes-is′ i }
 
-    starts : startsWith magic (emptyVolume p b l n) ≡ true
-    unfolding startsWith emptyVolume
-    starts = refl
-
     four : (t : ℕ → ℕ → ℕ → ℕ → Bool)
-        → t (pagesOf (emptyVolume p b l n)) (slotsOf (emptyVolume p b l n)) (recordsOf (emptyVolume p b l n)) (notesOf (emptyVolume p b l n)) ≡ t p b l n
+        → t (pagesOf (emptyVolume h p b l n)) (slotsOf (emptyVolume h p b l n)) (recordsOf (emptyVolume h p b l n)) (notesOf (emptyVolume h p b l n)) ≡ t p b l n
     four t =
         let e₁ = pages-is in
         let e₂ = slots-is′ in
@@ -180,28 +184,28 @@ module _ (p b l n : ℕ) where
         let e₄ = notes-is′ in
         cc
 
-    pub empty-valid : validVolume (emptyVolume p b l n) ≡ true
+    pub empty-valid : validVolume (emptyVolume h p b l n) ≡ true
     unfolding validVolume
     empty-valid =
-        let v = emptyVolume p b l n in
+        let v = emptyVolume h p b l n in
         all-holds
-        (startsWith magic v ∷ validCounts (pagesOf v) (slotsOf v) (recordsOf v) (notesOf v)
+        (knownMagic v ∷ validCounts (pagesOf v) (slotsOf v) (recordsOf v) (notesOf v)
         ∷ eqb (length v) (lengthFor (pagesOf v) (slotsOf v) (recordsOf v) (notesOf v)) ∷ []) (
-          starts,
+          starts h p b l n,
           (
             four validCounts ∙ ok,
-            (four (λ x y z w. eqb (length (emptyVolume p b l n)) (lengthFor x y z w)) ∙ eq-eqb _ _ empty-length, tt),
+            (four (λ x y z w. eqb (length (emptyVolume h p b l n)) (lengthFor x y z w)) ∙ eq-eqb _ _ empty-length, tt),
           ),
         )
 
   -- every item of it is zero
-  pub empty-item : (g : Geometry) → g .pages ≡ p → g .slots ≡ b → g .records ≡ l → g .notes ≡ n → (at : Place) → In g at → item g (emptyVolume p b l n) at ≡ zeros (width at)
+  pub empty-item : (g : Geometry) → g .pages ≡ p → g .slots ≡ b → g .records ≡ l → g .notes ≡ n → (at : Place) → In g at → item g (emptyVolume h p b l n) at ≡ zeros (width at)
   unfolding item pages-on slots-on records-on notes-on
-  empty-item g ep eb el en (pageAt i) h =
+  empty-item g ep eb el en (pageAt i) k =
       ap (λ (z : List ℕ). part z (start g (pageAt i)) 256) at-pages ∙ part-behind before-pages _ (256 * p) (256 * (i - 1)) 256 _ (omega (arith, len-pages)) (omega arith)
-  empty-item g ep eb el en (slotAt i) h =
+  empty-item g ep eb el en (slotAt i) k =
       ap (λ (z : List ℕ). part z (start g (slotAt i)) 256) at-slots ∙ part-behind before-slots _ (256 * b) (256 * (i - 1)) 256 _ (omega (arith, len-slots)) (omega arith)
-  empty-item g ep eb el en (recordAt i) h =
+  empty-item g ep eb el en (recordAt i) k =
       ap (λ (z : List ℕ). part z (start g (recordAt i)) 64) at-records ∙ part-behind before-records _ (64 * l) (64 * (i - 1)) 64 _ (omega (arith, len-records)) (omega arith)
-  empty-item g ep eb el en (noteAt i) h =
+  empty-item g ep eb el en (noteAt i) k =
       ap (λ (z : List ℕ). part z (start g (noteAt i)) 16) at-notes ∙ part-behind before-notes _ (16 * n) (16 * (i - 1)) 16 _ (omega (arith, len-notes)) (omega arith)

@@ -13,3 +13,4 @@ pub mod EmptyVolume
 pub mod WellFormed
 pub mod Demand1
 pub mod Health
+pub mod Detection

@@ -16,8 +16,9 @@ use Rattle.laws.proofs.Parts.{part-at, part-length, splice-length, part
 use Rattle.laws.proofs.Fields.{le-take}
 use Rattle.model.specs.Tables.{all, within}
 use Rattle.model.specs.Bytes.{le, field, byteAt, part, splice, startsWith}
-use Rattle.model.specs.Geometry.{magic, slotCountAt, recordCountAt, noteCountAt, lengthFor, pagesOf, slotsOf, recordsOf, notesOf, geometryOf, validCounts, validVolume, Place, pageAt, slotAt, recordAt, noteAt, itemOf, width, start, item, store}
+use Rattle.model.specs.Geometry.{magic, knownMagic, slotCountAt, recordCountAt, noteCountAt, lengthFor, pagesOf, slotsOf, recordsOf, notesOf, geometryOf, validCounts, validVolume, Place, pageAt, slotAt, recordAt, noteAt, itemOf, width, start, item, store}
 use Rattle.model.specs.declared.geometry.Geometry.{Geometry}
+use Rattle.model.specs.declared.geometry.Heading.the-variants.{First, Second}
 
 -- the length of a volume of this geometry
 abbrev pub total : Geometry → ℕ
@@ -106,7 +107,7 @@ field-of-part n b v = sym (le-take n n (drop b v) (omega arith))
 
 -- a valid volume: its magic, its counts and its length
 pub record Valid (v : List ℕ) : Type 0 where
-  pub heading : startsWith magic v ≡ true
+  pub heading : knownMagic v ≡ true
   pub counts : validCounts (pagesOf v) (slotsOf v) (recordsOf v) (notesOf v) ≡ true
   pub p-low : 1 ≤ geometryOf v .pages
   pub p-high : geometryOf v .pages ≤ 64
@@ -142,7 +143,7 @@ counts-bounds p b l n h =
 pub valid-facts : (v : List ℕ) → validVolume v ≡ true → Valid v
 unfolding validVolume geometryOf
 valid-facts v h =
-    let tests = startsWith magic v ∷ validCounts (pagesOf v) (slotsOf v) (recordsOf v) (notesOf v)
+    let tests = knownMagic v ∷ validCounts (pagesOf v) (slotsOf v) (recordsOf v) (notesOf v)
     ∷ eqb (length v) (lengthFor (pagesOf v) (slotsOf v) (recordsOf v) (notesOf v)) ∷ [] in
     let c = counts-bounds (pagesOf v) (slotsOf v) (recordsOf v) (notesOf v) (all-at tests 1 h) in
     record {
@@ -265,11 +266,11 @@ module _ (v : List ℕ) (ok : validVolume v ≡ true) (at : Place) (xs : List �
   valid-store =
       let c = counts-kept in
       let f = valid-facts v ok in
-      let s : startsWith magic after ≡ true = starts-take magic after v four-kept ∙ f .heading in
+      let s : knownMagic after ≡ true = rw (starts-take (magic First) after v four-kept, starts-take (magic Second) after v four-kept) (f .heading) in
       let n : length after ≡ length v = store-length (geometryOf v) v size at xs h e in
       let k : validCounts (pagesOf after) (slotsOf after) (recordsOf after) (notesOf after) ≡ true =
       same-four validCounts (c .0) (c .1) (c .2) (c .3) ∙ f .counts in
       let z : eqb (length after) (lengthFor (pagesOf after) (slotsOf after) (recordsOf after) (notesOf after)) ≡ true =
       same-four (λ p b l k. eqb (length after) (lengthFor p b l k)) (c .0) (c .1) (c .2) (c .3) ∙ eq-eqb _ _ (n ∙ counted) in
-      all-holds (startsWith magic after ∷ validCounts (pagesOf after) (slotsOf after) (recordsOf after) (notesOf after)
+      all-holds (knownMagic after ∷ validCounts (pagesOf after) (slotsOf after) (recordsOf after) (notesOf after)
       ∷ eqb (length after) (lengthFor (pagesOf after) (slotsOf after) (recordsOf after) (notesOf after)) ∷ []) (s, (k, (z, tt)))

@@ -1,10 +1,11 @@
-// Functions for the benchmark, called from outside: the checksum of a part, and cycles of calls on a made volume.
+// Functions for the benchmark, called from outside: the two sums of a part, and cycles of calls on a made volume.
 ghost use mathlib.Core.Path.{_≡_};
 ghost use mathlib.Core.Bool.{cond};
 ghost use Prim.Native.Nat.{_≤_};
 ghost use lib.Dec.{leb};
-ghost use Rattle.model.specs.Checksum.{checksum};
+ghost use Rattle.model.specs.Checksum.{checksum, byteSum};
 ghost use Rattle.measure.specs.Cycles.{isRefused, commandAt, cycled};
+use codec::byte_sum;
 use codec::checksum;
 use model::answer::Answer;
 use model::change::Change;
@@ -17,6 +18,14 @@ pub extern "C" fn pagestore_checksum(part: &[u8]) -> u32
     ensures { λ r. ⌜ r ≡ checksum (now (part .entry)) ⌝ }
 {
     checksum::sum(part)
+}
+
+// The byte sum of bytes. Ruled out: the word sum; a last byte left out.
+#[no_mangle]
+pub extern "C" fn pagestore_byte_sum(part: &[u8]) -> u32
+    ensures { λ r. ⌜ r ≡ byteSum (now (part .entry)) ⌝ }
+{
+    byte_sum::sum(part)
 }
 
 // 1 for a refusal.

@@ -16,6 +16,7 @@ use Rattle.model.specs.Scan.{durableCount, noteCount, indexOf}
 use Rattle.model.specs.Repair.{viewOf, repairOf, rebuilt, classIn}
 use Rattle.model.specs.State.{pendingAt, pendingBytes, frameAt, frameBytes, zeroState, emptyFrame, lastNumber, lastNote, holder}
 use Rattle.model.specs.Refusals.{pageDirty, makeRows, restartRows, beginRows, loadRows, changeRows, forceRows, writeRows, backupRows, noteRows, inspectRows}
+use Rattle.model.specs.declared.geometry.Heading.{Heading}
 use Rattle.model.specs.declared.change.Change.{Change}
 use Rattle.model.specs.declared.change.Change.the-variants.{Format}
 use Rattle.model.specs.declared.item.Note.{Note}
@@ -227,11 +228,12 @@ pub record Made : Type 0 where
   pub answer : Answer
   pub volume : List ℕ
 
--- Make: "writes headings and zeros"
-unfoldable pub makeOf : List ℕ → ℕ → ℕ → ℕ → ℕ → Made
-makeOf v p b l n =
+-- Make: "writes headings and zeros", the heading first of them. A call asks for the second heading; the first is left for histories that
+-- begin with it.
+unfoldable pub makeOf : Heading → List ℕ → ℕ → ℕ → ℕ → ℕ → Made
+makeOf h v p b l n =
     let no = firstOf (makeRows v p b l n) in
-    cond (eqb no 0) (record { answer = Done; volume = emptyVolume p b l n }) (record { answer = Refused no; volume = v })
+    cond (eqb no 0) (record { answer = Done; volume = emptyVolume h p b l n }) (record { answer = Refused no; volume = v })
 
 -- what Inspect leaves
 pub record Inspected : Type 0 where

@@ -14,10 +14,12 @@ use Rattle.model.specs.State.{frameBytes}
 use Rattle.model.specs.Calls.{makeOf, inspectOf, loadOf, refusalOf}
 use Rattle.model.specs.AbstractLog.{Logged, AbstractLog, emptyLog, replay, lastPlace}
 use Rattle.model.specs.History.{Power, off, on, Machine, Event, freshMachine, allAllowed, run, logAfter}
+use Rattle.model.specs.declared.geometry.Heading.{Heading}
 use Rattle.model.specs.declared.state.State.{State}
 
--- A whole history: what Make was given, and the events after it.
+-- A whole history: what Make was given, and the events after it. "A history may still begin with the Make of the first heading."
 pub record History : Type 0 where
+  pub heading : Heading
   pub found : List ℕ
   pub pages : ℕ
   pub slots : ℕ
@@ -26,11 +28,11 @@ pub record History : Type 0 where
   pub events : List Event
 
 abbrev pub fresh : History → Machine
-fresh h = freshMachine (h .found) (h .pages) (h .slots) (h .records) (h .notes)
+fresh h = freshMachine (h .heading) (h .found) (h .pages) (h .slots) (h .records) (h .notes)
 
 -- "one Make, not refused, then a list of" events, each of them allowed
 pub record Legal (h : History) : Type 0 where
-  pub make : refusalOf (makeOf (h .found) (h .pages) (h .slots) (h .records) (h .notes) .answer) ≡ 0
+  pub make : refusalOf (makeOf (h .heading) (h .found) (h .pages) (h .slots) (h .records) (h .notes) .answer) ≡ 0
   pub events : allAllowed (fresh h) (h .events) ≡ true
 
 -- the machine that a history leaves, and the abstract log beside it
@@ -94,8 +96,8 @@ pub record Demand2 : Type 0 where
       → (p f : ℕ) → Loads h m s p f
 
 -- "If both kept lists, pages included, are beginnings of one list, then all pages 1 to P agree in those bytes or give 7
--- in both, exactly when the kept lists are equally long." The counts of slots, log records and notes, the memories and
--- the buffers may differ. What each history's inspection shows by itself stands in `Demand2.inspects`.
+-- in both, exactly when the kept lists are equally long." The headings, the counts of slots, log records and notes, the
+-- memories and the buffers may differ. What each history's inspection shows by itself stands in `Demand2.inspects`.
 abbrev pub Demand3 : Type 0
 Demand3 =
     (h k : History) → Legal h → Legal k → h .pages ≡ k .pages

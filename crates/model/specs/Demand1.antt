@@ -13,6 +13,7 @@ use Rattle.model.specs.Geometry.{Place, itemOf, width, start, geometryOf
 use Rattle.model.specs.State.{zeroState}
 use Rattle.model.specs.Refusals.{makeRows, restartRows, inspectRows}
 use Rattle.model.specs.Calls.{StoredItem, nothing, oneItem, Outcome, volumeAfter, refusalOf, Call, rowsOf, outcomeOf, makeOf, restartOf, inspectOf}
+use Rattle.model.specs.declared.geometry.Heading.{Heading}
 use Rattle.model.specs.declared.state.State.{State}
 
 -- a row of the table holds, has the number, and no row before it holds
@@ -61,9 +62,9 @@ pub record Arrays (s : State) : Type 0 where
 
 pub record Demand1 : Type 0 where
   pub calls : (c : Call) (v m : List ℕ) (s : State) → Arrays s → Keeps c v m s
-  pub make : (v : List ℕ) (p b l n : ℕ)
-      → ByTable (makeRows v p b l n) (refusalOf (makeOf v p b l n .answer))
-      × (refusalOf (makeOf v p b l n .answer) ≢ 0 → makeOf v p b l n .volume ≡ v)
+  pub make : (h : Heading) (v : List ℕ) (p b l n : ℕ)
+      → ByTable (makeRows v p b l n) (refusalOf (makeOf h v p b l n .answer))
+      × (refusalOf (makeOf h v p b l n .answer) ≢ 0 → makeOf h v p b l n .volume ≡ v)
   pub restart : (v m : List ℕ)
       → ByTable (restartRows v m) (refusalOf (restartOf v m .answer))
       × (refusalOf (restartOf v m .answer) ≢ 0 → (restartOf v m .state ≡ zeroState) × (restartOf v m .memory ≡ m))

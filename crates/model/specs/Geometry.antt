@@ -1,18 +1,29 @@
 -- A volume's heading, counts and length, and the place of each item in it. States document 01, "The volume and the
 -- memory": the four bytes 43 48 50 56, then each section after its count; P 1 to 64, B 0 to 128, L 1 to 1,024, N 0 to
--- 1,024; the length.
+-- 1,024; the length. And of document 02, §3: "New volumes carry the heading 43 48 50 32".
 use Prim.Native.Nat.{ℕ, _+_, _-_, _*_}
-use mathlib.Core.Bool.{Bool, true, false, _&&_}
+use mathlib.Core.Bool.{Bool, true, false, _&&_, _||_}
 use mathlib.Core.List.{List, [], _∷_, _++_}
 use lib.Dec.{eqb, leb}
 use lib.ListN.{length, replicate}
 use Rattle.model.specs.Tables.{all, within}
 use Rattle.model.specs.Bytes.{le, bytesOf, field, byteAt, part, splice, startsWith}
 use Rattle.model.specs.declared.geometry.Geometry.{Geometry}
+use Rattle.model.specs.declared.geometry.Heading.{Heading}
+use Rattle.model.specs.declared.geometry.Heading.the-variants.{First, Second}
 
--- the magic (document 01: the four bytes that a volume starts with)
-abbrev pub magic : List ℕ
-magic = 0x43 ∷ 0x48 ∷ 0x50 ∷ 0x56 ∷ []
+-- the tag, a heading's last byte: it names the format
+abbrev pub tagOf : Heading → ℕ
+tagOf First = 0x56
+tagOf Second = 0x32
+
+-- the magic (document 01: the four bytes that a volume starts with) of a heading
+abbrev pub magic : Heading → List ℕ
+magic h = 0x43 ∷ 0x48 ∷ 0x50 ∷ tagOf h ∷ []
+
+-- the volume starts with a heading that is known
+abbrev pub knownMagic : List ℕ → Bool
+knownMagic v = startsWith (magic First) v || startsWith (magic Second) v
 
 -- where the counts of slots, log records and notes stand; that of pages stands at 4
 abbrev pub slotCountAt : ℕ → ℕ
@@ -52,13 +63,13 @@ validCounts p b l n = all (within 64 p ∷ leb b 128 ∷ within 1024 l ∷ leb n
 unfoldable pub validVolume : List ℕ → Bool
 validVolume v =
     all
-    (startsWith magic v ∷ validCounts (pagesOf v) (slotsOf v) (recordsOf v) (notesOf v)
+    (knownMagic v ∷ validCounts (pagesOf v) (slotsOf v) (recordsOf v) (notesOf v)
     ∷ eqb (length v) (lengthFor (pagesOf v) (slotsOf v) (recordsOf v) (notesOf v)) ∷ [])
 
 -- a fresh volume: headings and zeros
-unfoldable pub emptyVolume : ℕ → ℕ → ℕ → ℕ → List ℕ
-emptyVolume p b l n =
-    magic ++ (bytesOf 4 p ++ (replicate (256 * p) 0 ++ (bytesOf 4 b ++ (replicate (256 * b) 0
+unfoldable pub emptyVolume : Heading → ℕ → ℕ → ℕ → ℕ → List ℕ
+emptyVolume h p b l n =
+    magic h ++ (bytesOf 4 p ++ (replicate (256 * p) 0 ++ (bytesOf 4 b ++ (replicate (256 * b) 0
     ++ (bytesOf 4 l ++ (replicate (64 * l) 0 ++ (bytesOf 4 n ++ replicate (16 * n) 0)))))))
 
 -- An item of a volume: a page's image, a backup slot's image, a log slot or a note slot, each counted from 1.

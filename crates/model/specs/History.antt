@@ -17,6 +17,7 @@ use Rattle.model.specs.Refusals.{restartRows}
 use Rattle.model.specs.Calls.{StoredItem, nothing, oneItem, Outcome, volumeAfter, restartOf, makeOf, refusalOf, Call, begin, load, change, force, write, backup, note, rowsOf, outcomeOf}
 use Rattle.model.specs.AbstractLog.{AbstractLog, emptyLog, Left, old, new, torn, forget, stepCall, stepCut}
 use Rattle.model.specs.declared.geometry.Geometry.{Geometry}
+use Rattle.model.specs.declared.geometry.Heading.{Heading}
 use Rattle.model.specs.declared.state.Entry.{Entry}
 use Rattle.model.specs.declared.state.State.{State}
 
@@ -191,8 +192,8 @@ stepLog w b (crashIn c l) = forget (cond (refusedIn (w .power) (w .volume) c) b 
 stepLog w b (damage at xs) = b
 
 -- the machine after Make
-unfoldable pub freshMachine : List ℕ → ℕ → ℕ → ℕ → ℕ → Machine
-freshMachine found p b l n = record { volume = makeOf found p b l n .volume; power = off; past = [] }
+unfoldable pub freshMachine : Heading → List ℕ → ℕ → ℕ → ℕ → ℕ → Machine
+freshMachine h found p b l n = record { volume = makeOf h found p b l n .volume; power = off; past = [] }
 
 unfoldable pub allAllowed : Machine → List Event → Bool
 allAllowed w [] = true

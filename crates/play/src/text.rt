@@ -4,7 +4,7 @@ ghost use Prim.Native.Nat.{_<_, _≤_};
 ghost use lib.ListN.{length};
 ghost use Rattle.play.specs.Text.{sameBetween};
 use crate::one;
-use codec::checksum;
+use codec::byte_sum;
 use codec::field;
 use print::number;
 use print::say;
@@ -75,7 +75,7 @@ pub fn show(image: &[u8]) {
 // Shows an image as the disk holds it, unrepaired: its text, and the two things that the store tests.
 pub fn held(image: &[u8]) {
     show(image);
-    if checksum::holds(image, 252) {
+    if byte_sum::holds(image, 252) {
         say(b"      (checksum right, number ");
     } else {
         say(b"      (checksum wrong, number ");

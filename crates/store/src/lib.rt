@@ -1,12 +1,13 @@
-// The page store: a state, and the ten calls of document 01 on it. Make, Restart and Inspect take no state; the others
-// take it by value and give the next one back. `perform` makes any of those by a command: it is the step that
-// histories, and so the theorems about them, are made of.
+// The page store: a state, and the ten calls of document 01 on it, Make under either heading. Make, Restart and Inspect
+// take no state; the others take it by value and give the next one back. `perform` makes any of those by a command: it
+// is the step that histories, and so the theorems about them, are made of.
 //
 // Each call works on any volume, memory, buffer and state. Its contract is an equation for what it gives back and one
 // for each slice that it may write, by the outcome that `model::specs::Calls` defines. So each rules out a refusal out
 // of the table's order, and a refused call that changes a byte or the state. What else it rules out stands beside it.
 ghost use mathlib.Core.Path.{_≡_};
 ghost use Rattle.store.specs.Store.{wrapped, performed};
+ghost use Rattle.model.specs.declared.geometry.Heading.the-variants.{First, Second};
 ghost use Rattle.model.specs.Calls.{replyOf, volumeAfter};
 ghost use Rattle.model.specs.Calls.{makeOf, restartOf, beginOf, loadOf, changeCall, forceOf, writeOf, backupOf};
 ghost use Rattle.model.specs.Calls.{noteCall, inspectOf};
@@ -36,13 +37,22 @@ fn wrap(r: Reply) -> Returned
 }
 
 impl Store {
-    // Writes headings and zeros. Ruled out: a byte of the old volume left; counts taken with another length than
-    // theirs.
+    // Writes headings and zeros, the second heading first. Ruled out: a byte of the old volume left; counts taken with
+    // another length than theirs; the first heading.
     pub fn make(volume: &mut [u8], pages: u32, slots: u32, records: u32, notes: u32) -> Answer
-        ensures answer { λ r. ⌜ r ≡ makeOf (now (volume .entry)) pages slots records notes .answer ⌝ }
-        ensures volume { λ _. ⌜ now (volume .exit) ≡ makeOf (now (volume .entry)) pages slots records notes .volume ⌝ }
+        ensures answer { λ r. ⌜ r ≡ makeOf Second (now (volume .entry)) pages slots records notes .answer ⌝ }
+        ensures volume { λ _. ⌜ now (volume .exit) ≡ makeOf Second (now (volume .entry)) pages slots records notes .volume ⌝ }
     {
         volume::make::make(volume, pages, slots, records, notes)
+    }
+
+    // The same under the first heading, for volumes that older boxes read. Ruled out: the second heading; a refusal of
+    // counts that Make takes.
+    pub fn make_first(volume: &mut [u8], pages: u32, slots: u32, records: u32, notes: u32) -> Answer
+        ensures answer { λ r. ⌜ r ≡ makeOf First (now (volume .entry)) pages slots records notes .answer ⌝ }
+        ensures volume { λ _. ⌜ now (volume .exit) ≡ makeOf First (now (volume .entry)) pages slots records notes .volume ⌝ }
+    {
+        volume::make::make_first(volume, pages, slots, records, notes)
     }
 
     // Gives the state that the volume holds, and zeroes the memory. Ruled out: a state of zeros for a volume with

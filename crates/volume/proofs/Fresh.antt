@@ -15,6 +15,7 @@ use Rattle.model.specs.Bytes.{bytesOf, splice}
 use Rattle.model.specs.Geometry.{magic, slotCountAt, recordCountAt, noteCountAt, lengthFor, validCounts, emptyVolume}
 use Rattle.model.specs.Refusals.{makeRows}
 use Rattle.model.specs.Calls.{makeOf}
+use Rattle.model.specs.declared.geometry.Heading.{Heading}
 use Rattle.model.specs.declared.answer.Answer.the-variants.{Refused, Done}
 
 -- bytes written over k zeros and then m zeros: the bytes stand between them
@@ -33,11 +34,11 @@ count-over : (k m n c : ℕ) (r : List ℕ) → n ≡ k + 4 + m → splice (zero
 count-over k m n c r e = over-zeros k m n (bytesOf 4 c) r (rw bytesOf-length e)
 
 -- zeros, and then each heading from the last one down
-pub fresh : (p b l n k : ℕ) (v₀ v₁ v₂ v₃ v₄ v₅ : List ℕ) → k ≡ lengthFor p b l n → v₀ ≡ zeros k → v₁ ≡ splice v₀ (noteCountAt p b l) (bytesOf 4 n)
-    → v₂ ≡ splice v₁ (recordCountAt p b) (bytesOf 4 l) → v₃ ≡ splice v₂ (slotCountAt p) (bytesOf 4 b) → v₄ ≡ splice v₃ 4 (bytesOf 4 p) → v₅ ≡ splice v₄ 0 magic
-    → v₅ ≡ emptyVolume p b l n
+pub fresh : (h : Heading) (p b l n k : ℕ) (v₀ v₁ v₂ v₃ v₄ v₅ : List ℕ) → k ≡ lengthFor p b l n → v₀ ≡ zeros k → v₁ ≡ splice v₀ (noteCountAt p b l) (bytesOf 4 n)
+    → v₂ ≡ splice v₁ (recordCountAt p b) (bytesOf 4 l) → v₃ ≡ splice v₂ (slotCountAt p) (bytesOf 4 b) → v₄ ≡ splice v₃ 4 (bytesOf 4 p) → v₅ ≡ splice v₄ 0 (magic h)
+    → v₅ ≡ emptyVolume h p b l n
 unfolding emptyVolume
-fresh p b l n k v₀ v₁ v₂ v₃ v₄ v₅ ek e₀ e₁ e₂ e₃ e₄ e₅ =
+fresh h p b l n k v₀ v₁ v₂ v₃ v₄ v₅ ek e₀ e₁ e₂ e₃ e₄ e₅ =
     let notes : List ℕ = bytesOf 4 n ++ zeros (16 * n) in
     let records : List ℕ = bytesOf 4 l ++ (zeros (64 * l) ++ notes) in
     let slots : List ℕ = bytesOf 4 b ++ (zeros (256 * b) ++ records) in
@@ -51,24 +52,24 @@ fresh p b l n k v₀ v₁ v₂ v₃ v₄ v₅ ek e₀ e₁ e₂ e₃ e₄ e₅ =
     e₃ ∙ ap (λ (v : List ℕ). splice v (slotCountAt p) (bytesOf 4 b)) s₂ ∙ count-over (slotCountAt p) (256 * b) (recordCountAt p b) b records (omega arith) in
     let s₄ : v₄ ≡ zeros 4 ++ pages =
     e₄ ∙ ap (λ (v : List ℕ). splice v 4 (bytesOf 4 p)) s₃ ∙ count-over 4 (256 * p) (slotCountAt p) p slots (omega arith) in
-    e₅ ∙ ap (λ (v : List ℕ). splice v 0 magic) s₄ ∙ over-zeros 0 0 4 magic pages refl
+    e₅ ∙ ap (λ (v : List ℕ). splice v 0 (magic h)) s₄ ∙ over-zeros 0 0 4 (magic h) pages refl
 
 -- what is answered, by the test that Make computes from c and k
-module _ (v : List ℕ) (p b l n : ℕ) (c : Bool) (k : ℕ) (ec : c ≡ validCounts p b l n) (ek : k ≡ lengthFor p b l n) where
+module _ (v : List ℕ) (h : Heading) (p b l n : ℕ) (c : Bool) (k : ℕ) (ec : c ≡ validCounts p b l n) (ek : k ≡ lengthFor p b l n) where
   tested : (c && eqb (length v) k) ≡ (validCounts p b l n && eqb (length v) (lengthFor p b l n))
   tested = rw (ec, ek)
 
-  pub make-refused : not (c && eqb (length v) k) ≡ true → (Refused 1 ≡ makeOf v p b l n .answer) × (v ≡ makeOf v p b l n .volume)
+  pub make-refused : not (c && eqb (length v) k) ≡ true → (Refused 1 ≡ makeOf h v p b l n .answer) × (v ≡ makeOf h v p b l n .volume)
   unfolding makeOf makeRows
   make-refused t =
-      let h : (validCounts p b l n && eqb (length v) (lengthFor p b l n)) ≡ false = sym tested ∙ not-true _ t in
-      (rw h, rw h)
+      let e : (validCounts p b l n && eqb (length v) (lengthFor p b l n)) ≡ false = sym tested ∙ not-true _ t in
+      (rw e, rw e)
 
   pub make-fits : not (c && eqb (length v) k) ≡ false → length v ≡ lengthFor p b l n
   make-fits t = eqb-true _ _ (and-right c (eqb (length v) k) (not-false _ t)) ∙ ek
 
-  pub make-done : not (c && eqb (length v) k) ≡ false → (Done ≡ makeOf v p b l n .answer) × (emptyVolume p b l n ≡ makeOf v p b l n .volume)
+  pub make-done : not (c && eqb (length v) k) ≡ false → (Done ≡ makeOf h v p b l n .answer) × (emptyVolume h p b l n ≡ makeOf h v p b l n .volume)
   unfolding makeOf makeRows
   make-done t =
-      let h : (validCounts p b l n && eqb (length v) (lengthFor p b l n)) ≡ true = sym tested ∙ not-false _ t in
-      (rw h, rw h)
+      let e : (validCounts p b l n && eqb (length v) (lengthFor p b l n)) ≡ true = sym tested ∙ not-false _ t in
+      (rw e, rw e)

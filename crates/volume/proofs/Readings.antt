@@ -5,8 +5,8 @@ use mathlib.Core.List.{List}
 use Prim.Native.Nat.{ℕ}
 use lib.Dec.{eqb}
 use lib.ListN.{length}
-use Rattle.model.specs.Bytes.{field, byteAt, startsWith}
-use Rattle.model.specs.Geometry.{magic, slotCountAt, recordCountAt, noteCountAt, lengthFor, geometryOf, validCounts, validVolume}
+use Rattle.model.specs.Bytes.{field, byteAt}
+use Rattle.model.specs.Geometry.{knownMagic, slotCountAt, recordCountAt, noteCountAt, lengthFor, geometryOf, validCounts, validVolume}
 use Rattle.model.specs.declared.geometry.Geometry.{Geometry}
 
 module _ (v : List ℕ) where
@@ -15,11 +15,11 @@ module _ (v : List ℕ) where
   unfolding geometryOf
   geometry-read t p b l n et ep eb el en = cc
 
-  pub valid-not : startsWith magic v ≡ false → false ≡ validVolume v
+  pub valid-not : knownMagic v ≡ false → false ≡ validVolume v
   unfolding validVolume
   valid-not h = rw h
 
-  pub valid-read : (c : Bool) (n : ℕ) (g : Geometry) → startsWith magic v ≡ true → g ≡ geometryOf v
+  pub valid-read : (c : Bool) (n : ℕ) (g : Geometry) → knownMagic v ≡ true → g ≡ geometryOf v
       → c ≡ validCounts (g .pages) (g .slots) (g .records) (g .notes) → n ≡ lengthFor (g .pages) (g .slots) (g .records) (g .notes)
       → (c && eqb (length v) n) ≡ validVolume v
   unfolding validVolume geometryOf

@@ -1,12 +1,32 @@
 // What a volume's heading says, and whether heading, counts and length are right. Reads of any bytes are safe.
 ghost use mathlib.Core.Path.{_≡_};
-ghost use Rattle.model.specs.Geometry.{lengthFor, geometryOf, validCounts, validVolume};
+ghost use Rattle.model.specs.Geometry.{magic, knownMagic, lengthFor, geometryOf, validCounts, validVolume};
 use codec::field;
 use codec::part;
 use model::geometry::Geometry;
+use model::geometry::Heading;
 
-// The four bytes that a volume starts with.
-pub const MAGIC: [u8; 4] = *b"CHPV";
+// The four bytes that a volume starts with: the first heading, and the second.
+const FIRST: [u8; 4] = *b"CHPV";
+
+const SECOND: [u8; 4] = *b"CHP2";
+
+// A heading's four bytes.
+pub fn magic_bytes(h: Heading) -> [u8; 4]
+    ensures { λ r. ⌜ r ≡ magic h ⌝ }
+{
+    match h {
+        Heading::First => FIRST,
+        Heading::Second => SECOND,
+    }
+}
+
+// The volume starts with one of them.
+fn known(v: &[u8]) -> bool
+    ensures { λ r. ⌜ r ≡ knownMagic (now (v .entry)) ⌝ }
+{
+    part::starts(v, &FIRST) | part::starts(v, &SECOND)
+}
 
 // The geometry; where the volume is not valid the numbers mean nothing.
 pub fn geometry(v: &[u8]) -> Geometry
@@ -47,7 +67,7 @@ pub fn size(p: u32, b: u32, l: u32, n: u32) -> usize
 pub fn valid(v: &[u8]) -> bool
     ensures { λ r. ⌜ r ≡ validVolume (now (v .entry)) ⌝ }
 {
-    if !part::starts(v, &MAGIC) {
+    if !known(v) {
         return false;
     }
     let g = geometry(v);

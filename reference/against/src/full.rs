@@ -1,6 +1,7 @@
 //! Volumes with every log record and every note stored.
 
 use reference::geometry::Geometry;
+use reference::heading::Heading;
 use reference::note::{Note, NoteKind};
 use reference::record::{Change, Record, PAYLOAD_LEN};
 
@@ -8,8 +9,8 @@ use reference::record::{Change, Record, PAYLOAD_LEN};
 pub const CHAIN: usize = 16;
 
 /// The largest counts but for the log's.
-pub fn geometry(records: u32) -> Geometry {
-    Geometry::new([64, 128, records, 1024]).expect("the counts are in range")
+pub fn geometry(heading: Heading, records: u32) -> Geometry {
+    Geometry::new(heading, [64, 128, records, 1024]).expect("the counts are in range")
 }
 
 /// A volume whose log and notes are full. Each page that has records has `CHAIN` of them, in

@@ -10,6 +10,7 @@ mod c {
             buffer_len: usize,
         ) -> u32;
         pub fn pagestore_checksum(part: *const u8, part_len: usize) -> u32;
+        pub fn pagestore_byte_sum(part: *const u8, part_len: usize) -> u32;
         pub fn pagestore_cycles(
             volume: *mut u8,
             volume_len: usize,
@@ -34,6 +35,13 @@ pub fn inspect(volume: &[u8], page: u32, buffer: &mut [u8]) -> u32 {
 pub fn checksum(part: &[u8]) -> u32 {
     // SAFETY: the slice is live and as long as is said.
     unsafe { c::pagestore_checksum(part.as_ptr(), part.len()) }
+}
+
+/// The byte sum of bytes.
+#[inline]
+pub fn byte_checksum(part: &[u8]) -> u32 {
+    // SAFETY: the slice is live and as long as is said.
+    unsafe { c::pagestore_byte_sum(part.as_ptr(), part.len()) }
 }
 
 /// Cycles of calls on a made volume; gives the number of refusals.

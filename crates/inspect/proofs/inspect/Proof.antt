@@ -9,6 +9,7 @@ use Rattle.model.specs.Refusals.{inspectRows}
 use Rattle.inspect.proofs.Outcomes.{refusal-is, refused, Open, opened, done}
 use Rattle.inspect.proofs.inspect.Statement.{statement}
 use Rattle.inspect.proofs.inspect.Tie as tie
+use Rattle.item.proofs.image.seal.Reads as seal-reads
 
 -- the refusal's number is the table's
 number : (c : tie.After-refusal) → let s = c .before .before .before .before .before .before in c .refusal .result ≡ firstOf (inspectRows (now (s .args .volume)) (s .args .page) (length (now (s .args .buffer))))
@@ -41,8 +42,8 @@ walk-requires c κs = known c .ready
 rebuild-requires : tie.Need-rebuild-requires
 rebuild-requires c κs = let k = known (c .before .before) in (k .ready, (c .before .walk .ensures, k .size))
 
-set-requires : tie.Need-set-requires
-set-requires c κs = let z = known (c .before .before .before .before .before .before) .size in search needs
+seal-requires : tie.Need-seal-requires
+seal-requires c κs = let z = known (c .before .before .before .before .before .before) .size in search needs
 
 answer-requires : tie.Need-answer-requires
 answer-requires c κs = (known (c .before .before .before .before .before .before .before .before .before) .ready, c .before .before .before .before .before .before .before .before .walk .ensures)
@@ -53,7 +54,7 @@ same-length c = search needs
 returns-2 : tie.Need-returns-2
 returns-2 c =
     let i = c .before .before .before .before .before .before .before .before .before .before in
-    done _ _ _ _ _ _ _ _ (i .before .before .before .geometry .ensures) (known i) (none i) (c .answer .ensures) (c .before .before .before .before .before .before .before .rebuild .ensures) (c .before .before .before .set .ensures)
+    done _ _ _ _ _ _ _ _ (i .before .before .before .geometry .ensures) (known i) (none i) (c .answer .ensures) (c .before .before .before .before .before .before .before .rebuild .ensures) (c .before .before .before .seal .ensures)
 
 pub inspect-spec : {M : Type 1} → statement M
 inspect-spec =
@@ -65,7 +66,7 @@ inspect-spec =
     returns
     walk-requires
     rebuild-requires
-    set-requires
+    seal-requires
     answer-requires
     same-length
     returns-2)

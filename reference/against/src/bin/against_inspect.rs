@@ -6,13 +6,14 @@ use against::{full, proved};
 use reference::answer::Answer;
 use reference::arbitrary::arbitrary_script;
 use reference::args::value;
-use reference::bytes::{put_u32, seal};
+use reference::bytes::put_u32;
 use reference::calls::inspect;
 use reference::cell::decode;
 use reference::driver::Driver;
-use reference::geometry::{Geometry, HEADING};
+use reference::geometry::Geometry;
+use reference::heading::Heading;
 use reference::history::{choose_geometry, history_script};
-use reference::mutate::{edit_image, edit_note, edit_record};
+use reference::mutate::{edit_image, edit_note, edit_record, seal_item};
 use reference::rng::Rng;
 use std::collections::BTreeMap;
 use std::process::ExitCode;
@@ -45,8 +46,10 @@ fn main() -> ExitCode {
         played(&generator(&mut rng, CELLS), &mut tally, &mut rng);
         garbage(&mut tally, &mut rng);
     }
-    for records in [64, 256, 1024] {
-        full_volumes(records, scripts, &mut tally, &mut rng);
+    for (records, heading) in
+        [(64, Heading::First), (256, Heading::Second), (1024, Heading::Second)]
+    {
+        full_volumes(&full::geometry(heading, records), scripts, &mut tally, &mut rng);
     }
     let calls: usize = tally.answers.values().sum();
     println!(
@@ -88,7 +91,7 @@ fn garbage(tally: &mut Tally, rng: &mut Rng) {
     }
     let mut empty = volume.clone();
     geometry.format(&mut empty);
-    volume[..4].copy_from_slice(&HEADING);
+    volume[..4].copy_from_slice(&geometry.heading.bytes());
     for at in
         [4, geometry.slot(1).start - 4, geometry.record(1).start - 4, geometry.note(1).start - 4]
     {
@@ -99,14 +102,13 @@ fn garbage(tally: &mut Tally, rng: &mut Rng) {
 }
 
 /// The full volume, and copies of it with a few items edited, or cut, or with another count.
-fn full_volumes(records: u32, count: usize, tally: &mut Tally, rng: &mut Rng) {
-    let geometry = full::geometry(records);
-    let whole = full::volume(&geometry);
+fn full_volumes(geometry: &Geometry, count: usize, tally: &mut Tally, rng: &mut Rng) {
+    let whole = full::volume(geometry);
     tally.look(&whole, rng, geometry.pages);
     for _ in 0..count {
         let mut volume = whole.clone();
         for _ in 0..rng.between(1, 3) {
-            edit(&mut volume, &geometry, rng);
+            edit(&mut volume, geometry, rng);
         }
         tally.look(&volume, rng, PAGES);
     }
@@ -135,7 +137,7 @@ fn edit(volume: &mut [u8], geometry: &Geometry, rng: &mut Rng) {
         _ => edit_image(item, geometry, durable, rng),
     }
     if rng.chance(800) {
-        seal(item);
+        seal_item(item, geometry.heading, rng);
     }
 }
 

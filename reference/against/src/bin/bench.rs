@@ -4,9 +4,10 @@
 use against::{full, proved};
 use reference::answer::Answer;
 use reference::args::value;
-use reference::bytes::checksum;
+use reference::bytes::{byte_checksum, checksum};
 use reference::calls::{inspect, make, restart};
 use reference::geometry::Geometry;
+use reference::heading::Heading;
 use reference::record::Change;
 use reference::rng::Rng;
 use std::hint::black_box;
@@ -26,7 +27,8 @@ fn main() {
         "{:44} {:>10} {:>12} {:>6}",
         "ns an operation, best of the rounds", "proved", "reference", "ratio"
     );
-    checksums(rounds);
+    sums("checksum of 252 bytes", proved::checksum, checksum, rounds);
+    sums("byte sum of 252 bytes", proved::byte_checksum, byte_checksum, rounds);
     let [small, middle, large] = [64, 256, 1024].map(|records| inspections(records, rounds));
     cycles(rounds);
     let [step, end] = [middle - small, large - middle];
@@ -72,26 +74,26 @@ fn timed(runs: u32, mut run: impl FnMut()) -> Duration {
     start.elapsed()
 }
 
-/// (a) The checksum of an image's 252 bytes, which stay in the cache.
-fn checksums(rounds: usize) {
+/// (a) A sum of an image's 252 bytes, which stay in the cache.
+fn sums(name: &str, ours: fn(&[u8]) -> u32, other: fn(&[u8]) -> u32, rounds: usize) {
     const RUNS: u32 = 1_000;
     let mut part = [0; 252];
     Rng::new(1).fill(&mut part);
-    assert_eq!(proved::checksum(&part), checksum(&part));
+    assert_eq!(ours(&part), other(&part));
     let times = best(
         rounds,
         RUNS,
-        || timed(RUNS, || _ = black_box(proved::checksum(black_box(&part)))),
-        || timed(RUNS, || _ = black_box(checksum(black_box(&part)))),
+        || timed(RUNS, || _ = black_box(ours(black_box(&part)))),
+        || timed(RUNS, || _ = black_box(other(black_box(&part)))),
     );
-    report("checksum of 252 bytes", times);
+    report(name, times);
 }
 
 /// (b) Inspection of a page with a chain of 16, log and notes full. The buffer is not cleared
 /// between calls.
 fn inspections(records: u32, rounds: usize) -> f64 {
     const RUNS: u32 = 4;
-    let volume = full::volume(&full::geometry(records));
+    let volume = full::volume(&full::geometry(Heading::Second, records));
     let (mut ours, mut other) = ([0; 256], [0; 256]);
     assert_eq!(proved::inspect(&volume, PAGE.into(), &mut ours), 0);
     let answer = inspect(&volume, PAGE, &mut other);
@@ -114,9 +116,10 @@ fn inspections(records: u32, rounds: usize) -> f64 {
 /// (c) A cycle: Begin, Change, Force twice, Write, Note, and Load of the page before. Each
 /// round starts on a made volume and a cleared memory, which are set outside the time.
 fn cycles(rounds: usize) {
-    let geometry = Geometry::new([CYCLE_PAGES, 0, 2 * CYCLE_PAGES, CYCLE_PAGES]).expect("in range");
+    let geometry = Geometry::new(Heading::Second, [CYCLE_PAGES, 0, 2 * CYCLE_PAGES, CYCLE_PAGES])
+        .expect("in range");
     let mut made = vec![0; geometry.volume_len()];
-    make(&mut made, geometry.counts());
+    make(&mut made, geometry.heading, geometry.counts());
     let mut both = [(made.clone(), vec![0; 1536]), (made.clone(), vec![0; 1536])];
     let [ours, other] = &mut both;
     let fresh = |(volume, memory): &mut (Vec<u8>, Vec<u8>)| {

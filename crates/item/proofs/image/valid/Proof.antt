@@ -13,12 +13,12 @@ cast-page c = search needs
 u16-at-requires-2 : tie.Need-u16-at-requires-2
 u16-at-requires-2 c κs = search needs
 
-holds-requires : tie.Need-holds-requires
-holds-requires c κs = search needs
+sealed-requires : tie.Need-sealed-requires
+sealed-requires c κs = search needs
 
 returns : tie.Need-returns
 unfolding validImage
-returns c = rw (c .holds .ensures, c .before .before .u16-at .ensures, c .before .u16-at2 .ensures)
+returns c = rw (c .sealed .ensures, c .before .before .u16-at .ensures, c .before .u16-at2 .ensures)
 
 pub valid-spec : {M : Type 1} → statement M
-valid-spec = tie.close (tie.spec u16-at-requires cast-page u16-at-requires-2 holds-requires returns)
+valid-spec = tie.close (tie.spec u16-at-requires cast-page u16-at-requires-2 sealed-requires returns)

@@ -1,5 +1,7 @@
 -- `volume::make::write` meets its contract. Zeros, then each heading from the last one down, so that each is written over zeros alone.
 use borrow.Author.Needs.{needs}
+use mathlib.Core.Path.{ap, _∙_}
+use Rattle.model.specs.Bytes.{splice}
 use Rattle.volume.proofs.Fresh.{fresh}
 use Rattle.volume.proofs.make.write.Statement.{statement}
 use Rattle.volume.proofs.make.write.Tie as tie
@@ -8,6 +10,7 @@ use Rattle.volume.proofs.make.write.Lts as lts
 use Rattle.codec.proofs.field.put_u32.Reads as put-u32-reads
 use Rattle.codec.proofs.part.fill.Reads as fill-reads
 use Rattle.codec.proofs.part.put.Reads as put-reads
+use Rattle.volume.proofs.heading.magic_bytes.Reads as magic-bytes-reads
 
 mul-slots : tie.Need-mul-slots
 mul-slots c = search needs
@@ -60,6 +63,9 @@ put-u32-requires-3 c κs = search needs
 put-u32-requires-4 : tie.Need-put-u32-requires-4
 put-u32-requires-4 c κs = search needs
 
+magic-bytes-requires : tie.Need-magic-bytes-requires
+magic-bytes-requires c κs = search needs
+
 slice-aggregate-put : tie.Need-slice-aggregate-put
 slice-aggregate-put c = search needs
 
@@ -71,8 +77,10 @@ same-length c = search needs
 
 returns : tie.Need-returns
 returns c =
-    fresh _ _ _ _ _ _ _ _ _ _ _ (c .before .before .before .before .before .before .before .before .before .before .before .before .before .before .before .before .before .before .before .before .before .before .before .before .before .before .pre) (c .before .before .before .before .before .before .before .before .before .before .before .before .before .before .before .before .before .before .before .before .before .before .before .fill .ensures) (c .before .before .before .before .before .before .before .before .before .before .before .before .before .before .before .before .before .before .before .put-u32 .ensures) (c .before .before .before .before .before .before .before .before .before .before .before .before .before .before .before .put-u322 .ensures) (c .before .before .before .before .before .before .before .before .before .before .before .put-u323 .ensures)
-    (c .before .before .before .before .before .before .before .put-u324 .ensures) (c .before .before .put .ensures)
+    let e = c .before .before .before .before .before .before .before .before in
+    let d = e .before .before .before .before .before .before .before .before .before .before .before .before in
+    fresh _ _ _ _ _ _ _ _ _ _ _ _ (d .before .before .before .before .before .before .before .pre) (d .before .before .before .before .fill .ensures) (d .put-u32 .ensures) (e .before .before .before .before .before .before .before .before .put-u322 .ensures) (e .before .before .before .before .put-u323 .ensures)
+    (e .put-u324 .ensures) (c .before .before .put .ensures ∙ ap (splice _ 0) (c .before .before .before .before .before .magic-bytes .ensures))
 
 pub write-spec : {M : Type 1} → statement M
 write-spec =
@@ -95,6 +103,7 @@ write-spec =
     put-u32-requires-2
     put-u32-requires-3
     put-u32-requires-4
+    magic-bytes-requires
     slice-aggregate-put
     put-requires
     same-length

@@ -1,0 +1,59 @@
+//! Every call with every answer that it can give.
+
+use crate::cell::Call;
+use crate::heading::Heading;
+
+/// A call's name, the refusals that it can give, and its other answers.
+pub struct Row {
+    pub name: &'static str,
+    pub refusals: &'static [u8],
+    pub answers: &'static [&'static str],
+}
+
+/// The class and start pairs there are: Good is always own, Failed and Ahead never.
+const REBUILDS: &[&str] = &[
+    "GOOD OWN",
+    "BEHIND OWN",
+    "BEHIND BACKUP",
+    "BEHIND FORMAT",
+    "STALE OWN",
+    "STALE BACKUP",
+    "STALE FORMAT",
+    "FAILED BACKUP",
+    "FAILED FORMAT",
+    "AHEAD BACKUP",
+    "AHEAD FORMAT",
+];
+const OK: &[&str] = &["OK"];
+const OK_OR_NOTHING: &[&str] = &["OK", "NOTHING"];
+
+pub const ROWS: &[Row] = &[
+    Row { name: "make", refusals: &[1], answers: OK },
+    Row { name: "makefirst", refusals: &[1], answers: OK },
+    Row { name: "restart", refusals: &[1, 2, 17, 18], answers: OK },
+    Row { name: "begin", refusals: &[1, 2, 3, 4, 9, 10, 11, 12], answers: OK },
+    Row { name: "load", refusals: &[1, 2, 3, 4, 7, 9, 10, 19], answers: REBUILDS },
+    Row { name: "change", refusals: &[1, 2, 3, 6, 8, 11, 12], answers: OK },
+    Row { name: "force", refusals: &[1, 2], answers: OK_OR_NOTHING },
+    Row { name: "write", refusals: &[1, 2, 3, 8, 13, 14, 15], answers: OK_OR_NOTHING },
+    Row { name: "backup", refusals: &[1, 2, 3, 5, 8, 13, 14, 15, 16], answers: OK },
+    Row { name: "note", refusals: &[1, 2], answers: OK_OR_NOTHING },
+    Row { name: "inspect", refusals: &[1, 2, 3, 7, 17, 18], answers: REBUILDS },
+];
+
+/// The name of a call in the table.
+pub fn name_of(call: &Call) -> &'static str {
+    match call {
+        Call::Make { heading: Heading::Second, .. } => "make",
+        Call::Make { heading: Heading::First, .. } => "makefirst",
+        Call::Restart => "restart",
+        Call::Begin { .. } => "begin",
+        Call::Load { .. } => "load",
+        Call::Change { .. } => "change",
+        Call::Force => "force",
+        Call::Write { .. } => "write",
+        Call::Backup { .. } => "backup",
+        Call::Note => "note",
+        Call::Inspect { .. } => "inspect",
+    }
+}
