@@ -35,6 +35,7 @@ extern "C" {
 #define PAGESTORE_BLANK_PAGE 7u      /* the page has no durable log record */
 #define PAGESTORE_BAD_LOG 17u        /* the log breaks the restart rule */
 #define PAGESTORE_BAD_NOTES 18u      /* the notes break the restart rule */
+#define PAGESTORE_PAGE_LOST 23u      /* the log has turned past the page's records; no image or backup serves */
 
 /* The image: offsets, and the size of the body. */
 #define PAGESTORE_IMAGE_PAGE 0u      /* page number, 2 bytes, lowest first */

@@ -62,8 +62,8 @@ def defined_orders():
 
 def check_refusals():
     known, order, defined = refusals(), orders(), defined_orders()
-    if list(known) != list(range(1, len(known) + 1)) or not known:
-        yield "docs/FORMAT.md, section 6: the numbers are not 1, 2, 3 .."
+    if list(known) != sorted(set(known)) or list(known)[:19] != list(range(1, 20)):
+        yield "docs/FORMAT.md, section 6: the numbers are not 1 to 19 and rising ones"
     for call in sorted({call.lower() for call in order} ^ set(defined)):
         yield f"refusals of {call}: only in one of docs/FORMAT.md and Refusals.antt"
     for call, rows in order.items():

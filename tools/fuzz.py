@@ -26,9 +26,9 @@ DRIVERS = {"proved": os.path.join(ROOT, "target", "bin", "drive"), "reference": 
 SAVED = os.path.join(ROOT, "target", "fuzz")
 
 # What a run asks for now: scripts of each kind, answers of each sort. A request that adds an operation or an answer adds it here.
-KINDS = ["history", "arbitrary"]  # written in an instant, played in turn
-SEARCHED = ["mixed"]  # searched for until every answer is reached; made beside the others
-EXPECTED = [f"REFUSED {n}" for n in range(1, 20)] + ["NOTHING", "OK"]
+KINDS = ["history", "ring", "arbitrary"]  # written in an instant, played in turn
+SEARCHED = ["mixed", "turning"]  # searched for until every answer is reached; made beside the others
+EXPECTED = [f"REFUSED {n}" for n in [*range(1, 20), 23]] + ["NOTHING", "OK"]
 EXPECTED += ["GOOD", "BEHIND", "STALE", "FAILED", "AHEAD"] + ["OWN", "BACKUP", "FORMAT"]
 
 CELL = 64

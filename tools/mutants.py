@@ -36,7 +36,7 @@ use lib.Dec.{T}
 use lib.Text.{eqt}
 use Rattle.cases.specs.Opened.{opened}
 use Rattle.cases.specs.Rows.{Row, same}
-use Rattle.cases.specs.All.{rows}
+use Rattle.cases.specs.All.{diskRows, callRows, rows}
 use Rattle.cases.specs.Worked.{Worked, computes}
 use Rattle.cases.specs.Histories.{histories}
 
@@ -105,7 +105,7 @@ def write_probe(to, rows, names):
     text = PROBE
     for i, name in enumerate(names):
         kind, of = ("row", "rows") if name in rows else ("history", "histories")
-        text += f'\ncaught-{i} : T ({kind} "{name}" {of})\nunfolding opened rows histories {kind}\ncaught-{i} = tt\n'
+        text += f'\ncaught-{i} : T ({kind} "{name}" {of})\nunfolding opened diskRows callRows rows histories {kind}\ncaught-{i} = tt\n'
     (to / "crates/cases/proofs/Probe.antt").write_text(text)
 
 

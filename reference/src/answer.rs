@@ -25,6 +25,7 @@ pub enum Refusal {
     LogBroken = 17,
     NotesBroken = 18,
     ChainBroken = 19,
+    BelowRun = 23,
 }
 
 impl Refusal {

@@ -7,7 +7,7 @@ use crate::edge_episodes;
 use crate::episodes::{self, probe};
 use crate::geometry::{frame_count, memory_len_for, Geometry};
 use crate::heading::Heading;
-use crate::history::{choose_geometry, Style};
+use crate::history::{choose_geometry, choose_ring, Style};
 use crate::item_episodes;
 use crate::restart::recover;
 use crate::rng::Rng;
@@ -44,7 +44,10 @@ pub fn arbitrary_script(rng: &mut Rng, cells: usize) -> Vec<Cell> {
     let cells = cells.min(MAX_CELLS);
     let mut script = Script::default();
     while script.len() < cells {
-        let geometry = choose_geometry(rng);
+        let geometry = match rng.chance(350) {
+            true => choose_ring(rng),
+            false => choose_geometry(rng),
+        };
         let end = cells.min(script.len() + rng.between(150, 500));
         script = one_bench(script, geometry, end, rng);
     }

@@ -26,6 +26,8 @@ pub struct Replay {
 pub struct Book {
     pub waiting: VecDeque<Entry>,
     pub kept: Vec<Entry>,
+    /// Added to a place in kept to give its number; not 0 only after a lift.
+    pub base: u32,
 }
 
 impl Book {
@@ -63,26 +65,42 @@ impl Book {
 
     /// The page's replay from kept; None if it is blank.
     pub fn replay(&self, page: u16) -> Option<Replay> {
-        replay(self.kept.iter(), page)
+        replay(self.kept.iter(), page, self.base)
     }
 
     /// The same with the changes that still wait, as a frame should hold it.
     pub fn replay_with_waiting(&self, page: u16) -> Option<Replay> {
-        replay(self.kept.iter().chain(&self.waiting), page)
+        replay(self.kept.iter().chain(&self.waiting), page, self.base)
     }
 
-    /// Places in kept of the page's changes.
+    /// The kept changes with their numbers.
+    pub fn numbered(&self) -> impl Iterator<Item = (u32, &Entry)> {
+        (1u32..).zip(&self.kept).map(|(place, entry)| (self.base + place, entry))
+    }
+
+    /// The last kept change's number.
+    pub fn last(&self) -> u32 {
+        self.base + self.kept.len() as u32
+    }
+
+    /// The kept change with this number.
+    pub fn entry(&self, number: u32) -> &Entry {
+        &self.kept[(number - self.base) as usize - 1]
+    }
+
+    /// Numbers of the page's kept changes.
     pub fn places(&self, page: u16) -> Vec<u32> {
-        (1u32..).zip(&self.kept).filter(|(_, entry)| entry.page == page).map(|(at, _)| at).collect()
+        let of_page = self.numbered().filter(|(_, entry)| entry.page == page);
+        of_page.map(|(number, _)| number).collect()
     }
 }
 
-fn replay<'a>(entries: impl Iterator<Item = &'a Entry>, page: u16) -> Option<Replay> {
+fn replay<'a>(entries: impl Iterator<Item = &'a Entry>, page: u16, base: u32) -> Option<Replay> {
     let mut result = None;
-    for (number, entry) in (1u32..).zip(entries) {
+    for (place, entry) in (1u32..).zip(entries) {
         if entry.page == page {
             let body = result.map_or(vec![0; BODY_LEN], |replay: Replay| replay.body);
-            result = Some(Replay { number, body: changed(body, entry) });
+            result = Some(Replay { number: base + place, body: changed(body, entry) });
         }
     }
     result

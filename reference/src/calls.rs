@@ -58,8 +58,8 @@ fn rebuilt(volume: &[u8], page: u16, buffer_len: usize) -> Result<(Answer, Image
     let state = recover(volume, &geometry)?;
     let entry = state.entry(page);
     ensure(entry.newest_durable != 0, Refusal::Blank)?;
-    // A recovered log has no broken chain, so the walk does not fail here.
-    let (rebuild, image) = rebuild(volume, &geometry, page, entry)?;
+    // A recovered log has no broken chain, but it may have lost the page's start.
+    let (rebuild, image) = rebuild(volume, &geometry, page, entry, state.durable)?;
     Ok((Answer::Rebuilt(rebuild), as_stored(geometry.heading, &image)))
 }
 
@@ -82,7 +82,7 @@ impl State {
         let frame = ensure_frame(frame, frames)?;
         ensure(self.entry(page).newest == 0, Refusal::NotBlankOrInFrame)?;
         ensure(!self.frame(frame).dirty, Refusal::FrameDirty)?;
-        self.ensure_room(&geometry)?;
+        self.ensure_room(volume, &geometry)?;
         memory[frame_place(frame)].copy_from_slice(&blank_image(page));
         let change = Change::Format { fill };
         Ok((self.append(memory, page, frame, change, [0; PAYLOAD_LEN]), Answer::Done))
@@ -101,7 +101,7 @@ impl State {
         ensure(entry.newest != 0, Refusal::Blank)?;
         ensure(self.frame_of(page).is_none(), Refusal::NotBlankOrInFrame)?;
         ensure(!self.frame(frame).dirty, Refusal::FrameDirty)?;
-        let (rebuild, image) = rebuild(volume, &geometry, page, entry)?;
+        let (rebuild, image) = rebuild(volume, &geometry, page, entry, self.durable)?;
         memory[frame_place(frame)].copy_from_slice(&image);
         self.frames[frame - 1] = Frame { page, dirty: rebuild.class != Class::Good };
         Ok((self, Answer::Rebuilt(rebuild)))
@@ -131,7 +131,7 @@ impl State {
         ensure_page(page, &geometry)?;
         ensure(change.keeps_rule(), Refusal::ChangeRule)?;
         let frame = self.frame_of(page).ok_or(Refusal::NotInFrame)?;
-        self.ensure_room(&geometry)?;
+        self.ensure_room(volume, &geometry)?;
         Ok((self.append(memory, page, frame, change, payload), Answer::Done))
     }
 
@@ -147,7 +147,7 @@ impl State {
         }
         let number = self.durable + 1;
         let record = &memory[pending_place(number)];
-        volume[geometry.record(number as usize)].copy_from_slice(record);
+        volume[geometry.record_place(number)].copy_from_slice(record);
         let page = Record::page_of(record);
         if ensure_page(page, &geometry).is_ok() {
             self.entry_mut(page).newest_durable = number;
@@ -170,7 +170,7 @@ impl State {
             return Ok((self, Answer::Nothing));
         }
         let image = &memory[frame_place(frame)];
-        self.ensure_storable(image, &geometry)?;
+        self.ensure_storable(volume, image, &geometry)?;
         volume[geometry.page(page.into())].copy_from_slice(&as_stored(geometry.heading, image));
         self.frames[frame - 1].dirty = false;
         Ok((self.owe(page, NoteKind::Written, 0, image_lsn(image)), Answer::Done))
@@ -187,7 +187,7 @@ impl State {
         ensure((1..=geometry.slots).contains(&usize::from(slot)), Refusal::SlotRange)?;
         let frame = self.frame_of(page).ok_or(Refusal::NotInFrame)?;
         let image = &memory[frame_place(frame)];
-        self.ensure_storable(image, &geometry)?;
+        self.ensure_storable(volume, image, &geometry)?;
         ensure(!self.slot_in_index(slot as u8), Refusal::SlotInIndex)?;
         volume[geometry.slot(slot.into())].copy_from_slice(&as_stored(geometry.heading, image));
         Ok((self.owe(page, NoteKind::BackedUp, slot as u8, image_lsn(image)), Answer::Done))
@@ -204,7 +204,7 @@ impl State {
             return Ok((self, Answer::Nothing));
         };
         self.notes += 1;
-        volume[geometry.note(self.notes as usize)].copy_from_slice(&note.encode());
+        volume[geometry.note_place(self.notes)].copy_from_slice(&note.encode());
         self.entry_mut(note.page).take_note(&note);
         Ok((self, Answer::Done))
     }
@@ -223,16 +223,20 @@ impl State {
     }
 
     /// Refusals 11 and 12.
-    fn ensure_room(&self, geometry: &Geometry) -> Result<(), Refusal> {
+    fn ensure_room(&self, volume: &[u8], geometry: &Geometry) -> Result<(), Refusal> {
         ensure((self.pending as usize) < MAX_PENDING, Refusal::PendingFull)?;
-        let last_given = (self.durable + self.pending) as usize;
-        ensure(last_given < geometry.records, Refusal::LogFull)
+        Ok(self.log_room(volume, geometry)?)
     }
 
     /// Refusals 13 to 15.
-    fn ensure_storable(&self, image: &[u8], geometry: &Geometry) -> Result<(), Refusal> {
+    fn ensure_storable(
+        &self,
+        volume: &[u8],
+        image: &[u8],
+        geometry: &Geometry,
+    ) -> Result<(), Refusal> {
         ensure(self.owed.is_none(), Refusal::NoteOwed)?;
-        ensure((self.notes as usize) < geometry.notes, Refusal::NotesFull)?;
+        self.notes_room(volume, geometry)?;
         ensure(image_lsn(image) <= self.durable, Refusal::NotDurable)
     }
 

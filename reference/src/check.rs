@@ -5,9 +5,11 @@ use crate::book::{Book, Replay};
 use crate::bytes::{all_zero, u16_at, u32_at};
 use crate::calls::inspect;
 use crate::cell::Call;
+use crate::check_ring::RingView;
 use crate::geometry::{frame_count, frame_place};
-use crate::history::{choose_geometry, Style};
+use crate::history::{choose_geometry, choose_ring, Style};
 use crate::image::{BODY, CHECKSUM};
+use crate::note::NoteKind;
 use crate::restart::recover;
 use crate::rng::Rng;
 use crate::script::Script;
@@ -21,22 +23,29 @@ pub struct Checker {
     pub world: World,
     pub book: Book,
     events: Vec<Event>,
+    /// Page and kind of every note stored, and what is added to their places.
+    notes: Vec<(u16, NoteKind)>,
+    notes_base: u32,
+    damaged: bool,
 }
 
 /// Runs the history of a seed; an error tells the contradiction and the events before it.
 pub fn check_history(seed: u64) -> Result<Counts, String> {
     let mut rng = Rng::new(seed);
-    let geometry = choose_geometry(&mut rng);
+    let geometry = match rng.chance(400) {
+        true => choose_ring(&mut rng),
+        false => choose_geometry(&mut rng),
+    };
     let style = Style::choose(&mut rng);
     let world = World::make(Script::default(), geometry, rng.byte());
-    let mut checker = Checker { world, book: Book::default(), events: Vec::new() };
+    let mut checker = Checker::new(world);
     let rest = 1 + geometry.pages * (geometry.records + geometry.notes) / WORK_PER_EVENT;
     for at in 0..rng.between(20, 400) {
         let event = style.next(&checker.world, &mut rng);
         checker.step(event, at % rest == 0)?;
     }
     checker.inspect_all().map_err(|text| checker.report(&text))?;
-    Ok(Counts { events: checker.events.len(), kept: checker.book.kept.len() })
+    Ok(checker.counts())
 }
 
 /// How much a history held.
@@ -44,14 +53,46 @@ pub fn check_history(seed: u64) -> Result<Counts, String> {
 pub struct Counts {
     pub events: usize,
     pub kept: usize,
+    /// Histories in which record 1 has left the log, and pages beyond repair at their ends.
+    pub turned: usize,
+    pub lost: usize,
+}
+
+impl Counts {
+    pub fn add(&mut self, other: &Counts) {
+        self.events += other.events;
+        self.kept += other.kept;
+        self.turned += other.turned;
+        self.lost += other.lost;
+    }
 }
 
 impl Checker {
+    fn new(world: World) -> Checker {
+        Checker {
+            world,
+            book: Book::default(),
+            events: Vec::new(),
+            notes: Vec::new(),
+            notes_base: 0,
+            damaged: false,
+        }
+    }
+
     fn step(&mut self, event: Event, inspect_all: bool) -> Result<(), String> {
         let waiting_before = self.book.waiting.len();
         self.events.push(event.clone());
+        let owed = self.world.script.driver.state.owed;
         let outcome = self.world.apply(&event);
         self.feed(&event, &outcome);
+        let noted = match event {
+            Event::Call(Call::Note) => outcome.answer == Some(Answer::Done),
+            Event::Cut { within: Some(Call::Note), .. } => outcome.left_new,
+            _ => false,
+        };
+        if noted {
+            self.notes.extend(owed.map(|note| (note.page, note.kind)));
+        }
         self.check_answer(&event, &outcome, waiting_before)
             .and_then(|()| self.check_live())
             .and_then(|()| if inspect_all { self.inspect_all() } else { Ok(()) })
@@ -65,7 +106,13 @@ impl Checker {
                 self.book.call(call, refused);
             }
             Event::Cut { within, .. } => self.book.cut(within.as_ref(), outcome.left_new),
-            Event::Lend { .. } | Event::Damage { .. } => {}
+            Event::Lend { .. } => {}
+            Event::Damage { .. } => self.damaged = true,
+            Event::Lift(lift) => {
+                self.book.cut(None, false);
+                self.book.base += lift.records;
+                self.notes_base += lift.notes;
+            }
         }
     }
 
@@ -84,6 +131,9 @@ impl Checker {
         if *call == Call::Force {
             let nothing = answer == Answer::Nothing;
             ensure(nothing == (waiting == 0), || format!("{answer} with {waiting} waiting"))?;
+        }
+        if let (Call::Load { page, .. }, Answer::Refused(Refusal::BelowRun)) = (call, answer) {
+            self.ring(&self.noted()?).check_below(*page, &answer)?;
         }
         match (call, answer) {
             (Call::Load { page, frame }, Answer::Rebuilt(rebuild)) => {
@@ -107,8 +157,8 @@ impl Checker {
         let state = &driver.state;
         let sound = state.is_sound(&self.world.geometry, self.world.frames());
         ensure(sound, || format!("a history came to an unsound state: {state:?}"))?;
-        let counts = (self.book.kept.len(), self.book.waiting.len());
-        ensure((state.durable as usize, state.pending as usize) == counts, || {
+        let counts = (self.book.last(), self.book.waiting.len() as u32);
+        ensure((state.durable, state.pending) == counts, || {
             format!("durable {} pending {}, book {counts:?}", state.durable, state.pending)
         })?;
         self.check_index(state)?;
@@ -132,13 +182,34 @@ impl Checker {
         })
     }
 
-    /// Inspect for every page: 7 exactly if blank, else the replay's number and body.
+    fn ring<'a>(&'a self, noted: &'a State) -> RingView<'a> {
+        RingView { world: &self.world, book: &self.book, noted }
+    }
+
+    /// What log and notes have lost, and the proviso where nothing was damaged.
+    fn check_ring(&self, noted: &State) -> Result<(), String> {
+        let ring = self.ring(noted);
+        ring.check_spare()?;
+        ring.check_notes(&self.notes, self.notes_base)?;
+        let pages = 1..=self.world.geometry.pages as u16;
+        let safe = !ring.gone() || pages.into_iter().all(|page| ring.provided(page));
+        ensure(safe || self.damaged, || "a history without damage fails the proviso".into())
+    }
+
+    /// Inspect for every page: 7 exactly if blank, 23 if it is beyond repair, else the
+    /// replay's number and body.
     fn inspect_all(&self) -> Result<(), String> {
+        let noted = self.noted()?;
+        self.check_ring(&noted)?;
         for page in 1..=self.world.geometry.pages as u16 {
             let mut buffer = [0xA5; 256];
             let answer = inspect(self.world.volume(), page, &mut buffer);
+            self.ring(&noted).check_below(page, &answer)?;
             match (answer, self.book.replay(page)) {
                 (Answer::Refused(Refusal::Blank), None) => {
+                    ensure(buffer == [0xA5; 256], || "a refused Inspect wrote".into())?
+                }
+                (Answer::Refused(Refusal::BelowRun), Some(_)) => {
                     ensure(buffer == [0xA5; 256], || "a refused Inspect wrote".into())?
                 }
                 (Answer::Rebuilt(rebuild), replay @ Some(_)) => {
@@ -165,7 +236,7 @@ impl Checker {
         ensure(good == untouched, || format!("page {page}: {rebuild}"))?;
         let places = self.book.places(page);
         let after = |number: u32| places.iter().filter(|&&place| place > number).count();
-        let is_format = |&&place: &&u32| self.book.kept[place as usize - 1].change.is_format();
+        let is_format = |&&place: &&u32| self.book.entry(place).change.is_format();
         let last_format = places.iter().rev().find(is_format).copied().unwrap_or(1);
         let noted = self.noted()?.entry(page).backup_lsn;
         let expected = match rebuild.start {
@@ -180,6 +251,18 @@ impl Checker {
     fn noted(&self) -> Result<State, String> {
         recover(self.world.volume(), &self.world.geometry)
             .map_err(|refusal| format!("a history's volume breaks the restart rule: {refusal:?}"))
+    }
+
+    fn counts(&self) -> Counts {
+        let noted = self.noted().unwrap_or(State::zero());
+        let ring = self.ring(&noted);
+        let pages = 1..=self.world.geometry.pages as u16;
+        Counts {
+            events: self.events.len(),
+            kept: self.book.kept.len(),
+            turned: ring.gone().into(),
+            lost: pages.filter(|&page| ring.beyond_repair(page)).count(),
+        }
     }
 
     fn report(&self, text: &str) -> String {
@@ -203,7 +286,7 @@ fn same(image: &[u8], replay: Option<Replay>, what: &str, page: u16) -> Result<(
     ensure(image[BODY] == replay.body, || format!("{what} of page {page}: body differs"))
 }
 
-fn ensure(holds: bool, text: impl FnOnce() -> String) -> Result<(), String> {
+pub fn ensure(holds: bool, text: impl FnOnce() -> String) -> Result<(), String> {
     if holds {
         Ok(())
     } else {

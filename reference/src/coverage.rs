@@ -15,6 +15,28 @@ use std::collections::{BTreeMap, BTreeSet};
 /// Stands for the call where a hit is the cause of a refusal.
 const CAUSE: &str = "cause";
 
+/// Causes that only a ring has: runs, lost starts, numbers to the largest.
+const RING_ONLY: &[&str] = &[
+    "LogTorn",
+    "LogNext",
+    "LogStart",
+    "PreviousBelow",
+    "NotesTorn",
+    "NotesNext",
+    "NotesStart",
+    "WrittenAbove",
+    "BelowRun",
+    "LogNumbers",
+    "LogPending",
+    "LogNeeded",
+    "NotesNumbers",
+    "NotesNeeded",
+    "none owed at N 0",
+];
+
+/// Faults that a ring can't have.
+const STRAIGHT_ONLY: &[&str] = &["LogEnd", "NotesEnd"];
+
 /// A call's name and an answer without its count, or `CAUSE` and a cause.
 pub type Hit = (&'static str, String);
 
@@ -27,20 +49,29 @@ pub fn label(answer: &str) -> String {
     }
 }
 
-/// Every call with every answer that it can give.
-pub fn targets() -> BTreeSet<Hit> {
+/// Every call with every answer that it can give, on rings or on volumes that don't turn.
+pub fn targets(ring: bool) -> BTreeSet<Hit> {
     let mut all = BTreeSet::new();
     for row in ROWS {
-        all.extend(row.refusals.iter().map(|number| (row.name, format!("REFUSED {number}"))));
+        let refusals = row.refusals.iter().filter(|&&number| ring || number != 23);
+        all.extend(refusals.map(|number| (row.name, format!("REFUSED {number}"))));
         all.extend(row.answers.iter().map(|answer| (row.name, answer.to_string())));
     }
     all
 }
 
-/// Every cause of a refusal that is looked for.
-pub fn causes() -> BTreeSet<Hit> {
+/// Every cause of a refusal that is looked for, on rings or on volumes that don't turn. Each
+/// clause of soundness is looked for on one of the two only.
+pub fn causes(ring: bool) -> BTreeSet<Hit> {
     let faults = Fault::ALL.iter().map(|fault| format!("{fault:?}"));
     let clauses = clause_names().map(String::from);
+    let wanted = |cause: &String, is_clause: bool| match ring {
+        true if is_clause => RING_ONLY.contains(&cause.as_str()),
+        true => !STRAIGHT_ONLY.contains(&cause.as_str()),
+        false => !RING_ONLY.contains(&cause.as_str()),
+    };
+    let faults = faults.filter(|cause| wanted(cause, false));
+    let clauses = clauses.filter(|cause| wanted(cause, true));
     faults.chain(clauses).map(|cause| (CAUSE, cause)).collect()
 }
 
@@ -88,9 +119,13 @@ fn cause(driver: &Driver, state: &State, call: &Call, refusal: Refusal) -> Optio
         (Refusal::LogBroken | Refusal::NotesBroken, _) => {
             recover(driver.volume(), &geometry).err().map(named)
         }
+        (Refusal::BelowRun, _) => Some(named(Fault::BelowRun)),
         (Refusal::ChainBroken, Call::Load { page, .. }) => {
-            rebuild(driver.volume(), &geometry, *page, state.entry(*page)).err().map(named)
+            let (entry, durable) = (state.entry(*page), state.durable);
+            rebuild(driver.volume(), &geometry, *page, entry, durable).err().map(named)
         }
+        (Refusal::LogFull, _) => state.log_room(driver.volume(), &geometry).err().map(named),
+        (Refusal::NotesFull, _) => state.notes_room(driver.volume(), &geometry).err().map(named),
         _ => None,
     }
 }

@@ -32,13 +32,13 @@ pub const ROWS: &[Row] = &[
     Row { name: "makefirst", refusals: &[1], answers: OK },
     Row { name: "restart", refusals: &[1, 2, 17, 18], answers: OK },
     Row { name: "begin", refusals: &[1, 2, 3, 4, 9, 10, 11, 12], answers: OK },
-    Row { name: "load", refusals: &[1, 2, 3, 4, 7, 9, 10, 19], answers: REBUILDS },
+    Row { name: "load", refusals: &[1, 2, 3, 4, 7, 9, 10, 19, 23], answers: REBUILDS },
     Row { name: "change", refusals: &[1, 2, 3, 6, 8, 11, 12], answers: OK },
     Row { name: "force", refusals: &[1, 2], answers: OK_OR_NOTHING },
     Row { name: "write", refusals: &[1, 2, 3, 8, 13, 14, 15], answers: OK_OR_NOTHING },
     Row { name: "backup", refusals: &[1, 2, 3, 5, 8, 13, 14, 15, 16], answers: OK },
     Row { name: "note", refusals: &[1, 2], answers: OK_OR_NOTHING },
-    Row { name: "inspect", refusals: &[1, 2, 3, 7, 17, 18], answers: REBUILDS },
+    Row { name: "inspect", refusals: &[1, 2, 3, 7, 17, 18, 23], answers: REBUILDS },
 ];
 
 /// The name of a call in the table.

@@ -18,7 +18,8 @@ pub fn sound_edges(world: &mut World, rng: &mut Rng) {
         1 => edge_of_frames(world, rng),
         _ => edge_of_index(world, rng),
     };
-    world.script.set_state(position, bound as u32 + rng.pick(&[0, 1, 1]));
+    let value = (bound + rng.pick(&[0, 1, 1])).min(u32::MAX as usize);
+    world.script.set_state(position, value as u32);
     probe_any(world, rng);
 }
 
@@ -40,10 +41,11 @@ fn edge_of_counts(world: &World, rng: &mut Rng) -> (usize, usize) {
     let geometry = &world.geometry;
     let [durable, pending, notes] =
         [state.durable, state.pending, state.notes].map(|count| count as usize);
+    let records = geometry.most_records() as usize;
     match rng.below(7) {
-        0 => (0, geometry.records.saturating_sub(pending)),
-        1 => (1, geometry.records.saturating_sub(durable).min(MAX_PENDING)),
-        2 => (2, geometry.notes.saturating_sub(state.owed.is_some().into())),
+        0 => (0, records.saturating_sub(pending)),
+        1 => (1, records.saturating_sub(durable).min(MAX_PENDING)),
+        2 => (2, (geometry.most_notes() as usize).saturating_sub(state.owed.is_some().into())),
         3 => (4, notes + rng.below(2)),
         4 => (5, geometry.pages * rng.below(2)),
         5 => (6, geometry.slots * rng.below(2)),

@@ -6,7 +6,7 @@ use crate::choose::{payload, Kind};
 use crate::geometry::{IMAGE_LEN, MAX_FRAMES};
 use crate::heading::{Heading, HEADING_LEN};
 use crate::history::chooser;
-use crate::mutate::{edit_item, forge_image, near};
+use crate::mutate::{edit_item, forge_image, near, near_last};
 use crate::rng::Rng;
 use crate::state::{FRAMES_AT, INDEX_AT, NUMBERS};
 use crate::world::World;
@@ -152,14 +152,14 @@ pub fn sound_index(world: &mut World, rng: &mut Rng) {
     let state = world.script.driver.state;
     let page = chooser(world).page(rng, |page| state.frame_of(page).is_none());
     if rng.chance(400) {
-        let newest = rng.between(0, state.durable as usize) as u32;
+        let newest = near_last(rng, state.durable).min(state.durable);
         set_entry(world, page, 0, newest);
         set_entry(world, page, 1, newest);
     }
-    let top = world.script.driver.state.entry(page).newest_durable as usize;
-    let backup = rng.between(0, top) as u32;
+    let top = world.script.driver.state.entry(page).newest_durable;
+    let backup = near_last(rng, top).min(top);
     let slot = rng.between(0, world.geometry.slots);
-    set_entry(world, page, 2, rng.between(0, top) as u32);
+    set_entry(world, page, 2, near_last(rng, top).min(top));
     set_entry(world, page, 3, slot as u32);
     set_entry(world, page, 4, backup);
     if slot != 0 && rng.chance(600) {
@@ -169,7 +169,7 @@ pub fn sound_index(world: &mut World, rng: &mut Rng) {
     }
     if rng.chance(500) {
         let place = world.geometry.page(page.into());
-        let lsn = rng.between(0, top + 1) as u32;
+        let lsn = near_last(rng, top);
         let edit = |bytes: &mut [u8], rng: &mut Rng| forge_image(bytes, page, lsn, rng);
         edit_item(world, place, rng, edit);
     }
@@ -180,18 +180,18 @@ pub fn sound_index(world: &mut World, rng: &mut Rng) {
 pub fn sound_extremes(world: &mut World, rng: &mut Rng) {
     let geometry = world.geometry;
     let state = world.script.driver.state;
-    let room = geometry.records.saturating_sub(state.durable as usize);
+    let room = geometry.most_records().saturating_sub(state.durable);
     let kinds: &[Kind] = match rng.below(5) {
         0 | 1 => {
-            world.script.set_state(1, room.min(16) as u32);
+            world.script.set_state(1, room.min(16));
             &[Kind::Begin, Kind::Change, Kind::Force]
         }
         2 => {
-            world.script.set_state(0, (geometry.records as u32).saturating_sub(state.pending));
+            world.script.set_state(0, geometry.most_records().saturating_sub(state.pending));
             &[Kind::Begin, Kind::Change, Kind::Force, Kind::Write]
         }
         3 => {
-            world.script.set_state(2, geometry.notes as u32);
+            world.script.set_state(2, geometry.most_notes());
             &[Kind::Write, Kind::Backup, Kind::Note]
         }
         _ => {
@@ -212,7 +212,7 @@ pub fn owe_any(world: &mut World, rng: &mut Rng) {
     let kind = 1 + usize::from(slot != 0);
     let page = rng.between(1, world.geometry.pages);
     let lsn = rng.between(0, state.durable as usize);
-    let owed = [kind, state.notes as usize + 1, page, slot, lsn];
+    let owed = [kind, (state.notes as usize + 1).min(u32::MAX as usize), page, slot, lsn];
     for (position, value) in (3..8).zip(owed) {
         world.script.set_state(position, value as u32);
     }

@@ -1,4 +1,4 @@
-//! What exactly is wrong with a volume, below the number of the refusal.
+//! What exactly is wrong with a volume or in the way of a call, below the refusal's number.
 
 use crate::answer::Refusal;
 
@@ -10,14 +10,25 @@ pub enum Fault {
     RecordCount,
     NoteCount,
     Length,
-    /// Bytes that are not zero past the first record that fails its checksum.
+    /// Bytes that are not zero past the slot that the next record goes to.
     LogTail,
+    /// A slot of the run fails its checksum.
+    LogTorn,
+    /// Before the first turn: the slot after the last record has a right checksum.
+    LogNext,
+    /// Before the first turn: record 1 is missing.
+    LogStart,
     RecordLayout,
     RecordNumber,
     RecordPage,
     RecordPrevious,
+    /// It names one below the run though its page has one in it.
+    PreviousBelow,
     FirstNotFormat,
     NotesTail,
+    NotesTorn,
+    NotesNext,
+    NotesStart,
     NoteKind,
     NoteNumber,
     NotePage,
@@ -25,8 +36,12 @@ pub enum Fault {
     WrittenSlot,
     /// A backup's slot that is not 1 to B.
     BackupSlot,
-    /// The note names no durable record of its page.
+    /// The note names no record, one above the log, or another page's.
+    NoteZero,
+    NoteAboveLog,
     NoteRecord,
+    /// A written number above its page's newest.
+    WrittenAbove,
     /// Below the page's last written note.
     WrittenOrder,
     /// Below the page's last backup note.
@@ -42,10 +57,27 @@ pub enum Fault {
     ChainPrevious,
     /// Previous number 0 without a format.
     ChainEnd,
+    /// The walk goes below the run.
+    BelowRun,
+    /// No ring, and L records.
+    LogEnd,
+    /// The numbers have run out.
+    LogNumbers,
+    /// The record in the next one's slot is pending.
+    LogPending,
+    /// It is not spare.
+    LogNeeded,
+    /// N is 0.
+    NoNotes,
+    /// No ring, and N notes.
+    NotesEnd,
+    NotesNumbers,
+    /// The note in the next one's slot is not spare.
+    NotesNeeded,
 }
 
 impl Fault {
-    pub const ALL: [Fault; 29] = [
+    pub const ALL: [Fault; 48] = [
         Fault::Heading,
         Fault::PageCount,
         Fault::SlotCount,
@@ -53,18 +85,28 @@ impl Fault {
         Fault::NoteCount,
         Fault::Length,
         Fault::LogTail,
+        Fault::LogTorn,
+        Fault::LogNext,
+        Fault::LogStart,
         Fault::RecordLayout,
         Fault::RecordNumber,
         Fault::RecordPage,
         Fault::RecordPrevious,
+        Fault::PreviousBelow,
         Fault::FirstNotFormat,
         Fault::NotesTail,
+        Fault::NotesTorn,
+        Fault::NotesNext,
+        Fault::NotesStart,
         Fault::NoteKind,
         Fault::NoteNumber,
         Fault::NotePage,
         Fault::WrittenSlot,
         Fault::BackupSlot,
+        Fault::NoteZero,
+        Fault::NoteAboveLog,
         Fault::NoteRecord,
+        Fault::WrittenAbove,
         Fault::WrittenOrder,
         Fault::BackupOrder,
         Fault::SlotTaken,
@@ -75,6 +117,15 @@ impl Fault {
         Fault::ChainPage,
         Fault::ChainPrevious,
         Fault::ChainEnd,
+        Fault::BelowRun,
+        Fault::LogEnd,
+        Fault::LogNumbers,
+        Fault::LogPending,
+        Fault::LogNeeded,
+        Fault::NoNotes,
+        Fault::NotesEnd,
+        Fault::NotesNumbers,
+        Fault::NotesNeeded,
     ];
 }
 
@@ -83,15 +134,17 @@ impl From<Fault> for Refusal {
         use Fault::*;
         match fault {
             Heading | PageCount | SlotCount | RecordCount | NoteCount | Length => Refusal::Volume,
-            LogTail | RecordLayout | RecordNumber | RecordPage | RecordPrevious
-            | FirstNotFormat => Refusal::LogBroken,
-            NotesTail | NoteKind | NoteNumber | NotePage | WrittenSlot | BackupSlot
-            | NoteRecord | WrittenOrder | BackupOrder | SlotTaken | SlotTakenByOther => {
-                Refusal::NotesBroken
-            }
+            LogTail | LogTorn | LogNext | LogStart | RecordLayout | RecordNumber | RecordPage
+            | RecordPrevious | PreviousBelow | FirstNotFormat => Refusal::LogBroken,
+            NotesTail | NotesTorn | NotesNext | NotesStart | NoteKind | NoteNumber | NotePage
+            | WrittenSlot | BackupSlot | NoteZero | NoteAboveLog | NoteRecord | WrittenAbove
+            | WrittenOrder | BackupOrder | SlotTaken | SlotTakenByOther => Refusal::NotesBroken,
             ChainChecksum | ChainLayout | ChainNumber | ChainPage | ChainPrevious | ChainEnd => {
                 Refusal::ChainBroken
             }
+            BelowRun => Refusal::BelowRun,
+            LogEnd | LogNumbers | LogPending | LogNeeded => Refusal::LogFull,
+            NoNotes | NotesEnd | NotesNumbers | NotesNeeded => Refusal::NotesFull,
         }
     }
 }

@@ -81,6 +81,27 @@ impl Geometry {
         [self.pages, self.slots, self.records, self.notes].map(|count| count as u32)
     }
 
+    /// Whether log and notes turn: later items take the places of earlier ones.
+    pub fn is_ring(&self) -> bool {
+        self.heading == Heading::Second && self.records >= 2
+    }
+
+    /// The largest number that a record can have.
+    pub fn most_records(&self) -> u32 {
+        match self.is_ring() {
+            true => u32::MAX,
+            false => self.records as u32,
+        }
+    }
+
+    /// The largest number that a note can have.
+    pub fn most_notes(&self) -> u32 {
+        match self.is_ring() {
+            true => u32::MAX,
+            false => self.notes as u32,
+        }
+    }
+
     fn slots_at(&self) -> usize {
         12 + self.pages * IMAGE_LEN
     }
@@ -102,10 +123,22 @@ impl Geometry {
         item(self.slots_at(), number, IMAGE_LEN)
     }
 
+    /// Bytes of the slot that log record `number` (at least 1) goes to.
+    pub fn record_place(&self, number: u32) -> Range<usize> {
+        self.record((number as usize - 1) % self.records + 1)
+    }
+
+    /// Bytes of the slot that note `number` (at least 1) goes to; N is not 0.
+    pub fn note_place(&self, number: u32) -> Range<usize> {
+        self.note((number as usize - 1) % self.notes + 1)
+    }
+
+    /// Bytes of a slot of the log.
     pub fn record(&self, number: usize) -> Range<usize> {
         item(self.records_at(), number, RECORD_LEN)
     }
 
+    /// Bytes of a slot of the notes.
     pub fn note(&self, number: usize) -> Range<usize> {
         item(self.notes_at(), number, NOTE_LEN)
     }

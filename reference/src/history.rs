@@ -6,6 +6,8 @@ use crate::choose::{Chooser, Kind};
 use crate::damage::{choose_damage, torn};
 use crate::geometry::{memory_len_for, Geometry, MAX_FRAMES};
 use crate::heading::Heading;
+use crate::keeper::keeper_call;
+use crate::lift::Lift;
 use crate::rng::Rng;
 use crate::script::Script;
 use crate::world::{Event, Left, World};
@@ -19,6 +21,9 @@ pub struct Style {
     damage: usize,
     silly: usize,
     bad_memory: usize,
+    /// Calls of someone who keeps a ring turning.
+    keep: usize,
+    lift: usize,
     weights: Vec<(Kind, usize)>,
 }
 
@@ -29,6 +34,8 @@ impl Style {
             damage: rng.pick(&[0, 20, 60, 120]),
             silly: rng.pick(&[0, 20, 100]),
             bad_memory: 100,
+            keep: rng.pick(&[0, 400, 900]),
+            lift: rng.pick(&[0, 0, 3]),
             weights: vec![
                 (Kind::Begin, rng.pick(&[6, 15])),
                 (Kind::Load, rng.pick(&[8, 20])),
@@ -46,6 +53,11 @@ impl Style {
     pub fn next(&self, world: &World, rng: &mut Rng) -> Event {
         if rng.chance(self.damage) {
             return choose_damage(world, rng);
+        }
+        if rng.chance(self.lift) {
+            if let Some(lift) = Lift::choose(world.volume(), &world.geometry, rng) {
+                return Event::Lift(lift);
+            }
         }
         if !world.live {
             return self.revive(world, rng);
@@ -74,6 +86,9 @@ impl Style {
 
     /// A call; one that does nothing is mostly given up for another.
     fn call(&self, world: &World, rng: &mut Rng) -> Call {
+        if world.geometry.is_ring() && rng.chance(self.keep) {
+            return keeper_call(world, rng);
+        }
         let chooser = chooser(world);
         for _ in 0..TRIES {
             let kind = rng.weighted(&self.weights);
@@ -120,6 +135,18 @@ fn frames(rng: &mut Rng) -> usize {
     }
 }
 
+/// A ring that soon turns: few slots, and mostly enough backups and notes to go on.
+pub fn choose_ring(rng: &mut Rng) -> Geometry {
+    let pages = rng.between(1, 3);
+    let slots = pages + rng.between(0, 3);
+    let notes = match rng.below(8) {
+        0 => rng.between(0, 2),
+        _ => 2 * pages + rng.between(0, 5),
+    };
+    let counts = [pages, slots, rng.between(2, 9), notes].map(|count| count as u32);
+    Geometry::new(Heading::Second, counts).expect("the counts are in range")
+}
+
 /// Mostly a small geometry, sometimes any, rarely the full one.
 pub fn choose_geometry(rng: &mut Rng) -> Geometry {
     let counts = match rng.below(40) {
@@ -137,10 +164,19 @@ pub fn choose_geometry(rng: &mut Rng) -> Geometry {
 
 /// A script of one history or several, with inspections in between.
 pub fn history_script(rng: &mut Rng, cells: usize) -> Vec<Cell> {
+    script_of_histories(rng, cells, choose_geometry)
+}
+
+/// The same on small rings.
+pub fn ring_script(rng: &mut Rng, cells: usize) -> Vec<Cell> {
+    script_of_histories(rng, cells, choose_ring)
+}
+
+fn script_of_histories(rng: &mut Rng, cells: usize, choose: fn(&mut Rng) -> Geometry) -> Vec<Cell> {
     let cells = cells.min(MAX_CELLS);
     let mut script = Script::default();
     while script.len() < cells {
-        let geometry = choose_geometry(rng);
+        let geometry = choose(rng);
         let end = cells.min(script.len() + rng.between(60, 600));
         script = one_history(script, geometry, end, rng);
     }

@@ -8,7 +8,7 @@ use crate::episodes::{look_at, probe, probe_any, probe_load, set_entry};
 use crate::geometry::{frame_place, pending_place, IMAGE_LEN};
 use crate::history::chooser;
 use crate::mutate::{
-    edit_image, edit_item, edit_memory, edit_note, edit_record, forge_image, near_page,
+    edit_image, edit_item, edit_memory, edit_note, edit_record, forge_image, near_last, near_page,
 };
 use crate::note::{Note, NoteKind};
 use crate::record::Record;
@@ -22,11 +22,10 @@ pub fn edited_record(world: &mut World, rng: &mut Rng) {
     let page = chooser(world).page(rng, |page| chooser(world).loadable(page));
     let chain = chain_of(world, page);
     let last = (world.script.driver.state.durable as usize + 1).min(geometry.records);
-    let number = match chain.is_empty() || rng.chance(200) {
-        true => rng.between(1, last),
-        false => rng.pick(&chain) as usize,
+    let place = match chain.is_empty() || rng.chance(200) {
+        true => geometry.record(rng.between(1, last)),
+        false => geometry.record_place(rng.pick(&chain)),
     };
-    let place = geometry.record(number);
     edit_item(world, place, rng, |bytes, rng| edit_record(bytes, &geometry, rng));
     if rng.chance(750) {
         let at = geometry.page(page.into()).start + rng.below(IMAGE_LEN);
@@ -38,11 +37,12 @@ pub fn edited_record(world: &mut World, rng: &mut Rng) {
 
 /// Numbers of the records on disk that name `page`, up to the durable count.
 fn chain_of(world: &World, page: u16) -> Vec<u32> {
-    let last = world.geometry.records.min(world.script.driver.state.durable as usize);
+    let last = world.script.driver.state.durable;
+    let first = last.saturating_sub(world.geometry.records as u32) + 1;
     let names_page = |&number: &u32| {
-        Record::page_of(&world.volume()[world.geometry.record(number as usize)]) == page
+        Record::page_of(&world.volume()[world.geometry.record_place(number)]) == page
     };
-    (1..=last as u32).filter(names_page).collect()
+    (first..=last).filter(names_page).collect()
 }
 
 /// Own image, backup and written note of a page at any of its numbers, through the state's
@@ -60,15 +60,16 @@ pub fn aged_page(world: &mut World, rng: &mut Rng) {
     for (place, lsn) in [(geometry.page(page.into()), own), (geometry.slot(slot.into()), backup)] {
         edit_item(world, place, rng, |bytes, rng| forge_image(bytes, page, lsn, rng));
     }
-    let room = (state.notes as usize) + 2 <= geometry.notes;
+    let turns = geometry.is_ring() && geometry.notes > 2 && state.notes < u32::MAX - 1;
+    let room = turns || (state.notes as usize) + 2 <= geometry.notes;
     if room && rng.chance(500) {
         let number = state.notes + 1;
         let lsn = written.max(state.entry(page).written);
         let first = Note { number, page, kind: NoteKind::Written, slot: 0, lsn };
         let second =
             Note { number: number + 1, kind: NoteKind::BackedUp, slot, lsn: backup, ..first };
-        world.script.poke(geometry.note(number as usize), &first.encode());
-        world.script.poke(geometry.note(number as usize + 1), &second.encode());
+        world.script.poke(geometry.note_place(number), &first.encode());
+        world.script.poke(geometry.note_place(number + 1), &second.encode());
         world.script.call(Call::Inspect { page });
         return;
     }
@@ -82,17 +83,11 @@ pub fn aged_page(world: &mut World, rng: &mut Rng) {
 pub fn forged_record(world: &mut World, rng: &mut Rng) {
     let geometry = world.geometry;
     let state = world.script.driver.state;
-    let number = (state.durable as usize + 1).min(geometry.records);
+    let number = state.durable.saturating_add(1).min(geometry.most_records());
     let page = rng.between(1, geometry.pages) as u16;
     let previous = rng.pick(&[state.entry(page).newest_durable, 0, state.durable]);
-    let record = Record {
-        number: number as u32,
-        previous,
-        page,
-        change: change(rng),
-        payload: payload(rng),
-    };
-    let place = geometry.record(number);
+    let record = Record { number, previous, page, change: change(rng), payload: payload(rng) };
+    let place = geometry.record_place(number);
     world.script.poke(place.clone(), &record.encode());
     if rng.chance(300) {
         edit_item(world, place, rng, |bytes, rng| edit_record(bytes, &geometry, rng));
@@ -116,13 +111,13 @@ pub fn edited_note(world: &mut World, rng: &mut Rng) {
 pub fn forged_note(world: &mut World, rng: &mut Rng) {
     let geometry = world.geometry;
     let state = world.script.driver.state;
-    let number = (state.notes as usize + 1).min(geometry.notes);
-    if number == 0 {
+    if geometry.notes == 0 {
         return probe_any(world, rng);
     }
+    let number = state.notes.saturating_add(1).min(geometry.most_notes());
     let page = rng.between(1, geometry.pages) as u16;
     let newest = state.entry(page).newest_durable;
-    let any = rng.between(0, state.durable as usize + 1) as u32;
+    let any = near_last(rng, state.durable);
     let chain = chain_of(world, page);
     let lsn = match chain.is_empty() || rng.chance(400) {
         true => rng.pick(&[newest, newest, any]),
@@ -132,8 +127,8 @@ pub fn forged_note(world: &mut World, rng: &mut Rng) {
         true => (NoteKind::Written, rng.pick(&[0, 0, 0, 1])),
         false => (NoteKind::BackedUp, rng.between(0, geometry.slots + 1) as u8),
     };
-    let note = Note { number: number as u32, page, kind, slot, lsn };
-    world.script.poke(geometry.note(number), &note.encode());
+    let note = Note { number, page, kind, slot, lsn };
+    world.script.poke(geometry.note_place(number), &note.encode());
     look_at(world, page, rng);
 }
 
@@ -150,7 +145,7 @@ pub fn edited_image(world: &mut World, rng: &mut Rng) {
     };
     let durable = state.durable;
     edit_item(world, place, rng, |bytes, rng| match rng.below(4) {
-        0 => forge_image(bytes, page, rng.between(0, durable as usize + 1) as u32, rng),
+        0 => forge_image(bytes, page, near_last(rng, durable), rng),
         _ => edit_image(bytes, &geometry, durable, rng),
     });
     look_at(world, page, rng);
@@ -185,11 +180,12 @@ pub fn edited_memory(world: &mut World, rng: &mut Rng) {
 /// A byte that is not zero somewhere after the durable records or stored notes.
 pub fn dirty_tail(world: &mut World, rng: &mut Rng) {
     let geometry = world.geometry;
-    let (section, used, item_len) = match rng.chance(500) || geometry.notes == 0 {
-        true => (geometry.record(1).start, world.script.driver.state.durable, 64),
-        false => (geometry.note(1).start, world.script.driver.state.notes, 16),
+    let state = &world.script.driver.state;
+    let (section, used, count, item_len) = match rng.chance(500) || geometry.notes == 0 {
+        true => (geometry.record(1).start, state.durable, geometry.records, 64),
+        false => (geometry.note(1).start, state.notes, geometry.notes, 16),
     };
-    let at = section + (used as usize).saturating_mul(item_len) + rng.below(4 * item_len);
+    let at = section + used as usize % (count + 1) * item_len + rng.below(4 * item_len);
     if at < world.volume().len() {
         let byte = world.volume()[at] ^ (1 << rng.below(8));
         world.script.poke(at..at + 1, &[byte]);

@@ -6,7 +6,7 @@ use crate::cell::{Cell, MAX_CELLS};
 use crate::coverage::{causes, hits, targets, Hit};
 use crate::geometry::Geometry;
 use crate::heading::Heading;
-use crate::history::{choose_geometry, one_history};
+use crate::history::{choose_geometry, choose_ring, one_history};
 use crate::rng::Rng;
 use crate::script::Script;
 use std::collections::BTreeSet;
@@ -17,18 +17,18 @@ const PIECE: usize = 110;
 const ROUNDS: [(usize, usize); 6] =
     [(25, 100), (15, 100), (8, 200), (4, 400), (2, 800), (1, 6_000)];
 
-/// The script, and the answers that it does not reach.
-pub fn mixed_script(rng: &mut Rng, cells: usize) -> (Vec<Cell>, BTreeSet<Hit>) {
+/// The script, on rings or on volumes that don't turn, and the answers that it does not reach.
+pub fn mixed_script(rng: &mut Rng, cells: usize, ring: bool) -> (Vec<Cell>, BTreeSet<Hit>) {
     let most = cells.min(MAX_CELLS);
-    let mut missing: BTreeSet<Hit> = targets().union(&causes()).cloned().collect();
-    let mut all = full_size_piece(rng);
+    let mut missing: BTreeSet<Hit> = targets(ring).union(&causes(ring)).cloned().collect();
+    let mut all = full_size_piece(rng, ring);
     remove(&mut missing, &all);
     for (gain, tries) in ROUNDS {
         for _ in 0..tries {
             if missing.is_empty() {
                 break;
             }
-            let piece = piece(rng);
+            let piece = piece(rng, ring);
             if hits(&piece).intersection(&missing).count() < gain {
                 continue;
             }
@@ -47,10 +47,13 @@ fn remove(missing: &mut BTreeSet<Hit>, piece: &[Cell]) {
 }
 
 /// A piece that stands by itself: it brings the driver to zero first.
-fn piece(rng: &mut Rng) -> Vec<Cell> {
+fn piece(rng: &mut Rng, ring: bool) -> Vec<Cell> {
     let geometry = loop {
-        let geometry = choose_geometry(rng);
-        if geometry.pages <= 8 {
+        let geometry = match ring && rng.chance(600) {
+            true => choose_ring(rng),
+            false => choose_geometry(rng),
+        };
+        if geometry.pages <= 8 && geometry.is_ring() == ring {
             break geometry;
         }
     };
@@ -62,9 +65,9 @@ fn piece(rng: &mut Rng) -> Vec<Cell> {
 }
 
 /// A piece of the largest geometry, 131,092 bytes.
-fn full_size_piece(rng: &mut Rng) -> Vec<Cell> {
-    let geometry = Geometry::new(rng.pick(&Heading::ALL), [64, 128, 1024, 1024])
-        .expect("the counts are in range");
+fn full_size_piece(rng: &mut Rng, ring: bool) -> Vec<Cell> {
+    let heading = if ring { Heading::Second } else { Heading::First };
+    let geometry = Geometry::new(heading, [64, 128, 1024, 1024]).expect("the counts are in range");
     one_history(Script::default(), geometry, 2 * PIECE, rng).cells
 }
 

@@ -51,7 +51,29 @@ pub fn edit_memory(
 pub fn near(rng: &mut Rng, value: u32, top: usize) -> u32 {
     let inside = rng.between(0, top) as u32;
     let (up, down) = (value.wrapping_add(1), value.wrapping_sub(1));
-    rng.pick(&[0, 1, up, down, inside, inside, top as u32, top as u32 + 1, u32::MAX, 1 << 16])
+    let (turn, top) = (value.wrapping_add(top as u32), top as u32);
+    let back = value.wrapping_sub(top);
+    rng.pick(&[
+        0,
+        1,
+        up,
+        down,
+        inside,
+        inside,
+        top,
+        top.wrapping_add(1),
+        turn,
+        back,
+        u32::MAX,
+        1 << 16,
+    ])
+}
+
+/// A number up to the one after `last`, or one of the last few.
+pub fn near_last(rng: &mut Rng, last: u32) -> u32 {
+    let any = rng.between(0, last as usize + 1) as u32;
+    let few = last.saturating_sub(rng.below(12) as u32);
+    rng.pick(&[any, few, last.saturating_add(1)])
 }
 
 /// A page in range, or at or past its edges.

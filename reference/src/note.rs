@@ -57,6 +57,15 @@ impl Note {
         bytes
     }
 
+    /// The page that a note's bytes name, and the kind, whatever else they hold.
+    pub fn page_of(bytes: &[u8]) -> u16 {
+        u16_at(bytes, 4)
+    }
+
+    pub fn kind_of(bytes: &[u8]) -> u8 {
+        bytes[6]
+    }
+
     /// None if the kind is unknown. The checksum and the slot are the caller's to look at.
     pub fn decode(bytes: &[u8]) -> Option<Note> {
         Some(Note {

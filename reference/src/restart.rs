@@ -1,72 +1,108 @@
 //! The restart rule: what a volume's log and notes give.
 
-use crate::bytes::{all_zero, is_sealed};
 use crate::fault::{require, Fault};
 use crate::geometry::Geometry;
 use crate::note::{Note, NoteKind};
 use crate::record::Record;
-use crate::state::State;
-use std::ops::Range;
+use crate::section::Section;
+use crate::state::{IndexEntry, State};
+use std::ops::RangeInclusive;
 
 /// The state that a volume's records and notes give.
 pub fn recover(volume: &[u8], geometry: &Geometry) -> Result<State, Fault> {
-    let (mut state, owners) = replay_log(volume, geometry)?;
-    replay_notes(volume, geometry, &owners, &mut state)?;
+    let log = Log::read(volume, geometry)?;
+    let mut state = State::zero();
+    state.durable = *log.run.end();
+    for (page, newest) in (1u16..).zip(log.newest_numbers()) {
+        let entry = state.entry_mut(page);
+        (entry.newest, entry.newest_durable) = (newest, newest);
+    }
+    replay_notes(volume, geometry, &log, &mut state)?;
+    for entry in &mut state.index {
+        settle_without_record(entry)?;
+    }
     Ok(state)
 }
 
-/// Durable count and newest numbers, with the page of each durable record.
-fn replay_log(volume: &[u8], geometry: &Geometry) -> Result<(State, Vec<u16>), Fault> {
-    let durable =
-        durable_items(volume, geometry.records, |n| geometry.record(n)).ok_or(Fault::LogTail)?;
-    let mut state = State::zero();
-    let mut owners = Vec::with_capacity(durable);
-    for number in 1..=durable {
-        let bytes = &volume[geometry.record(number)];
-        let record = Record::decode(bytes).ok_or(Fault::RecordLayout)?;
-        require(record.number as usize == number, Fault::RecordNumber)?;
-        require(page_in_range(record.page, geometry), Fault::RecordPage)?;
-        let entry = state.entry_mut(record.page);
-        require(record.previous == entry.newest, Fault::RecordPrevious)?;
-        require(entry.newest != 0 || record.change.is_format(), Fault::FirstNotFormat)?;
-        entry.newest = record.number;
-        entry.newest_durable = record.number;
-        owners.push(record.page);
-    }
-    state.durable = durable as u32;
-    Ok((state, owners))
+/// The records of the run that a restart finds.
+pub struct Log {
+    pub run: RangeInclusive<u32>,
+    pub records: Vec<Record>,
+    pages: usize,
 }
 
-/// Note count, last written numbers and backups. `owners` are the pages of the records.
+impl Log {
+    pub fn read(volume: &[u8], geometry: &Geometry) -> Result<Log, Fault> {
+        let section = Section::log(volume, geometry);
+        let run = section.run()?;
+        let mut log = Log { run: run.clone(), records: Vec::new(), pages: geometry.pages };
+        let mut newest = vec![0; geometry.pages];
+        for number in run {
+            let record = Record::decode(section.item(number)).ok_or(Fault::RecordLayout)?;
+            require(page_in_range(record.page, geometry), Fault::RecordPage)?;
+            let last = &mut newest[usize::from(record.page) - 1];
+            log.check_link(&record, *last)?;
+            *last = number;
+            log.records.push(record);
+        }
+        Ok(log)
+    }
+
+    /// A record names its page's last in the run. The first names 0 and is a format, or names
+    /// one below the run, which isn't looked up.
+    fn check_link(&self, record: &Record, last: u32) -> Result<(), Fault> {
+        if last != 0 {
+            let below = (1..*self.run.start()).contains(&record.previous);
+            require(!below, Fault::PreviousBelow)?;
+            require(record.previous == last, Fault::RecordPrevious)
+        } else if record.previous == 0 {
+            require(record.change.is_format(), Fault::FirstNotFormat)
+        } else {
+            require(record.previous < *self.run.start(), Fault::RecordPrevious)
+        }
+    }
+
+    /// Each page's newest number in the run; 0 if it has none there.
+    fn newest_numbers(&self) -> Vec<u32> {
+        let mut newest = vec![0; self.pages];
+        for record in &self.records {
+            newest[usize::from(record.page) - 1] = record.number;
+        }
+        newest
+    }
+
+    /// The page of record `number`, which is in the run.
+    fn owner(&self, number: u32) -> u16 {
+        self.records[(number - self.run.start()) as usize].page
+    }
+}
+
+/// Note count, last written numbers and backups.
 fn replay_notes(
     volume: &[u8],
     geometry: &Geometry,
-    owners: &[u16],
+    log: &Log,
     state: &mut State,
 ) -> Result<(), Fault> {
-    let stored =
-        durable_items(volume, geometry.notes, |n| geometry.note(n)).ok_or(Fault::NotesTail)?;
-    for number in 1..=stored {
-        let note = Note::decode(&volume[geometry.note(number)]).ok_or(Fault::NoteKind)?;
-        require(note.number as usize == number, Fault::NoteNumber)?;
-        check_note(&note, geometry, owners, state)?;
+    let section = Section::notes(volume, geometry);
+    let run = section.run()?;
+    state.notes = *run.end();
+    for number in run {
+        let note = Note::decode(section.item(number)).ok_or(Fault::NoteKind)?;
+        check_note(&note, geometry, log, state)?;
         state.entry_mut(note.page).take_note(&note);
     }
-    state.notes = stored as u32;
     Ok(())
 }
 
 /// Whether a note may follow those already in the index.
-fn check_note(
-    note: &Note,
-    geometry: &Geometry,
-    owners: &[u16],
-    state: &State,
-) -> Result<(), Fault> {
+fn check_note(note: &Note, geometry: &Geometry, log: &Log, state: &State) -> Result<(), Fault> {
     require(page_in_range(note.page, geometry), Fault::NotePage)?;
+    require(note.lsn != 0, Fault::NoteZero)?;
+    require(note.lsn <= state.durable, Fault::NoteAboveLog)?;
+    let known = log.run.contains(&note.lsn);
+    require(!known || log.owner(note.lsn) == note.page, Fault::NoteRecord)?;
     let entry = state.entry(note.page);
-    let owner = (note.lsn as usize).checked_sub(1).and_then(|at| owners.get(at));
-    require(owner == Some(&note.page), Fault::NoteRecord)?;
     match note.kind {
         NoteKind::Written => {
             require(note.slot_fits(geometry.slots), Fault::WrittenSlot)?;
@@ -81,14 +117,13 @@ fn check_note(
     }
 }
 
-/// How many items lead with right checksums; None unless all past the next one are zero.
-fn durable_items(
-    volume: &[u8],
-    count: usize,
-    place: impl Fn(usize) -> Range<usize>,
-) -> Option<usize> {
-    let durable = (1..=count).take_while(|&n| is_sealed(&volume[place(n)])).count();
-    (durable + 2..=count).all(|n| all_zero(&volume[place(n)])).then_some(durable)
+/// A page without a record in the run is at its backup's number. Only then can its written
+/// number be judged: the backup's note may come after the written one.
+fn settle_without_record(entry: &mut IndexEntry) -> Result<(), Fault> {
+    if entry.newest == 0 {
+        (entry.newest, entry.newest_durable) = (entry.backup_lsn, entry.backup_lsn);
+    }
+    require(entry.written <= entry.newest, Fault::WrittenAbove)
 }
 
 fn page_in_range(page: u16, geometry: &Geometry) -> bool {

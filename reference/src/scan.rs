@@ -19,6 +19,8 @@ pub fn scan(volume: &[u8]) -> String {
         let mut buffer = [0; IMAGE_LEN];
         match inspect(volume, page, &mut buffer) {
             Answer::Refused(Refusal::Blank) => text += &format!("{page} BLANK\n"),
+            // One page that is lost must not hide the others.
+            answer @ Answer::Refused(Refusal::BelowRun) => text += &format!("{page} {answer}\n"),
             Answer::Refused(refusal) => return refused(refusal),
             answer => text += &format!("{page} {answer}\n"),
         }

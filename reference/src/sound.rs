@@ -14,11 +14,14 @@ struct View<'a> {
 type Clause = (&'static str, fn(&View) -> bool);
 
 /// Document 01's "A state is sound if", each clause by itself and good for any numbers.
-const CLAUSES: [Clause; 23] = [
-    ("durable + pending at most L", |v| v.last_given() <= v.geometry.records as u64),
+const CLAUSES: [Clause; 24] = [
+    ("durable + pending at most the largest number", |v| {
+        v.last_given() <= v.geometry.most_records().into()
+    }),
     ("pending at most 16", |v| v.state.pending as usize <= MAX_PENDING),
-    ("notes at most N", |v| v.state.notes as usize <= v.geometry.notes),
-    ("notes below N if one is owed", |v| v.owed(|_| (v.state.notes as usize) < v.geometry.notes)),
+    ("notes at most the largest number", |v| v.state.notes <= v.geometry.most_notes()),
+    ("notes below it if one is owed", |v| v.owed(|_| v.state.notes < v.geometry.most_notes())),
+    ("none owed at N 0", |v| v.owed(|_| v.geometry.notes != 0)),
     ("owed layout", |v| v.owed(|note| note.kind == NoteKind::BackedUp || note.slot == 0)),
     ("owed number", |v| v.owed(|note| u64::from(note.number) == u64::from(v.state.notes) + 1)),
     ("owed page", |v| v.owed(|note| v.is_page(note.page))),

@@ -7,6 +7,7 @@ use crate::geometry::Geometry;
 use crate::heading::Heading;
 use crate::image::{as_frame, blank_image, image_lsn, passes, Image};
 use crate::record::Record;
+use crate::section::Section;
 use crate::state::IndexEntry;
 
 /// The class of a page's own image, as the index sees it.
@@ -26,13 +27,17 @@ pub fn classify(heading: Heading, own: &[u8], page: u16, entry: &IndexEntry) -> 
 }
 
 /// Rebuilds `page` up to its newest durable record, checksum bytes zero.
-/// A fault if a record that the walk reads is broken.
+/// A fault if a record that the walk reads is broken, or if it goes below the log's run
+/// before it finds a start. `durable` is the number that the run ends at.
 pub fn rebuild(
     volume: &[u8],
     geometry: &Geometry,
     page: u16,
     entry: &IndexEntry,
+    durable: u32,
 ) -> Result<(Rebuild, Image), Fault> {
+    let log = Section::log(volume, geometry);
+    let first = log.first(durable);
     let own = &volume[geometry.page(page.into())];
     let mut number = entry.newest_durable;
     let mut chain = Vec::new();
@@ -43,7 +48,8 @@ pub fn rebuild(
         if let Some(backup) = backup_at(volume, geometry, page, entry, number) {
             break (Start::Backup, as_frame(backup));
         }
-        let record = chain_record(volume, geometry, page, number)?;
+        require(number >= first, Fault::BelowRun)?;
+        let record = chain_record(&log, page, number)?;
         chain.push(record);
         if record.change.is_format() {
             break (Start::Format, blank_image(page));
@@ -72,16 +78,9 @@ fn backup_at<'a>(
     (passes(geometry.heading, backup, page) && image_lsn(backup) == number).then_some(backup)
 }
 
-/// Record `number` of `page`'s chain.
-fn chain_record(
-    volume: &[u8],
-    geometry: &Geometry,
-    page: u16,
-    number: u32,
-) -> Result<Record, Fault> {
-    // A sound state and records read before give a number from 1 to L.
-    require((1..=geometry.records).contains(&(number as usize)), Fault::ChainNumber)?;
-    let bytes = &volume[geometry.record(number as usize)];
+/// Record `number` (at least 1) of `page`'s chain.
+fn chain_record(log: &Section, page: u16, number: u32) -> Result<Record, Fault> {
+    let bytes = log.item(number);
     require(is_sealed(bytes), Fault::ChainChecksum)?;
     let record = Record::decode(bytes).ok_or(Fault::ChainLayout)?;
     require(record.number == number, Fault::ChainNumber)?;

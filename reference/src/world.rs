@@ -5,6 +5,7 @@ use crate::bytes::{byte_checksum, checksum, u32_at};
 use crate::cell::{Call, Op};
 use crate::geometry::{frame_count, Geometry, IMAGE_LEN};
 use crate::heading::Heading;
+use crate::lift::Lift;
 use crate::script::Script;
 use std::ops::Range;
 
@@ -40,6 +41,8 @@ pub enum Event {
         place: Place,
         bytes: Vec<u8>,
     },
+    /// No event of a history: a cut, then the same volume at numbers near the largest.
+    Lift(Lift),
 }
 
 /// What an event came to.
@@ -105,10 +108,25 @@ impl World {
                 self.live = false;
                 Outcome { answer: None, left_new }
             }
+            Event::Lift(lift) => {
+                self.lift(lift);
+                Outcome::default()
+            }
             Event::Damage { place, bytes } => {
                 self.script.poke(self.place(*place), bytes);
                 Outcome::default()
             }
+        }
+    }
+
+    fn lift(&mut self, lift: &Lift) {
+        self.script.emit(Op::Lose);
+        self.live = false;
+        let mut volume = self.volume().to_vec();
+        lift.apply(&mut volume, &self.geometry);
+        self.script.poke(0..volume.len(), &volume);
+        for (_, image) in &mut self.stored {
+            lift.lift_image(image, &self.geometry);
         }
     }
 
@@ -152,10 +170,10 @@ impl World {
             return None;
         }
         match *call {
-            Call::Force => Some(self.geometry.record(state.durable as usize + 1)),
+            Call::Force => Some(self.geometry.record_place(state.durable + 1)),
             Call::Write { page } => Some(self.geometry.page(page.into())),
             Call::Backup { page: _, slot } => Some(self.geometry.slot(slot.into())),
-            Call::Note => Some(self.geometry.note(state.notes as usize + 1)),
+            Call::Note => Some(self.geometry.note_place(state.notes + 1)),
             _ => None,
         }
     }

@@ -4,7 +4,7 @@ use reference::arbitrary::arbitrary_script;
 use reference::check::check_history;
 use reference::coverage::{causes, hits, targets};
 use reference::driver::drive;
-use reference::history::history_script;
+use reference::history::{history_script, ring_script};
 use reference::rng::Rng;
 use std::collections::BTreeSet;
 
@@ -33,8 +33,12 @@ fn scripts_give_only_answers_that_the_table_knows() {
     for seed in 0..6 {
         reached.extend(hits(&arbitrary_script(&mut Rng::new(seed), 1_000)));
         reached.extend(hits(&history_script(&mut Rng::new(seed), 1_000)));
+        reached.extend(hits(&ring_script(&mut Rng::new(seed), 1_000)));
     }
-    let known: BTreeSet<_> = targets().union(&causes()).cloned().collect();
+    let known: BTreeSet<_> = [true, false]
+        .into_iter()
+        .flat_map(|ring| targets(ring).into_iter().chain(causes(ring)))
+        .collect();
     assert!(reached.is_subset(&known), "{:?}", reached.difference(&known));
 }
 

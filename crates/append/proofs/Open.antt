@@ -7,14 +7,15 @@ use native.Mathlib.Omega.{arith}
 use lib.Dec.{leb}
 use lib.ListN.{length, getD}
 use borrow.Author.Tests.{leb-false, eqb-false, not-false}
-use Rattle.laws.proofs.Tables.{none-at, within-bounds}
+use Rattle.laws.proofs.Tables.{or-neither, none-at, within-bounds}
 use Rattle.laws.proofs.Places.{valid-facts}
 use Rattle.laws.proofs.WellFormed.{Ready, ready, holder-low, holder-within, frame-within}
+use Rattle.state.proofs.Slots.{most-high}
 use Rattle.append.specs.Rows.{beginTail, changeTail}
 use Rattle.model.specs.Tables.{Row, firstOf, within}
-use Rattle.model.specs.Geometry.{geometryOf}
+use Rattle.model.specs.Geometry.{most, geometryOf}
 use Rattle.model.specs.Change.{fits}
-use Rattle.model.specs.State.{frameCount, frameAt, lastNumber, holder, held}
+use Rattle.model.specs.State.{frameCount, frameAt, lastNumber, logFull, holder, held}
 use Rattle.model.specs.Refusals.{beginRows, changeRows}
 use Rattle.model.specs.declared.change.Change.{Change}
 use Rattle.model.specs.declared.state.State.{State}
@@ -24,7 +25,7 @@ pub record Open (m : List ℕ) (s : State) (page frame : ℕ) : Type 0 where
   pub page-high : page ≤ 64
   pub frame-low : 1 ≤ frame
   pub frame-high : frame ≤ 16
-  pub last : lastNumber s < 1024
+  pub last : lastNumber s < 4294967295
   pub pending : s .pending ≤ 16
   pub records : 1024 ≤ length m
   pub room : frameAt frame + 256 ≤ length m
@@ -32,18 +33,19 @@ pub record Open (m : List ℕ) (s : State) (page frame : ℕ) : Type 0 where
 -- from the rows that both calls have
 opened : (v m : List ℕ) (s : State) (rows : List Row) (page frame : ℕ) → Ready v m s rows
     → within (geometryOf v .pages) page ≡ true
-    → leb (geometryOf v .records) (lastNumber s) ≡ false
+    → logFull (geometryOf v) v s ≡ false
     → 1 ≤ frame → frame ≤ frameCount (length m) → Open m s page frame
+unfolding logFull
 opened v m s rows page frame k hp hl low high =
     let f = valid-facts v (k .volume) in
     let w = within-bounds (geometryOf v .pages) page hp in
-    let l : lastNumber s < geometryOf v .records = leb-false _ _ hl in
+    let l : lastNumber s < most (geometryOf v) = leb-false _ _ (or-neither (leb (most (geometryOf v)) (lastNumber s)) _ hl .0) in
     record {
       page-low = w .0;
       page-high = omega (arith, w .1, f .p-high);
       frame-low = low;
       frame-high = omega (arith, high, k .memory .high);
-      last = omega (arith, l, f .l-high);
+      last = omega (arith, l, most-high v (geometryOf v) (k .volume) refl);
       pending = k .state .few;
       records = omega (arith, k .memory .size);
       room = frame-within m (k .memory) frame low high;
@@ -52,7 +54,7 @@ opened v m s rows page frame k hp hl low high =
 pub begin-open : (v m : List ℕ) (s : State) (page frame : ℕ) → firstOf (beginRows v m s page frame) ≡ 0 → Open m s page frame
 unfolding beginRows
 begin-open v m s page frame h =
-    let rows = beginTail (geometryOf v) (frameCount (length m)) s page frame in
+    let rows = beginTail (geometryOf v) v (frameCount (length m)) s page frame in
     let k = ready v m s rows h in
     let at : (i : ℕ) → getD rows i (false, 0) .0 ≡ false =
     none-at rows (
@@ -65,7 +67,7 @@ begin-open v m s page frame h =
 -- Change's frame is the one that holds the page
 module _ (v m : List ℕ) (s : State) (page : ℕ) (c : Change) (h : firstOf (changeRows v m s page c) ≡ 0) where
   rows : List Row
-  rows = changeTail (geometryOf v) s page c
+  rows = changeTail (geometryOf v) v s page c
 
   let-through : Ready v m s rows
   unfolding changeRows rows
@@ -74,7 +76,7 @@ module _ (v m : List ℕ) (s : State) (page : ℕ) (c : Change) (h : firstOf (ch
   none : (i : ℕ) → getD rows i (false, 0) .0 ≡ false
   unfolding rows
   none =
-      none-at (changeTail (geometryOf v) s page c)
+      none-at (changeTail (geometryOf v) v s page c)
       (eqb-false 3 0 refl, (eqb-false 6 0 refl, (eqb-false 8 0 refl, (eqb-false 11 0 refl, (eqb-false 12 0 refl, tt))))) (let-through .rest)
 
   pub change-fits : fits c ≡ true

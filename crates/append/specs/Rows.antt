@@ -12,14 +12,14 @@ use Rattle.model.specs.declared.change.Change.{Change}
 use Rattle.model.specs.declared.state.State.{State}
 
 -- the rows of a call that appends a record
-abbrev pub appendTail : Geometry → State → List Row
-appendTail g s = (eqb (s .pending) 16, 11) ∷ (logFull g s, 12) ∷ []
+abbrev pub appendTail : Geometry → List ℕ → State → List Row
+appendTail g v s = (eqb (s .pending) 16, 11) ∷ (logFull g v s, 12) ∷ []
 
--- of a geometry and a number of frames
-abbrev pub beginTail : Geometry → ℕ → State → ℕ → ℕ → List Row
-beginTail g frames s page frame =
+-- of a geometry, a volume and a number of frames
+abbrev pub beginTail : Geometry → List ℕ → ℕ → State → ℕ → ℕ → List Row
+beginTail g v frames s page frame =
     (not (within (g .pages) page), 3) ∷ (not (within frames frame), 4) ∷ (not (blank s page), 9) ∷
-    (frameBlocked s frame, 10) ∷ appendTail g s
+    (frameBlocked s frame, 10) ∷ appendTail g v s
 
-abbrev pub changeTail : Geometry → State → ℕ → Change → List Row
-changeTail g s page c = (not (within (g .pages) page), 3) ∷ (not (fits c), 6) ∷ (not (held s page), 8) ∷ appendTail g s
+abbrev pub changeTail : Geometry → List ℕ → State → ℕ → Change → List Row
+changeTail g v s page c = (not (within (g .pages) page), 3) ∷ (not (fits c), 6) ∷ (not (held s page), 8) ∷ appendTail g v s

@@ -1,14 +1,17 @@
 // Begin: the first format of a blank page.
 ghost use mathlib.Core.Path.{_≡_};
+ghost use mathlib.Core.Bool.{true};
 ghost use mathlib.Core.List.{List};
 ghost use Prim.Native.Nat.{ℕ, _<_};
 ghost use lib.ListN.{length, replicate};
 ghost use Rattle.append.specs.Rows.{beginTail};
 ghost use Rattle.model.specs.Tables.{firstOf};
+ghost use Rattle.model.specs.Geometry.{geometryOf, validVolume};
 ghost use Rattle.model.specs.Item.{frameImage};
 ghost use Rattle.model.specs.Refusals.{beginRows};
 ghost use Rattle.model.specs.Calls.{replyOf, beginOf};
 use crate::pending;
+use crate::room;
 use codec::part;
 use item::image;
 use model::answer::Answer;
@@ -24,14 +27,15 @@ use volume::memory;
 use volume::rows;
 
 // The rows of Begin's own, for a memory of so many frames.
-fn own(s: State, g: Geometry, count: usize, page: u32, frame: u32) -> u32
-    ensures { λ r. ⌜ r ≡ firstOf (beginTail g count s page frame) ⌝ }
+fn own(s: State, volume: &[u8], g: Geometry, count: usize, page: u32, frame: u32) -> u32
+    requires { ⌜ (validVolume (now volume) ≡ true) × (g ≡ geometryOf (now volume)) ⌝ }
+    ensures { λ r. ⌜ r ≡ firstOf (beginTail g (now (volume .entry)) count s page frame) ⌝ }
 {
     let outside = !((1 <= page) & (page <= g.pages));
     let no_frame = !((1 <= frame) & (frame as usize <= count));
     let blank = entries::blank(s, page);
     let dirty = frames::frame(s, frame).dirty;
-    let log = pending::full(s, g);
+    let log = room::refusal(s, volume, g);
     let table = rows::first(!blank, 9, rows::first(dirty, 10, log));
     rows::first(outside, 3, rows::first(no_frame, 4, table))
 }
@@ -41,10 +45,12 @@ fn refusal(s: State, volume: &[u8], size: usize, page: u32, frame: u32) -> u32
     ensures { λ r. ⌜ ((m : List ℕ) → length m ≡ size → r ≡ firstOf (beginRows (now (volume .entry)) m s page frame)) ⌝ }
 {
     let no = state::rows::refusal(s, volume, size);
+    if no != 0 {
+        return no;
+    }
     let g = heading::geometry(volume);
     let count = memory::frames(size);
-    let rest = own(s, g, count, page, frame);
-    rows::first(no != 0, no, rest)
+    own(s, volume, g, count, page, frame)
 }
 
 // Makes a frame's bytes the image of a page of which every body byte is the fill.

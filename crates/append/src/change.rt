@@ -7,10 +7,12 @@ ghost use lib.ListN.{length};
 ghost use Rattle.append.specs.Rows.{changeTail};
 ghost use Rattle.model.specs.Tables.{firstOf};
 ghost use Rattle.model.specs.Change.{fits, applyChange};
+ghost use Rattle.model.specs.Geometry.{geometryOf, validVolume};
 ghost use Rattle.model.specs.Item.{imageBody};
 ghost use Rattle.model.specs.Refusals.{changeRows};
 ghost use Rattle.model.specs.Calls.{replyOf, changedImage, changeCall};
 use crate::pending;
+use crate::room;
 use codec::field;
 use model::answer::Answer;
 use model::answer::Reply;
@@ -24,13 +26,14 @@ use volume::memory;
 use volume::rows;
 
 // The rows of Change's own.
-fn own(s: State, g: Geometry, page: u32, c: Change) -> u32
-    ensures { λ r. ⌜ r ≡ firstOf (changeTail g s page c) ⌝ }
+fn own(s: State, volume: &[u8], g: Geometry, page: u32, c: Change) -> u32
+    requires { ⌜ (validVolume (now volume) ≡ true) × (g ≡ geometryOf (now volume)) ⌝ }
+    ensures { λ r. ⌜ r ≡ firstOf (changeTail g (now (volume .entry)) s page c) ⌝ }
 {
     let outside = !((1 <= page) & (page <= g.pages));
     let obeys = item::change::obeys(c);
     let held = frames::held(s, page);
-    let log = pending::full(s, g);
+    let log = room::refusal(s, volume, g);
     rows::first(
         outside,
         3,
@@ -43,9 +46,11 @@ fn refusal(s: State, volume: &[u8], size: usize, page: u32, c: Change) -> u32
     ensures { λ r. ⌜ ((m : List ℕ) → length m ≡ size → r ≡ firstOf (changeRows (now (volume .entry)) m s page c)) ⌝ }
 {
     let no = state::rows::refusal(s, volume, size);
+    if no != 0 {
+        return no;
+    }
     let g = heading::geometry(volume);
-    let rest = own(s, g, page, c);
-    rows::first(no != 0, no, rest)
+    own(s, volume, g, page, c)
 }
 
 // Makes a change in a frame's bytes: its number and the body. The page number, the zeros and the checksum's bytes stay.

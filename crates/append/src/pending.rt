@@ -1,28 +1,16 @@
-// Appending a log record, which Begin and Change share: whether there is room, and the record left pending in memory.
+// A log record left pending in memory, which Begin and Change share.
 ghost use mathlib.Core.Path.{_≡_};
 ghost use mathlib.Core.Bool.{true};
 ghost use Prim.Native.Nat.{_+_, _≤_, _<_};
 ghost use lib.ListN.{length};
-ghost use Rattle.append.specs.Rows.{appendTail};
 ghost use Rattle.append.specs.Pended.{pendedMemory};
 ghost use Rattle.model.specs.Change.{fits};
-ghost use Rattle.model.specs.Tables.{firstOf};
 ghost use Rattle.model.specs.State.{lastNumber};
 use item::record;
 use model::change::Change;
-use model::geometry::Geometry;
 use model::state::State;
 use state::entries;
 use volume::memory;
-use volume::rows;
-
-// The refusal of a call that appends to the log: 16 records are pending, or the last number given is the log's last.
-pub fn full(s: State, g: Geometry) -> u32
-    ensures { λ r. ⌜ r ≡ firstOf (appendTail g s) ⌝ }
-{
-    let last = g.records as u64 <= s.durable as u64 + s.pending as u64;
-    rows::first(s.pending == 16, 11, rows::first(last, 12, 0))
-}
 
 // Leaves the record of a change of the page pending, behind the page's last record, and gives its number, the next one.
 pub fn pend(s: State, memory: &mut [u8], page: u32, c: Change, payload: [u8; 44]) -> u32

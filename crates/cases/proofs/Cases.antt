@@ -2,10 +2,11 @@
 use Prim.Native.Nat.{ℕ}
 use mathlib.Core.Path.{_≡_, refl, ap₂}
 use mathlib.Core.Bool.{Bool, true, false, _&&_}
-use mathlib.Core.List.{List, [], _∷_}
+use mathlib.Core.List.{List, [], _∷_, _++_}
 use lib.Dec.{T, eqb, eqb→eq}
 use Rattle.cases.specs.Rows.{Row, same, every, Hold}
-use Rattle.cases.specs.All.{rows}
+use Rattle.cases.specs.All.{diskRows, callRows, rows}
+use Rattle.cases.specs.Rings.{ringRows, ringEvents}
 
 pub left : (a b : Bool) → T (a && b) → T a
 left true b t = tt
@@ -27,6 +28,26 @@ all (r ∷ rs) t =
     let here = same (r .found) (r .says) in
     (equal (r .found) (r .says) (left here (every rs) t), all rs (right here (every rs) t))
 
+joined : (rs qs : List Row) → Hold rs → Hold qs → Hold (rs ++ qs)
+joined [] qs h k = k
+joined (r ∷ rs) qs h k = (h .0, joined rs qs (h .1) k)
+
+disk-cases : Hold diskRows
+unfolding diskRows
+disk-cases = all diskRows tt
+
+call-cases : Hold callRows
+unfolding callRows
+call-cases = all callRows tt
+
 pub cases : Hold rows
 unfolding rows
-cases = all rows tt
+cases = joined diskRows callRows disk-cases call-cases
+
+pub ring-cases : Hold ringRows
+unfolding ringRows
+ring-cases = all ringRows tt
+
+pub ring-events : Hold ringEvents
+unfolding ringEvents
+ring-events = all ringEvents tt

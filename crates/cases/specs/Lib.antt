@@ -14,4 +14,5 @@ pub mod Refused
 pub mod Allowed
 pub mod Naive
 pub mod Traps
+pub mod Rings
 pub mod All

@@ -11,14 +11,14 @@ use Rattle.model.specs.Calls.{Outcome, backupOf}
 use Rattle.model.specs.declared.state.State.{State}
 
 abbrev pub viewIn : List ℕ → ℕ → View
-viewIn v p = let g = geometryOf v in viewOf g v (entryOf (indexOf g v) p) p
+viewIn v p = let g = geometryOf v in viewOf g v 1 (entryOf (indexOf g v) p) p
 
 -- Trap 1: the own image is taken to be at the last written number, whatever its own number says; what it has already
 -- is replayed onto it.
 unfoldable pub replaysAgain : List ℕ → ℕ → List ℕ
 replaysAgain v p =
     let w = viewIn v p in
-    replayChain (w .log) (walkFrom (w .durable) (w .log) p (w .written) 0 (w .durable) .chain) (imageBody (w .own))
+    replayChain (w .log) (walkFrom (w .durable) (w .log) (w .first) p (w .written) 0 (w .durable) .chain) (imageBody (w .own))
 
 -- Trap 2: a Backup that frees the page's old slot at once, so that it may take it.
 unfoldable pub backupFreeing : List ℕ → List ℕ → State → ℕ → ℕ → Outcome
@@ -33,7 +33,7 @@ unfoldable pub trustsNote : List ℕ → ℕ → List ℕ
 trustsNote v p =
     let g = geometryOf v in
     let w = viewIn v p in
-    let k = walkFrom (w .durable) (w .log) p (ownStart g p w) (w .backup) (w .durable) in
+    let k = walkFrom (w .durable) (w .log) (w .first) p (ownStart g p w) (w .backup) (w .durable) in
     replayChain (w .log) (k .chain) (startBody (k .stop) w)
 
 -- Trap 3: an own image that passes is taken as current.

@@ -146,7 +146,7 @@ abbrev breaksIn : List ℕ → List ℕ → ℕ
 breaksIn two r =
     let v = storedIn two (oneItem (recordAt 3) r ∷ []) in
     let g = geometryOf v in
-    bit (isBroken (walkOf g 1 (viewOf g v
+    bit (isBroken (walkOf g 1 (viewOf g v 1
     (record { last = 3; durable = 3; written = 0; slot = 0; backup = 0 }) 1) .stop))
 
 abbrev walkRows : List Row
@@ -155,7 +155,7 @@ walkRows =
     let breaks = breaksIn two in
     let holding = storedIn (whole []) in
     row "class: Good with no durable record, and then no start is Own"
-    (classNumber (classOf true 0 0 0) ∷ startNumber (startOf (walkFrom 0 (λ n. []) 1 0 0 0 .stop)) ∷ [])
+    (classNumber (classOf true 0 0 0) ∷ startNumber (startOf (walkFrom 0 (λ n. []) 1 1 0 0 0 .stop)) ∷ [])
     (1 ∷ 3 ∷ [])
     ∷ row "class: at 2, 3, 4, 5, 6, and failing"
     (classAt 2 ∷ classAt 3 ∷ classAt 4 ∷ classAt 5 ∷ classAt 6 ∷ classNumber (classOf false 5 5 3) ∷ [])

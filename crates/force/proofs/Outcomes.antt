@@ -9,8 +9,9 @@ use lib.ListN.{length, take, drop}
 use borrow.Author.Tests.{eq-eqb, ne-eqb}
 use Rattle.laws.proofs.Tables.{when-true, when-false}
 use Rattle.laws.proofs.Parts.{part-lent, part-length}
-use Rattle.laws.proofs.Places.{Valid, valid-facts, place-fits}
+use Rattle.laws.proofs.Places.{valid-facts}
 use Rattle.laws.proofs.WellFormed.{Ready, ready, Formed, Memory, pending-fits, pending-length}
+use Rattle.state.proofs.Slots.{records-some, most-high, record-fits}
 use Rattle.model.specs.Tables.{firstOf}
 use Rattle.model.specs.Bytes.{field, part, splice}
 use Rattle.model.specs.Geometry.{logSlot, start, store, geometryOf}
@@ -37,7 +38,8 @@ module _ (v m : List ℕ) (s : State) where
   -- what the code needs to know once it stores
   pub record Room (g : Geometry) : Type 0 where
     pub pages : g .pages ≤ 64
-    pub durable : s .durable < 1024
+    pub records : 1 ≤ g .records
+    pub durable : s .durable < 4294967295
     pub pending : 0 < s .pending
     pub place : start g (logSlot g (s .durable + 1)) + 64 ≤ length v
     pub memory : pendingAt (s .durable + 1) + 64 ≤ length m
@@ -47,12 +49,12 @@ module _ (v m : List ℕ) (s : State) where
       let r = ready v m s [] e in
       let f = valid-facts v (r .volume) in
       let w = r .state in
-      let k = place-fits (geometryOf v) v (f .size) (logSlot (geometryOf v) (s .durable + 1)) (omega arith, omega (arith, w .room)) in
       record {
         pages = rw eg (f .p-high);
-        durable = omega (arith, w .room, f .l-high);
+        records = records-some v g (r .volume) eg;
+        durable = omega (arith, w .room, most-high v (geometryOf v) (r .volume) refl);
         pending = omega arith;
-        place = rw eg k;
+        place = record-fits v g (r .volume) eg (s .durable + 1);
         memory = omega (arith, pending-fits m (r .memory) (s .durable + 1), r .memory .low, r .memory .size);
       }
 

@@ -1,4 +1,4 @@
-// Force: stores the oldest pending record, as its 64 bytes lie in memory, in the next slot of the log.
+// Force: stores the oldest pending record, as its 64 bytes lie in memory, in the slot of its number.
 ghost use mathlib.Core.Path.{_≡_};
 ghost use Rattle.model.specs.Calls.{forceOf, replyOf, volumeAfter};
 use codec::field;

@@ -9,10 +9,11 @@ use lib.ListN.{length, take, replicate}
 use lib.Dec.{eqb}
 use borrow.Author.Tests.{eqb-true, eqb-false, leb-false, not-false}
 use Rattle.laws.proofs.Tables.{true-not-false}
+use Rattle.laws.proofs.Ring.{displaced-more}
 use Rattle.laws.proofs.Changes.{apply-length, apply-take, fits-facts}
 use Rattle.model.specs.Tables.{firstOf}
 use Rattle.model.specs.Bytes.{splice}
-use Rattle.model.specs.Geometry.{geometryOf}
+use Rattle.model.specs.Geometry.{topNumber, most, geometryOf}
 use Rattle.model.specs.Change.{kindOf, lengthOf, offsetOf, fillOf, changeFits, fits, applyChange}
 use Rattle.model.specs.Item.{imageBody, frameImage, encodeChange}
 use Rattle.model.specs.Index.{entryOf}
@@ -27,29 +28,32 @@ use Rattle.model.specs.declared.answer.Answer.{Answer}
 use Rattle.model.specs.declared.answer.Answer.the-variants.{Done}
 use lib.Seq.{length-take-le}
 use Rattle.model.specs.declared.state.State.{State}
-use Rattle.history.proofs.Logs.{lastOf, bodyOf, last-le, number-hit, number-miss, body-hit, body-miss, last-append}
+use Rattle.history.proofs.Logs.{lastOf, bodyOf, last-le, lenA, number-hit, number-miss, body-hit, body-miss, last-append}
 use Rattle.history.proofs.Leaf.{encode-take, frame-body, frame-size, frame-changed}
 use Rattle.history.proofs.Records.{recOf, recOf-new, recOf-is}
+use Rattle.history.proofs.Sections.{most-high}
+use Rattle.history.proofs.Disk.{Spare}
+use Rattle.history.proofs.Asked.{log-room, log-asked}
 use Rattle.history.proofs.Inv.{past-cons, Settled, frame, Memory}
 use Rattle.history.proofs.Memory.{frame-count, pending-memory, pending-same, pending-other, pending-frame, frame-memory, frame-same, frame-other, frame-pending}
 use Rattle.history.proofs.LogSteps.{Joins, joins-fair, log-add, index-add}
 use Rattle.history.proofs.FrameSteps.{frames-put}
 use Rattle.history.proofs.Context.{Ctx, Kept, passed, in-range, sized, geo, len, sum, few, body-size, last-entry, found-frame}
 
-module _ {g : Geometry} {v m : List ℕ} {past : List StoredItem} {s : State} {k w : List Logged} (x : Ctx g v m past s k w) where
+module _ {C : Type 0} {g : Geometry} {v m : List ℕ} {past : List StoredItem} {s : State} {k w : List Logged} (x : Ctx C g v m past s k w) where
   -- the number that is given next
   next-is : lastNumber s + 1 ≡ suc (length (x .all))
   next-is = omega (arith, sum x)
 
   -- a change of a page in frame f
   module _ (c : Logged) (f : ℕ) (payload image : List ℕ) (f₁ : 1 ≤ f) (f₂ : f ≤ x .al .F) (j : Joins (g .pages) (x .all) c)
-      (free : eqb (s .pending) 16 ≡ false) (room : logFull g s ≡ false) (same : take (lengthOf (c .change)) payload ≡ c .bytes)
+      (free : eqb (s .pending) 16 ≡ false) (room : logFull g v s ≡ false) (same : take (lengthOf (c .change)) payload ≡ c .bytes)
       (image-is : image ≡ frameImage (c .page) (suc (length (x .all))) (applyChange (c .change) (c .bytes) (bodyOf (c .page) (x .all)))) where
     less : length w < 16
     less = let ne : s .pending ≢ 16 = eqb-false (s .pending) 16 free in omega (arith, x .al .log .few, x .al .log .pending-is)
 
-    roomy : length (x .all) < g .records
-    roomy = omega (arith, leb-false (g .records) (s .durable + s .pending) room, sum x)
+    roomy : length (x .all) < most g
+    roomy = log-room x room
 
     rec : List ℕ
     rec = encodeChange (lastNumber s + 1) (entryOf (s .index) (c .page) .last) (c .page) (c .change) payload
@@ -61,14 +65,14 @@ module _ {g : Geometry} {v m : List ℕ} {past : List StoredItem} {s : State} {k
         ∙ rw (same, next-is) (recOf-new (x .all) c (entryOf (s .index) (c .page) .last) (last-entry x (c .page) (j .low) (j .high)))
 
     rec-size : length rec ≡ 64
-    rec-size = rw rec-is (recOf-is (g .pages) (x .all ++ (c ∷ [])) (length (x .all)) (sized x .p-high) (omega (arith, roomy, sized x .l-high)) (joins-fair (g .pages) (x .all) c j) .size)
+    rec-size = rw rec-is (recOf-is (g .pages) (x .all ++ (c ∷ [])) (length (x .all)) (sized x .p-high) (omega (arith, roomy, most-high g (sized x))) (joins-fair (g .pages) (x .all) c j) .size)
 
     body-size′ : length (applyChange (c .change) (c .bytes) (bodyOf (c .page) (x .all))) ≡ 244
     body-size′ = apply-length (c .change) (c .bytes) (bodyOf (c .page) (x .all)) (j .fit) (omega (arith, j .whole)) (body-size x (c .page))
 
     image-size : length image ≡ 256
     image-size = rw image-is (frame-size g (c .page) (suc (length (x .all))) (applyChange (c .change) (c .bytes) (bodyOf (c .page) (x .all)))
-        (omega (arith, j .high, sized x .p-high)) (omega (arith, roomy, sized x .l-high)) body-size′)
+        (omega (arith, j .high, sized x .p-high)) (omega (arith, roomy, most-high g (sized x))) body-size′)
 
     m₁ : List ℕ
     m₁ = splice m (pendingAt (lastNumber s + 1)) rec
@@ -109,7 +113,7 @@ module _ {g : Geometry} {v m : List ℕ} {past : List StoredItem} {s : State} {k
     keep-add : (an : Answer)
         → ((i : ℕ) → i < x .al .F → i ≢ f - 1 → frame (s .frames) i .page ≢ c .page)
         → (frame (s .frames) (f - 1) .page ≢ 0 → frame (s .frames) (f - 1) .page ≢ c .page → Settled (x .all) (length k) (frame (s .frames) (f - 1) .page))
-        → Kept g v past (record { answer = an; state = appendedState s (c .page) f; memory = appendedMemory m s (c .page) (c .change) payload f image; stored = nothing })
+        → Kept C g v past (record { answer = an; state = appendedState s (c .page) f; memory = appendedMemory m s (c .page) (c .change) payload f image; stored = nothing })
         (record { durable = k; pending = w ++ (c ∷ []) })
     unfolding volumeAfter appendedState appendedMemory rec m₁ m₂
     keep-add an alone leaves =
@@ -136,6 +140,7 @@ module _ {g : Geometry} {v m : List ℕ} {past : List StoredItem} {s : State} {k
                   (λ q ne. (number-miss (x .all) c q ne, body-miss (x .all) c q ne, last-append q (x .all) (c ∷ []) (length k) (omega (arith, len x))))
                   alone leaves (λ z. absurd (true-not-false refl z));
               index = index-add (s .index) (x .all) (length k) (x .ns) (length (x .ns)) (x .al .index) c (lastNumber s + 1) (j .low) (omega (arith, j .high, sized x .p-high)) (omega (arith, len x)) next-is;
+              displaced = rw (lenA (x .all) c) (displaced-more (g .records) (length k) (length (x .all)) (Spare k (x .ns)) (Spare k (x .ns)) (λ i b z. z) (x .al .displaced) (log-asked x room));
               notes-is = x .al .notes-is;
               note-ok = x .al .note-ok;
             },
@@ -145,7 +150,7 @@ module _ {g : Geometry} {v m : List ℕ} {past : List StoredItem} {s : State} {k
   -- ---- Begin
 
   pub keep-begin : (page f fill : ℕ) → firstOf (beginRows v m s page f) ≡ 0
-      → Kept g v past (record {
+      → Kept C g v past (record {
         answer = Done;
         state = appendedState s page f;
         memory = appendedMemory m s page (Format fill) [] f (frameImage page (lastNumber s + 1) (replicate 244 fill));
@@ -157,7 +162,7 @@ module _ {g : Geometry} {v m : List ℕ} {past : List StoredItem} {s : State} {k
       let r : (1 ≤ page) × (page ≤ g .pages) = rw (geo x) at (in-range (geometryOf v .pages) page (t .1 .1 .1 .0)) in
       let q : (1 ≤ f) × (f ≤ x .al .F) = rw (frame-count (x .al .F) m (x .al .memory)) at (in-range (frameCount (length m)) f (t .1 .1 .1 .1 .0)) in
       let none : lastOf page (x .all) ≡ 0 = sym (last-entry x page (r .0) (r .1)) ∙ eqb-true (entryOf (s .index) page .last) 0 (not-false (blank s page) (t .1 .1 .1 .1 .1 .0)) in
-      let full : logFull g s ≡ false = rw (geo x) at (t .1 .1 .1 .1 .1 .1 .1 .1 .0) in
+      let full : logFull g v s ≡ false = rw (geo x) at (t .1 .1 .1 .1 .1 .1 .1 .1 .0) in
       keep-add (loggedChange page (Format fill) []) f [] (frameImage page (lastNumber s + 1) (replicate 244 fill)) (q .0) (q .1)
       (record { low = r .0; high = r .1; fit = refl; whole = refl; first = λ z. refl })
       (t .1 .1 .1 .1 .1 .1 .1 .0) full refl (ap (λ (n : ℕ). frameImage page n (replicate 244 fill)) next-is) Done
@@ -170,7 +175,7 @@ module _ {g : Geometry} {v m : List ℕ} {past : List StoredItem} {s : State} {k
   -- ---- Change
 
   pub keep-change : (page : ℕ) (c : Change) (payload : List ℕ) → length payload ≡ 44 → firstOf (changeRows v m s page c) ≡ 0
-      → Kept g v past (record {
+      → Kept C g v past (record {
         answer = Done;
         state = appendedState s page (holder s page);
         memory = appendedMemory m s page c payload (holder s page)
@@ -181,11 +186,11 @@ module _ {g : Geometry} {v m : List ℕ} {past : List StoredItem} {s : State} {k
   keep-change page c payload pl e =
       let t = passed (changeRows v m s page c) (omega arith) e in
       let r : (1 ≤ page) × (page ≤ g .pages) = rw (geo x) at (in-range (geometryOf v .pages) page (t .1 .1 .1 .0)) in
-      let full : logFull g s ≡ false = rw (geo x) at (t .1 .1 .1 .1 .1 .1 .1 .0) in
+      let full : logFull g v s ≡ false = rw (geo x) at (t .1 .1 .1 .1 .1 .1 .1 .0) in
       let ft : fits c ≡ true = not-false (fits c) (t .1 .1 .1 .1 .0) in
       let f = found-frame x page (r .0) (t .1 .1 .1 .1 .1 .0) in
       let pg : page ≤ 64 = omega (arith, r .1, sized x .p-high) in
-      let nm : lastOf page (x .all) ≤ 1024 = omega (arith, few x, last-le page (x .all) (length (x .all))) in
+      let nm : lastOf page (x .all) ≤ topNumber = omega (arith, few x, last-le page (x .all) (length (x .all))) in
       let body = bodyOf page (x .all) in
       keep-add (loggedChange page c payload) (holder s page) payload
       (changedImage (frameBytes m (holder s page)) (lastNumber s + 1) (applyChange c payload (imageBody (frameBytes m (holder s page)))))

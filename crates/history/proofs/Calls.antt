@@ -1,5 +1,5 @@
 -- Every call keeps the invariant, whole or cut short by a crash.
-use mathlib.Core.Path.{_≡_, refl}
+use mathlib.Core.Path.{_≡_, refl, sym, subst}
 use mathlib.Core.Bool.{true, cond, not, _&&_}
 use mathlib.Core.List.{List, [], _∷_, _++_}
 use Prim.Native.Nat.{ℕ, _+_}
@@ -9,14 +9,15 @@ use borrow.Author.Tests.{eqb-true, not-true}
 use Rattle.laws.proofs.Tables.{byCases, and-left, and-right}
 use Rattle.model.specs.Tables.{Row, firstOf}
 use Rattle.model.specs.Checksum.{sealImage}
-use Rattle.model.specs.Geometry.{Place, pageAt, slotAt, recordAt, noteAt, width, geometryOf}
+use Rattle.model.specs.Geometry.{Place, pageAt, slotAt, recordAt, noteAt, logSlot, noteSlot, width, geometryOf}
+use Rattle.model.specs.Scan.{firstHeld}
 use Rattle.model.specs.Item.{noteBytes}
 use Rattle.model.specs.Index.{entryOf}
 use Rattle.model.specs.Repair.{viewOf, repairOf, classIn}
 use Rattle.model.specs.State.{frameBytes, pendingBytes, holder, lastNote}
 use Rattle.model.specs.Refusals.{pageDirty, beginRows, loadRows, changeRows, forceRows, writeRows, backupRows, noteRows}
 use Rattle.model.specs.Calls.{StoredItem, nothing, oneItem, Outcome, volumeAfter, decided, isGood, beginOf, loadOf, changeCall, forceOf, writeOf, backupOf, noteCall, noteStored, Call, begin, load, change, force, write, backup, note, rowsOf, outcomeOf}
-use Rattle.model.specs.AbstractLog.{Logged, AbstractLog, Left, old, new, torn, forget, stepCall, stepCut}
+use Rattle.model.specs.AbstractLog.{moveFirst, Logged, AbstractLog, Left, old, new, torn, forget, stepCall, stepCut}
 use Rattle.model.specs.History.{off, leftVolume, leftPast, itemSealed, tornFits, payloadFits}
 use Rattle.model.specs.declared.geometry.Geometry.{Geometry}
 use Rattle.model.specs.declared.answer.Answer.the-variants.{Repaired}
@@ -31,15 +32,15 @@ use Rattle.history.proofs.Loads.{keep-load}
 use Rattle.history.proofs.Images.{StoreOk, write-store, backup-store}
 use Rattle.history.proofs.Keeps.{force-store, forced, none-pending, some-pending, keep-force, Writes, writes, written, keep-write, backs, keep-backup, note-store, keep-note}
 
-module _ {g : Geometry} {v m : List ℕ} {past : List StoredItem} {s : State} {k w : List Logged} (x : Ctx g v m past s k w) where
+module _ {C : Type 0} {g : Geometry} {v m : List ℕ} {past : List StoredItem} {s : State} {k w : List Logged} (x : Ctx C g v m past s k w) where
   pub inv-call : (c : Call) → payloadFits c ≡ true
-      → Kept g v past (outcomeOf c v m s) (cond (not (eqb (firstOf (rowsOf c v m s)) 0)) (record { durable = k; pending = w }) (stepCall (record { durable = k; pending = w }) c))
+      → Kept C g v past (outcomeOf c v m s) (cond (not (eqb (firstOf (rowsOf c v m s)) 0)) (record { durable = k; pending = w }) (stepCall (record { durable = k; pending = w }) c))
   unfolding beginOf loadOf changeCall forceOf writeOf backupOf noteCall stepCall
   inv-call (begin page f fill) h = keep-decided x (beginRows v m s page f) _ _ (keep-begin x page f fill)
   inv-call (load page f) h =
       keep-decided x (loadRows v m s page f) _ _
-      (keep-load x page f (Repaired (repairOf (geometryOf v) page (viewOf (geometryOf v) v (entryOf (s .index) page) page)))
-      (not (isGood (classIn (geometryOf v) page (viewOf (geometryOf v) v (entryOf (s .index) page) page)))))
+      (keep-load x page f (Repaired (repairOf (geometryOf v) page (viewOf (geometryOf v) v (firstHeld (geometryOf v) v (s .durable)) (entryOf (s .index) page) page)))
+      (not (isGood (classIn (geometryOf v) page (viewOf (geometryOf v) v (firstHeld (geometryOf v) v (s .durable)) (entryOf (s .index) page) page)))))
   inv-call (change page c payload) h = keep-decided x (changeRows v m s page c) _ _ (keep-change x page c payload (eqb-true (length payload) 44 h))
   inv-call force h = keep-decided x (forceRows v m s) (forced x) _ (λ e. keep-force x w refl)
   inv-call (write page) h = keep-decided x (writeRows v m s page) (written x page) _ (λ e. keep-write x page (writes x page e))
@@ -49,9 +50,9 @@ module _ {g : Geometry} {v m : List ℕ} {past : List StoredItem} {s : State} {k
   -- ---- a crash within a call
 
   abbrev Cut : StoredItem → Left → AbstractLog → Type 0
-  Cut i l b = Inv g (leftVolume v i l) (leftPast i l past) off (forget b)
+  Cut i l b = Inv C g (leftVolume v i l) (leftPast i l past) off (forget b)
 
-  cut-old : Inv g v past off (record { durable = k; pending = [] })
+  cut-old : Inv C g v past off (record { durable = k; pending = [] })
   cut-old = record { ns = x .ns; holds = x .hs; noted = x .no; past-ok = x .ps; live = tt }
 
   cut-nothing : (l : Left) (r : List Logged) → Cut nothing l (record { durable = k; pending = r })
@@ -60,13 +61,13 @@ module _ {g : Geometry} {v m : List ℕ} {past : List StoredItem} {s : State} {k
   cut-nothing new r = record { ns = x .ns; holds = x .hs; noted = x .no; past-ok = past-cons g k past nothing tt (x .ps); live = tt }
   cut-nothing (torn xs) r = cut-old
 
-  cut-new : (at : Place) (xs : List ℕ) (k′ : List Logged) (ns′ : List Note) → StoreOk g v past k (x .ns) at xs k′ ns′
-      → Inv g (volumeAfter v (oneItem at xs)) (oneItem at xs ∷ past) off (record { durable = k′; pending = [] })
+  cut-new : (at : Place) (xs : List ℕ) (k′ : List Logged) (ns′ : List Note) → StoreOk C g v past k (x .ns) at xs k′ ns′
+      → Inv C g (volumeAfter v (oneItem at xs)) (oneItem at xs ∷ past) off (record { durable = k′; pending = [] })
   unfolding volumeAfter
   cut-new at xs k′ ns′ st = rw (geo x) (record { ns = ns′; holds = st .holds′; noted = st .noted′; past-ok = st .past′; live = tt })
 
-  cut-torn : (at : Place) (xs ys : List ℕ) (k′ : List Logged) (ns′ : List Note) → StoreOk g v past k (x .ns) at xs k′ ns′ → tornFits (geometryOf v) (oneItem at xs) (torn ys) ≡ true
-      → Inv g (volumeAfter v (oneItem at ys)) past off (record { durable = k; pending = [] })
+  cut-torn : (at : Place) (xs ys : List ℕ) (k′ : List Logged) (ns′ : List Note) → StoreOk C g v past k (x .ns) at xs k′ ns′ → tornFits (geometryOf v) (oneItem at xs) (torn ys) ≡ true
+      → Inv C g (volumeAfter v (oneItem at ys)) past off (record { durable = k; pending = [] })
   unfolding volumeAfter
   cut-torn at xs ys k′ ns′ st t =
       let t′ : (eqb (length ys) (width at) && not (itemSealed g at ys)) ≡ true = rw (geo x) at t in
@@ -75,39 +76,68 @@ module _ {g : Geometry} {v m : List ℕ} {past : List StoredItem} {s : State} {k
       rw (geo x) (record { ns = x .ns; holds = r .0; noted = r .1; past-ok = x .ps; live = tt })
 
   -- a store that the abstract log does not see
-  cut-item : (at : Place) (xs : List ℕ) (ns′ : List Note) → StoreOk g v past k (x .ns) at xs k ns′ → (l : Left) → tornFits (geometryOf v) (oneItem at xs) l ≡ true
+  cut-item : (at : Place) (xs : List ℕ) (ns′ : List Note) → StoreOk C g v past k (x .ns) at xs k ns′ → (l : Left) → tornFits (geometryOf v) (oneItem at xs) l ≡ true
       → Cut (oneItem at xs) l (record { durable = k; pending = w })
   cut-item at xs ns′ st old t = cut-old
   cut-item at xs ns′ st new t = cut-new at xs k ns′ st
   cut-item at xs ns′ st (torn ys) t = cut-torn at xs ys k ns′ st t
 
   -- an image, summed as the volume's heading says
-  cut-image : (at : Place) (y : List ℕ) → StoreOk g v past k (x .ns) at (sealImage g y) k (x .ns) → (l : Left) → tornFits (geometryOf v) (oneItem at (sealImage (geometryOf v) y)) l ≡ true
+  cut-image : (at : Place) (y : List ℕ) → StoreOk C g v past k (x .ns) at (sealImage g y) k (x .ns) → (l : Left) → tornFits (geometryOf v) (oneItem at (sealImage (geometryOf v) y)) l ≡ true
       → Cut (oneItem at (sealImage (geometryOf v) y)) l (record { durable = k; pending = w })
   cut-image at y st l t = cut-item at (sealImage (geometryOf v) y) (x .ns) (rw (geo x) st) l t
 
+  abbrev place : Place
+  place = logSlot (geometryOf v) (s .durable + 1)
+
+  abbrev bytes : List ℕ
+  bytes = pendingBytes m (s .durable + 1)
+
+  store-at : (c : Logged) (r : List Logged) → w ≡ c ∷ r → StoreOk C g v past k (x .ns) place bytes (k ++ (c ∷ [])) (x .ns)
+  store-at c r e = subst (λ (h : Geometry). StoreOk C g v past k (x .ns) (logSlot h (s .durable + 1)) bytes (k ++ (c ∷ [])) (x .ns)) (sym (geo x)) (force-store x c r e)
+
+  force-new : (c : Logged) (r : List Logged) → w ≡ c ∷ r → Cut (oneItem place bytes) new (moveFirst k w)
+  force-new c r e = rw e (cut-new place bytes (k ++ (c ∷ [])) (x .ns) (store-at c r e))
+
+  force-torn : (c : Logged) (r : List Logged) → w ≡ c ∷ r → (ys : List ℕ) → tornFits (geometryOf v) (oneItem place bytes) (torn ys) ≡ true
+      → Cut (oneItem place bytes) (torn ys) (record { durable = k; pending = w })
+  force-torn c r e ys f = cut-torn place bytes ys (k ++ (c ∷ [])) (x .ns) (store-at c r e) f
+
+  stored-none : w ≡ [] → forced x .stored ≡ nothing
+  stored-none e = rw (none-pending x e)
+
+  stored-one : (c : Logged) (r : List Logged) → w ≡ c ∷ r → forced x .stored ≡ oneItem place bytes
+  stored-one c r e = rw (some-pending x c r e)
+
+  abbrev CutForce : StoredItem → Left → Type 0
+  CutForce i l = tornFits (geometryOf v) i l ≡ true → Cut i l (stepCut (record { durable = k; pending = w }) force l)
+
+  force-none : w ≡ [] → (l : Left) → CutForce nothing l
+  unfolding stepCut
+  force-none e old f = cut-old
+  force-none e new f = rw e (cut-nothing new [])
+  force-none e (torn xs) f = cut-old
+
+  force-one : (c : Logged) (r : List Logged) → w ≡ c ∷ r → (l : Left) → CutForce (oneItem place bytes) l
+  unfolding stepCut
+  force-one c r e old f = cut-old
+  force-one c r e new f = force-new c r e
+  force-one c r e (torn xs) f = force-torn c r e xs f
+
   cut-force : (w′ : List Logged) → w ≡ w′ → (l : Left) → tornFits (geometryOf v) (forced x .stored) l ≡ true
       → Cut (forced x .stored) l (stepCut (record { durable = k; pending = w }) force l)
-  unfolding stepCut
-  cut-force [] e old f = cut-old
-  cut-force [] e new f = rw (none-pending x e, e) (cut-nothing new [])
-  cut-force [] e (torn xs) f = rw (none-pending x e) cut-old
-  cut-force (c ∷ r) e old f = cut-old
-  cut-force (c ∷ r) e new f =
-      rw (some-pending x c r e, e) (cut-new (recordAt (s .durable + 1)) (pendingBytes m (s .durable + 1)) (k ++ (c ∷ [])) (x .ns) (force-store x c r e))
-  cut-force (c ∷ r) e (torn xs) f =
-      rw (some-pending x c r e)
-      (cut-torn (recordAt (s .durable + 1)) (pendingBytes m (s .durable + 1)) xs (k ++ (c ∷ [])) (x .ns) (force-store x c r e) (rw (some-pending x c r e) at f))
+  cut-force [] e l = subst (λ (i : StoredItem). CutForce i l) (sym (stored-none e)) (force-none e l)
+  cut-force (c ∷ r) e l = subst (λ (i : StoredItem). CutForce i l) (sym (stored-one c r e)) (force-one c r e l)
 
   cut-write : (p : ℕ) → Writes x p → (l : Left) → tornFits (geometryOf v) (written x p .stored) l ≡ true → Cut (written x p .stored) l (record { durable = k; pending = w })
   cut-write p f l t = byCases (pageDirty s p)
       (λ d. rw d (cut-image (pageAt p) (frameBytes m (holder s p)) (write-store x p (f .frame-of) (f .ready d .2)) l (rw d at t)))
       (λ d. rw d (cut-nothing l w))
 
-  cut-note : (y : PendingNote) → PendingOk g v k (x .ns) y → (l : Left) → tornFits (geometryOf v) (noteStored v m s y .stored) l ≡ true
+  cut-note : (y : PendingNote) → PendingOk C g v k (x .ns) y → (l : Left) → tornFits (geometryOf v) (noteStored v m s y .stored) l ≡ true
       → Cut (noteStored v m s y .stored) l (record { durable = k; pending = w })
   cut-note Absent t l f = cut-nothing l w
-  cut-note (Present y) t l f = cut-item (noteAt (lastNote s + 1)) (noteBytes y) (x .ns ++ (y ∷ [])) (note-store x y t) l f
+  cut-note (Present y) t l f = cut-item (noteSlot (geometryOf v) (lastNote s + 1)) (noteBytes y) (x .ns ++ (y ∷ [])) (rw (geo x) (note-store x y t)) l f
 
   cut-decided : (rows : List Row) (done : Outcome) (b : AbstractLog) (l : Left) → tornFits (geometryOf v) (decided rows m s done .stored) l ≡ true
       → (firstOf rows ≡ 0 → tornFits (geometryOf v) (done .stored) l ≡ true → Cut (done .stored) l b)
@@ -125,5 +155,5 @@ module _ {g : Geometry} {v m : List ℕ} {past : List StoredItem} {s : State} {k
   inv-crash (write page) l t = cut-decided (writeRows v m s page) (written x page) _ l t (λ e u. cut-write page (writes x page e) l u)
   inv-crash (backup page b) l t =
       cut-decided (backupRows v m s page b) _ _ l t
-      (λ e u. let f = backs x page b e in cut-image (slotAt b) (frameBytes m (holder s page)) (backup-store x page (f .frame-of) (f .forced-to) b (f .slot-low) (f .slot-high)) l u)
+      (λ e u. let f = backs x page b e in cut-image (slotAt b) (frameBytes m (holder s page)) (backup-store x page (f .frame-of) (f .forced-to) b (f .slot-low) (f .slot-high) (f .spare)) l u)
   inv-crash note l t = cut-decided (noteRows v m s) (noteStored v m s (s .note)) _ l t (λ e u. cut-note (s .note) (x .al .note-ok) l u)

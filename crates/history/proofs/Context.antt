@@ -11,7 +11,7 @@ use lib.Dec.{eqb}
 use borrow.Author.Tests.{eqb-true, ltb-true, ltb-false, not-false}
 use Rattle.laws.proofs.Tables.{byCases, within-bounds}
 use Rattle.model.specs.Tables.{Row, firstOf, within}
-use Rattle.model.specs.Geometry.{geometryOf}
+use Rattle.model.specs.Geometry.{topNumber, geometryOf}
 use Rattle.model.specs.Index.{entryOf}
 use Rattle.model.specs.State.{frameBytes, holder, held}
 use Rattle.model.specs.Calls.{StoredItem, nothing, Outcome, volumeAfter, unchanged, decided}
@@ -26,23 +26,23 @@ use Rattle.model.specs.declared.state.State.{State}
 use Rattle.history.proofs.Logs.{noLogged, at, lastAt, lastOf, bodyOf, replayAt, last-page, replay-last, replay-append, last-append}
 use Rattle.history.proofs.Entries.{markAt, entryFrom}
 use Rattle.history.proofs.Records.{AllFair, length-replay}
-use Rattle.history.proofs.Sections.{Sized, volume-sized}
+use Rattle.history.proofs.Sections.{Sized, volume-sized, most-high}
 use Rattle.history.proofs.Disk.{Holds, Noted}
 use Rattle.history.proofs.Inv.{Past, past-cons, Framed, frame, Alive, Inv}
 use Rattle.history.proofs.LogSteps.{len-all, sum-is}
 use Rattle.history.proofs.FrameSteps.{found, missing}
 
-pub record Ctx (g : Geometry) (v m : List ℕ) (past : List StoredItem) (s : State) (k w : List Logged) : Type 0 where
+pub record Ctx (C : Type 0) (g : Geometry) (v m : List ℕ) (past : List StoredItem) (s : State) (k w : List Logged) : Type 0 where
   pub all : List Logged
   pub ns : List Note
   pub hs : Holds g v k
-  pub no : Noted g v k ns
+  pub no : Noted C g v k ns
   pub ps : Past g k past
-  pub al : Alive g v m s k w all ns
+  pub al : Alive C g v m s k w all ns
 
 -- the invariant after an outcome
-abbrev pub Kept : Geometry → List ℕ → List StoredItem → Outcome → AbstractLog → Type 0
-Kept g v past o b = Inv g (volumeAfter v (o .stored)) (o .stored ∷ past) (on (o .memory) (o .state)) b
+abbrev pub Kept : Type 0 → Geometry → List ℕ → List StoredItem → Outcome → AbstractLog → Type 0
+Kept C g v past o b = Inv C g (volumeAfter v (o .stored)) (o .stored ∷ past) (on (o .memory) (o .state)) b
 
 -- rows that do not refuse
 abbrev pub Codes : List Row → Type 0
@@ -67,7 +67,7 @@ passed (t ∷ ts) c e = (r .0, passed ts (c .1) (r .1))
 pub in-range : (P p : ℕ) → not (within P p) ≡ false → (1 ≤ p) × (p ≤ P)
 in-range P p t = within-bounds P p (not-false (within P p) t)
 
-module _ {g : Geometry} {v m : List ℕ} {past : List StoredItem} {s : State} {k w : List Logged} (x : Ctx g v m past s k w) where
+module _ {C : Type 0} {g : Geometry} {v m : List ℕ} {past : List StoredItem} {s : State} {k w : List Logged} (x : Ctx C g v m past s k w) where
   pub sized : Sized g
   sized = volume-sized g v (x .hs .vol)
 
@@ -83,8 +83,8 @@ module _ {g : Geometry} {v m : List ℕ} {past : List StoredItem} {s : State} {k
   pub fair : AllFair (g .pages) (x .all)
   fair = x .al .log .fair
 
-  pub few : length (x .all) ≤ 1024
-  few = omega (arith, x .al .log .room, sized .l-high)
+  pub few : length (x .all) ≤ topNumber
+  few = omega (arith, x .al .log .room, most-high g sized)
 
   pub body-size : (p : ℕ) → length (bodyOf p (x .all)) ≡ 244
   body-size p = length-replay (g .pages) p (x .all) (length (x .all)) (omega arith) fair
@@ -132,12 +132,12 @@ module _ {g : Geometry} {v m : List ℕ} {past : List StoredItem} {s : State} {k
   pub nowhere : (p : ℕ) → held s p ≡ false → (j : ℕ) → j < x .al .F → frame (s .frames) j .page ≢ p
   nowhere p t j b = missing p (s .frames) (let z : holder s p ≤ 0 = ltb-false 0 (holder s p) t in omega arith) j (omega (arith, x .al .frames .size, x .al .memory .high))
 
-  pub keep-same : (an : Answer) → Kept g v past (unchanged an m s) (record { durable = k; pending = w })
+  pub keep-same : (an : Answer) → Kept C g v past (unchanged an m s) (record { durable = k; pending = w })
   unfolding volumeAfter
   keep-same an = record { ns = x .ns; holds = x .hs; noted = x .no; past-ok = past-cons g k past nothing tt (x .ps); live = (x .all, x .al) }
 
   -- a call by its table
-  pub keep-decided : (rows : List Row) (done : Outcome) (b : AbstractLog) → (firstOf rows ≡ 0 → Kept g v past done b)
-      → Kept g v past (decided rows m s done) (cond (not (eqb (firstOf rows) 0)) (record { durable = k; pending = w }) b)
+  pub keep-decided : (rows : List Row) (done : Outcome) (b : AbstractLog) → (firstOf rows ≡ 0 → Kept C g v past done b)
+      → Kept C g v past (decided rows m s done) (cond (not (eqb (firstOf rows) 0)) (record { durable = k; pending = w }) b)
   keep-decided rows done b f =
       byCases (eqb (firstOf rows) 0) (λ t. rw t (f (eqb-true (firstOf rows) 0 t))) (λ t. rw t (keep-same (Refused (firstOf rows))))

@@ -1,48 +1,86 @@
--- A volume that holds a list of changes and a list of notes: its scan gives both back, and the index that they say.
+-- A volume that holds a list of changes and a list of notes, each in its ring: its scan gives both counts back, and the index that they say.
 use mathlib.Core.Path.{_≡_, refl, sym, ap, _∙_}
-use mathlib.Core.Logic.{_≢_}
-use mathlib.Core.Bool.{Bool, true, _&&_, _||_}
-use mathlib.Core.List.{List, []}
+use mathlib.Core.Logic.{_≢_, _⊎_, inl, inr, ⊎-elim}
+use mathlib.Core.Bool.{Bool, true, false, cond, not, _&&_, _||_}
+use mathlib.Core.List.{List, [], map}
 use Prim.Native.Nat.{ℕ, zero, suc, _+_, _-_, _*_, _≤_, _<_}
 use native.Mathlib.Omega.{arith}
+use native.Mathlib.Decide.{decLt, ℕ-discrete}
 use lib.ListN.{length}
-use lib.Dec.{eqb, leb}
-use borrow.Author.Tests.{eq-eqb, le-leb}
-use Rattle.laws.proofs.Tables.{byCases, and-both, or-left, or-right, every-all, within-holds}
-use Rattle.model.specs.Bytes.{part}
+use lib.Dec.{eqb, leb, ltb}
+use borrow.Author.Tests.{eq-eqb, ne-eqb, le-leb, lt-ltb, ltb-true, ltb-false, leb-true}
+use Rattle.laws.proofs.Tables.{byCases, and-both, and-left, and-right, or-left, or-right, every-all, within-holds, true-not-false}
+use Rattle.laws.proofs.Ring.{slot-in, Run, Start}
+use Rattle.laws.proofs.Places.{In, item-length}
+use Rattle.laws.proofs.Zeros.{zero-is, zero-fails}
+use Rattle.model.specs.Tables.{within}
+use Rattle.model.specs.Bytes.{le, field, part, allZero}
+use Rattle.model.specs.Checksum.{sealed}
 use Rattle.model.specs.Change.{kindOf}
-use Rattle.model.specs.Geometry.{pageAt, slotAt, recordAt, noteAt, start, item}
-use Rattle.model.specs.Item.{recordFor, noteBytes, noteLayout, isWritten}
-use Rattle.model.specs.Index.{entryOf, enterNote}
-use Rattle.model.specs.Scan.{restZero, logRecord, noteRecord, durableCount, logIndex, recordFits, validLog, noteCount, noteIndex, noteFollows, noteFits, validNotes, indexOf}
+use Rattle.model.specs.Geometry.{Place, pageAt, slotAt, recordAt, noteAt, start, item, ring, noteRing, most, mostNotes, topNumber, logSlot, noteSlot}
+use Rattle.model.specs.Item.{imageLsn, validImage, recordOf, recordFor, noteOf, noteBytes, noteLayout, isWritten}
+use Rattle.model.specs.Index.{emptyEntry, entryRow, entryOf, enterNote, settled}
+use Rattle.model.specs.Scan.{restZero, logRecord, noteRecord, durableCount, firstHeld, logIndex, recordFits, validLog, gone, noteCount, firstNote, runIndex, noteIndex, noteFollows, noteFits, validNotes, indexOf}
 use Rattle.model.specs.AbstractLog.{Logged}
 use Rattle.model.specs.declared.geometry.Geometry.{Geometry}
 use Rattle.model.specs.declared.item.Note.{Note}
 use Rattle.model.specs.declared.item.LogRecord.{LogRecord}
 use Rattle.model.specs.declared.state.Entry.{Entry}
-use Rattle.history.proofs.Logs.{at, lastAt, last-hit, last-miss}
-use Rattle.history.proofs.Entries.{note, markAt, mark-hit, mark-miss, NoteOk, NotesOk, entry-noted, Indexed, indexed-start, indexed-set, spare-slot}
+use Rattle.history.proofs.Logs.{at, lastAt, lastOf, last-hit, last-miss, last-le, last-page, last-zero}
+use Rattle.history.proofs.Entries.{note, Mark, noMark, markAt, mark-hit, mark-miss, mark-zero, mark-ok, NoteOk, NotesOk, entryFrom, entry-noted, withMark, Tabled, tabled-start, tabled-set, tabled-same, tabled-map, spare-tabled, Indexed, sameKind, lastBy, lsnBy, slotBy, markOf, by-hit, by-other, by-miss, by-le, by-is, by-ge, mark-by, Later}
 use Rattle.laws.proofs.Notes.{note-sealed}
 use Rattle.history.proofs.Leaf.{RecordIs, note-read}
 use Rattle.history.proofs.Records.{AllFair, recOf, recOf-is, Faithful}
-use Rattle.history.proofs.Sections.{Volume, Sized, volume-sized, run-is, rest-zero, Tail}
+use Rattle.history.proofs.Sections.{Volume, Sized, volume-sized, volume-size, most-high, most-plain, notes-high, notes-plain, rest-zero, Tail}
+use Rattle.history.proofs.Runs.{section-start, section-count, section-ends}
 
--- the volume holds the list l of changes
+-- ---- the log's ring
+
+-- place i of the log stands in its slot; its slot is not whole; it is not needed, since a backup of its page at or above it is noted
+abbrev pub Stands : Geometry → List ℕ → List Logged → ℕ → Type 0
+Stands g v l i = item g v (logSlot g (suc i)) ≡ recOf l i
+
+abbrev pub Torn : Geometry → List ℕ → ℕ → Type 0
+Torn g v i = sealed 60 (item g v (logSlot g (suc i))) ≡ false
+
+abbrev pub Spare : List Logged → List Note → ℕ → Type 0
+Spare l ns i = suc i ≤ markAt (at l i .page) ns (length ns) .backup
+
+abbrev pub LogRun : Geometry → List ℕ → List Logged → List Note → Type 0
+LogRun g v l ns = Run (ring g) (g .records) (length l) (Stands g v l) (Torn g v) (Spare l ns)
+
+-- ---- the notes' ring: a note is not needed if a later one has its page and kind
+
+abbrev pub NoteStands : Geometry → List ℕ → List Note → ℕ → Type 0
+NoteStands g v ns i = item g v (noteSlot g (suc i)) ≡ noteBytes (note ns i)
+
+abbrev pub NoteTorn : Geometry → List ℕ → ℕ → Type 0
+NoteTorn g v i = sealed 12 (item g v (noteSlot g (suc i))) ≡ false
+
+abbrev pub NoteRun : Geometry → List ℕ → List Note → Type 0
+NoteRun g v ns = Run (noteRing g) (g .notes) (length ns) (NoteStands g v ns) (NoteTorn g v) (Later ns)
+
+-- the volume is one for the list l of changes
 pub record Holds (g : Geometry) (v : List ℕ) (l : List Logged) : Type 0 where
   pub vol : Volume g v
-  pub room : length l ≤ g .records
+  pub room : length l ≤ most g
   pub fair : AllFair (g .pages) l
-  pub log : (i : ℕ) → i < length l → item g v (recordAt (suc i)) ≡ recOf l i
   pub tail : Tail g v recordAt 60 (length l) (g .records)
   pub images : (p : ℕ) → 1 ≤ p → p ≤ g .pages → Faithful g p l (item g v (pageAt p))
 
--- and the list ns of notes
-pub record Noted (g : Geometry) (v : List ℕ) (l : List Logged) (ns : List Note) : Type 0 where
-  pub few : length ns ≤ g .notes
-  pub each : (i : ℕ) → i < length ns → item g v (noteAt (suc i)) ≡ noteBytes (note ns i)
+-- the slot's image is valid as page p's with the number n
+abbrev pub Copy : Geometry → List ℕ → ℕ → ℕ → ℕ → Type 0
+Copy g v p slot n = (validImage g p (item g v (slotAt slot)) ≡ true) × (imageLsn (item g v (slotAt slot)) ≡ n)
+
+-- and for the list ns of all notes ever stored; C: no image was damaged, and then every noted backup stands
+pub record Noted (C : Type 0) (g : Geometry) (v : List ℕ) (l : List Logged) (ns : List Note) : Type 0 where
+  pub few : length ns ≤ mostNotes g
+  pub run : LogRun g v l ns
+  pub notes : NoteRun g v ns
   pub tail : Tail g v noteAt 12 (length ns) (g .notes)
   pub fit : NotesOk (g .pages) (g .slots) l ns
   pub backups : (p : ℕ) → 1 ≤ p → p ≤ g .pages → markAt p ns (length ns) .slot ≢ 0 → Faithful g p l (item g v (slotAt (markAt p ns (length ns) .slot)))
+  pub copies : C → (p : ℕ) → 1 ≤ p → p ≤ g .pages → markAt p ns (length ns) .slot ≢ 0 → Copy g v p (markAt p ns (length ns) .slot) (markAt p ns (length ns) .backup)
 
 -- the items of a section are parts at equal distances
 record-part : (g : Geometry) (v : List ℕ) (i : ℕ) → part v (start g (recordAt 1) + (60 + 4) * i) (60 + 4) ≡ item g v (recordAt (suc i))
@@ -57,140 +95,433 @@ note-part g v i =
     let e : start g (noteAt 1) + (12 + 4) * i ≡ start g (noteAt (suc i)) = omega arith in
     ap (λ (k : ℕ). part v k 16) e
 
-module _ (g : Geometry) (v : List ℕ) (l : List Logged) (h : Holds g v l) where
+-- a zero item fails its check
+pub fails-zero : (c n : ℕ) (xs : List ℕ) → length xs ≡ n → c ≤ n → allZero xs ≡ true → sealed c xs ≡ false
+fails-zero c n xs e h z = rw (zero-is xs z) (zero-fails c (length xs) (omega arith))
+
+-- a number of a run that starts at suc f; 0 for one below it
+abbrev pub inRun : ℕ → ℕ → ℕ
+inRun f n = cond (ltb f n) n 0
+
+pub run-yes : (f n : ℕ) → f < n → inRun f n ≡ n
+run-yes f n h = rw (lt-ltb f n h)
+
+pub run-no : (f n : ℕ) → n ≤ f → inRun f n ≡ 0
+run-no f n h = byCases (ltb f n) (λ t. absurd (let l : f < n = ltb-true f n t in omega arith)) (λ t. rw t)
+
+record-number : (r : List ℕ) → field 4 0 r ≡ recordOf r .lsn
+unfolding recordOf
+record-number r = refl
+
+note-number : (r : List ℕ) → field 4 0 r ≡ noteOf r .number
+unfolding noteOf
+note-number r = refl
+
+add-suc : (f c : ℕ) → f + suc c ≡ suc (f + c)
+add-suc f c = omega arith
+
+suc-add : (f c : ℕ) → suc f + c ≡ suc (f + c)
+suc-add f c = omega arith
+
+-- slots are written in order of number, so a ring of one slot holds its last item
+ring-two : (g : Geometry) → ring g ≡ true → 2 ≤ g .records
+ring-two g t = leb-true 2 (g .records) (and-right (eqb (g .tag) 0x32) (leb 2 (g .records)) t)
+
+module _ {C : Type 0} (g : Geometry) (v : List ℕ) (l : List Logged) (h : Holds g v l) (ns : List Note) (o : Noted C g v l ns) where
   sz : Sized g
   sz = volume-sized g v (h .vol)
 
-  rec-at : (i : ℕ) → i < length l → RecordIs (recOf l i) (suc i) (lastAt (at l i .page) l i) (at l i .page) (at l i .change) (at l i .bytes)
-  rec-at i b = recOf-is (g .pages) l i (sz .p-high) (omega (arith, h .room, sz .l-high)) (h .fair i b)
+  pub rec-at : (i : ℕ) → i < length l → RecordIs (recOf l i) (suc i) (lastAt (at l i .page) l i) (at l i .page) (at l i .change) (at l i .bytes)
+  rec-at i b = recOf-is (g .pages) l i (sz .p-high) (omega (arith, h .room, most-high g sz)) (h .fair i b)
+
+  log-room : ring g ≡ false → length l ≤ g .records
+  log-room t = omega (arith, h .room, most-plain g sz t)
+
+  log-start : (f : ℕ) × (firstHeld g v (length l) ≡ suc f) × Start (g .records) (length l) f (Stands g v l) (Spare l ns)
+  unfolding firstHeld
+  log-start =
+      section-start g v recordAt 60 (g .records) (length l) (ring g) (recOf l) (Spare l ns) (o .run) (λ i b. rec-at i b .sealed-is) log-room (λ a. sz .l-low)
+
+  -- the run starts at number suc first
+  pub first : ℕ
+  first = log-start .0
+
+  pub first-is : firstHeld g v (length l) ≡ suc first
+  unfolding first
+  first-is = log-start .1
+
+  pub started : Start (g .records) (length l) first (Stands g v l) (Spare l ns)
+  unfolding first
+  started = log-start .2
+
+  log-top : 1 ≤ length l → item g v (logSlot g (suc (length l - 1))) ≡ recOf l (length l - 1)
+  log-top a = elim (decLt (length l) (length l - 1 + g .records)) [
+    | yes y ↦ o .run .held (length l - 1) (omega arith) y
+    | no z ↦ ⊎-elim (λ w. w) (λ t. absurd (omega (arith, ring-two g (t .0), sz .l-low))) (o .run .oldest (length l - 1) (omega arith) (omega (arith, sz .l-low)))
+  ]
+
+  log-number : (i : ℕ) → i < length l → field 4 0 (recOf l i) ≡ suc i
+  log-number i b = record-number (recOf l i) ∙ ap (λ (y : LogRecord). y .lsn) (rec-at i b .fields)
+
+  log-zeros : (i : ℕ) → 1 ≤ i → i ≤ g .records → allZero (item g v (recordAt i)) ≡ true → sealed 60 (item g v (recordAt i)) ≡ false
+  log-zeros i a b z = fails-zero 60 64 (item g v (recordAt i)) (item-length g v (volume-size g v (h .vol)) (recordAt i) (a, b)) (omega arith) z
 
   pub durable-count : durableCount g v ≡ length l
   unfolding durableCount
   durable-count =
-      run-is 60 v (g .records) (start g (recordAt 1)) (length l) (h .room)
-      (λ i b. rw (record-part g v i, h .log i b) (rec-at i b .sealed-is))
-      (λ b. rw (record-part g v (length l)) (h .tail .gap b))
+      section-count g v recordAt 60 (g .records) (length l) (ring g) (recOf l) (Spare l ns) (o .run) (λ i b. rec-at i b .sealed-is) log-room (λ a. sz .l-low)
+      log-number log-top (h .tail) log-zeros (start g (recordAt 1)) (record-part g v)
 
   log-rest : restZero 64 (g .records) v (start g (recordAt 1)) (length l) ≡ true
   log-rest = rest-zero 64 (g .records) v (start g (recordAt 1)) (length l) (λ i a b. rw (record-part g v i) (h .tail .rest (suc i) a b))
 
   -- record i + 1 as it is read
-  pub record-read : (i : ℕ) → i < length l → logRecord g v (suc i) ≡ recordFor (suc i) (lastAt (at l i .page) l i) (at l i .page) (at l i .change)
-  record-read i b = rw (h .log i b) (rec-at i b .fields)
+  pub record-read : (i : ℕ) → i < length l → first ≤ i → logRecord g v (suc i) ≡ recordFor (suc i) (lastAt (at l i .page) l i) (at l i .page) (at l i .change)
+  record-read i b f = rw (started .held i b f) (rec-at i b .fields)
 
-  pub log-index : (ns : List Note) (n : ℕ) → n ≤ length l → Indexed (logIndex g v n) l n n ns 0
+  -- what the log's run says of a page after c of its records
+  abbrev logEntry : ℕ → ℕ → Entry
+  logEntry n p = entryFrom (inRun first (lastAt p l n)) (inRun first (lastAt p l n)) noMark
+
+  log-index : (c : ℕ) → first + c ≤ length l → Tabled (logIndex g v (suc first) c) (logEntry (first + c))
   unfolding logIndex
-  log-index ns zero b = indexed-start l ns
-  log-index ns (suc n) b =
-      let f = h .fair n b in
-      let q = at l n .page in
-      let x = log-index ns n (omega arith) in
-      rw (record-read n b)
-      (indexed-set (logIndex g v n) l n n ns 0 x l (suc n) (suc n) ns 0 q _ (f .low) (omega (arith, f .high, sz .p-high))
-      (rw (x .entry q (f .low) (omega (arith, f .high, sz .p-high)), last-hit q l n refl))
-      (λ p ne. rw (last-miss p l n (λ e. ne (sym e)))))
+  log-index zero b = tabled-start (logEntry (first + zero)) (λ p. rw (run-no first (lastAt p l (first + zero)) (omega (arith, last-le p l (first + zero)))))
+  log-index (suc c) b =
+      let i = first + c in
+      let b′ : first + c < length l = omega arith in
+      let f = h .fair i b′ in
+      let q = at l i .page in
+      let x = log-index c (omega arith) in
+      rw (suc-add first c, add-suc first c, record-read i b′ (omega arith))
+      (tabled-set (logIndex g v (suc first) c) (logEntry i) (logEntry (suc i)) x q _ (f .low) (omega (arith, f .high, sz .p-high))
+      (rw (x .entry q (f .low) (omega (arith, f .high, sz .p-high)), last-hit q l i refl, run-yes first (suc i) (omega arith)))
+      (λ p ne. rw (last-miss p l i (λ e. ne (sym e)))))
 
-  record-fits : (i : ℕ) → i < length l → recordFits g v (logIndex g v i) (suc i) ≡ true
+  linked-to : (f prev : ℕ) → (eqb prev (inRun f prev) || (eqb (inRun f prev) 0 && within (suc f - 1) prev)) ≡ true
+  linked-to f prev = elim (decLt f prev) [
+    | yes y ↦ rw (run-yes f prev y, eq-eqb prev prev refl)
+    | no z ↦ rw (run-no f prev (omega arith)) (elim (ℕ-discrete prev 0) [
+      | yes e ↦ or-left _ (eq-eqb prev 0 e)
+      | no e ↦ or-right (eqb prev 0) (and-both (eq-eqb 0 0 refl) (within-holds (suc f - 1) prev (omega arith) (omega arith)))
+    ])
+  ]
+
+  record-fits : (i : ℕ) → first + i < length l → recordFits g v (suc first) (logIndex g v (suc first) i) (suc first + i) ≡ true
   unfolding recordFits
   record-fits i b =
-      let f = h .fair i b in
-      let q = at l i .page in
-      let e : entryOf (logIndex g v i) q .last ≡ lastAt q l i = ap (λ (y : Entry). y .last) (log-index [] i (omega arith) .entry q (f .low) (omega (arith, f .high, sz .p-high))) in
-      rw (h .log i b, rec-at i b .fields) (simp (
-        rec-at i b .layout,
-        eq-eqb (suc i) (suc i) refl,
-        within-holds (g .pages) q (f .low) (f .high),
-        e,
-        eq-eqb (lastAt q l i) (lastAt q l i) refl,
-      ) (first (lastAt q l i) (eqb (kindOf (at l i .change)) 1) (f .first)))
+      let j = first + i in
+      let f = h .fair j b in
+      let q = at l j .page in
+      let e : entryOf (logIndex g v (suc first) i) q .last ≡ inRun first (lastAt q l j) = ap (λ (y : Entry). y .last) (log-index i (omega arith) .entry q (f .low) (omega (arith, f .high, sz .p-high))) in
+      rw (suc-add first i, started .held j b (omega arith), rec-at j b .fields) (and-both (rec-at j b .sealed-is) (and-both (rec-at j b .layout) (and-both (eq-eqb (suc j) (suc j) refl)
+      (and-both (within-holds (g .pages) q (f .low) (f .high)) (rw e (and-both (linked-to first (lastAt q l j)) (format-first (lastAt q l j) (eqb (kindOf (at l j .change)) 1) (f .first))))))))
     where
-      first : (n : ℕ) (t : Bool) → (n ≡ 0 → t ≡ true) → (t || leb 1 n) ≡ true
-      first zero t k = or-left (leb 1 0) (k refl)
-      first (suc n) t k = or-right t (le-leb 1 (suc n) (omega arith))
+      format-first : (n : ℕ) (t : Bool) → (n ≡ 0 → t ≡ true) → (t || leb 1 n) ≡ true
+      format-first zero t k = or-left (leb 1 0) (k refl)
+      format-first (suc n) t k = or-right t (le-leb 1 (suc n) (omega arith))
 
   pub valid-log : validLog g v ≡ true
   unfolding validLog
-  valid-log = rw durable-count (and-both (every-all (λ i. recordFits g v (logIndex g v i) (suc i)) (length l) record-fits) log-rest)
+  valid-log =
+      rw (durable-count, first-is) (and-both
+      (every-all (λ i. recordFits g v (suc first) (logIndex g v (suc first) i) (suc first + i)) (suc (length l) - suc first) (λ i b. record-fits i (omega arith)))
+      (and-both
+      (section-ends g v recordAt 60 (g .records) (length l) (ring g) (recOf l) (Spare l ns) (o .run) (λ i b. rec-at i b .sealed-is) log-room (λ a. sz .l-low)
+      log-number log-top (h .tail) log-zeros (start g (recordAt 1)) (record-part g v) first (started .ends)) log-rest))
 
-  module _ (ns : List Note) (o : Noted g v l ns) where
-    note-bounds : (i : ℕ) (b : i < length ns) → (note ns i .number ≤ 1024) × (note ns i .page ≤ 64) × (note ns i .lsn ≤ 1024)
-    note-bounds i b =
-        let f = o .fit i b in
-        (omega (arith, f .number-is, o .few, sz .n-high), omega (arith, f .high, sz .p-high), omega (arith, f .below, h .room, sz .l-high))
+  run-index : Tabled (runIndex g v) (logEntry (length l))
+  unfolding logIndex
+  run-index = rw (durable-count, first-is) (elim (ℕ-discrete (length l) 0) [
+    | yes z ↦
+        let e : suc (length l) - suc first ≡ 0 = omega arith in
+        rw e (empty-run z)
+    | no z ↦
+        let i : first ≤ length l = started .inside (omega arith) in
+        let e : suc (length l) - suc first ≡ length l - first = omega arith in
+        let q : first + (length l - first) ≡ length l = omega arith in
+        rw e (rw q at (log-index (length l - first) (omega arith)))
+  ])
+    where
+      empty-run : length l ≡ 0 → Tabled (logIndex g v (suc first) 0) (logEntry (length l))
+      empty-run z = tabled-start (logEntry (length l)) (λ p. rw (z, last-zero p l, run-no first 0 (omega arith)))
 
-    note-ok : (i : ℕ) → i < length ns → noteRecord g v (suc i) ≡ note ns i
-    note-ok i b = let k = note-bounds i b in rw (o .each i b) (note-read (note ns i) (k .0) (k .1) (k .2))
+  -- ---- the notes
 
-    pub note-count : noteCount g v ≡ length ns
-    unfolding noteCount
-    note-count =
-        run-is 12 v (g .notes) (start g (noteAt 1)) (length ns) (o .few)
-        (λ i b. rw (note-part g v i, o .each i b) (note-sealed (note ns i)))
-        (λ b. rw (note-part g v (length ns)) (o .tail .gap b))
+  notes-room : noteRing g ≡ false → length ns ≤ g .notes
+  notes-room t = omega (arith, o .few, notes-plain g sz t)
 
-    note-rest : restZero 16 (g .notes) v (start g (noteAt 1)) (length ns) ≡ true
-    note-rest = rest-zero 16 (g .notes) v (start g (noteAt 1)) (length ns) (λ i a b. rw (note-part g v i) (o .tail .rest (suc i) a b))
+  -- where there is a note there is a slot: the last one has no later
+  notes-low : 1 ≤ length ns → 1 ≤ g .notes
+  notes-low a = elim (ℕ-discrete (g .notes) 0) [
+    | yes z ↦ absurd (let t = o .notes .lost (length ns - 1) (omega arith) in omega (arith, t .above, t .below))
+    | no z ↦ omega arith
+  ]
 
-    pub note-index : (n : ℕ) → n ≤ length ns → Indexed (noteIndex g v n) l (length l) (length l) ns n
-    unfolding noteIndex enterNote
-    note-index zero b = rw durable-count (log-index ns (length l) (omega arith))
-    note-index (suc n) b =
-        let f = o .fit n b in
-        let q = note ns n .page in
-        let x = note-index n (omega arith) in
-        rw (note-ok n b)
-        (indexed-set (noteIndex g v n) l (length l) (length l) ns n x l (length l) (length l) ns (suc n) q _ (f .low) (omega (arith, f .high, sz .p-high))
-        (rw (x .entry q (f .low) (omega (arith, f .high, sz .p-high)), mark-hit q ns n refl) (entry-noted (lastAt q l (length l)) (lastAt q l (length l)) (markAt q ns n) (note ns n)))
-        (λ p ne. rw (mark-miss p ns n (λ e. ne (sym e)))))
+  note-bounds : (i : ℕ) (b : i < length ns) → (note ns i .number ≤ topNumber) × (note ns i .page ≤ 64) × (note ns i .lsn ≤ topNumber)
+  note-bounds i b =
+      let f = o .fit i b in
+      (omega (arith, f .number-is, o .few, notes-high g sz), omega (arith, f .high, sz .p-high), omega (arith, f .below, h .room, most-high g sz))
 
-    -- a note that may follow passes the scan's tests
-    module _ (i : ℕ) (b : i < length ns) where
-      x-ok : NoteOk (g .pages) (g .slots) l ns i (note ns i)
-      x-ok = o .fit i b
+  pub note-back : (i : ℕ) → i < length ns → noteOf (noteBytes (note ns i)) ≡ note ns i
+  note-back i b = let k = note-bounds i b in note-read (note ns i) (k .0) (k .1) (k .2)
 
-      idx : Indexed (noteIndex g v i) l (length l) (length l) ns i
-      idx = note-index i (omega arith)
+  abbrev noteOfBytes : ℕ → List ℕ
+  noteOfBytes i = noteBytes (note ns i)
 
-      note-follows : noteFollows g (noteIndex g v i) (note ns i) ≡ true
-      unfolding noteFollows
-      note-follows =
-          let f = x-ok in
-          rw (idx .entry (note ns i .page) (f .low) (omega (arith, f .high, sz .p-high))) (byCases (isWritten (note ns i))
-          (λ t. rw t (le-leb (markAt (note ns i .page) ns i .written) (note ns i .lsn) (f .written t .1)))
-          (λ t.
-          let k = f .backed t in
-          rw (t, spare-slot (noteIndex g v i) l (length l) (length l) ns i idx (note ns i .slot) (k .spare))
-          (and-both (le-leb (markAt (note ns i .page) ns i .backup) (note ns i .lsn) (k .above))
-          (and-both (within-holds (g .slots) (note ns i .slot) (k .low) (k .high)) refl))))
+  note-start : (f : ℕ) × (firstNote g v (length ns) ≡ suc f) × Start (g .notes) (length ns) f (NoteStands g v ns) (Later ns)
+  unfolding firstNote
+  note-start =
+      section-start g v noteAt 12 (g .notes) (length ns) (noteRing g) noteOfBytes (Later ns) (o .notes) (λ i b. note-sealed (note ns i)) notes-room notes-low
 
-      layout : noteLayout (note ns i) ≡ true
-      unfolding noteLayout
-      layout = byCases (isWritten (note ns i))
-          (λ t. or-left (eqb (note ns i .kind) 2) (and-both t (eq-eqb (note ns i .slot) 0 (x-ok .written t .0))))
-          (λ t. or-right (eqb (note ns i .kind) 1 && eqb (note ns i .slot) 0) (eq-eqb (note ns i .kind) 2 (x-ok .backed t .kind-is)))
+  pub nfirst : ℕ
+  nfirst = note-start .0
 
-      names : logRecord g v (note ns i .lsn) .page ≡ note ns i .page
-      names =
+  nfirst-is : firstNote g v (length ns) ≡ suc nfirst
+  unfolding nfirst
+  nfirst-is = note-start .1
+
+  pub nstarted : Start (g .notes) (length ns) nfirst (NoteStands g v ns) (Later ns)
+  unfolding nfirst
+  nstarted = note-start .2
+
+  -- a note below the run has a later one of its page and kind in the run
+  pub later-in-run : (i : ℕ) → i < length ns → i < nfirst → (j : ℕ) × (nfirst ≤ j) × (j < length ns) × (note ns j .page ≡ note ns i .page) × (note ns j .kind ≡ note ns i .kind)
+  later-in-run i b c = chase nfirst i (omega arith) b c
+    where
+      chase : (fuel i : ℕ) → nfirst ≤ i + fuel → i < length ns → i < nfirst
+          → (j : ℕ) × (nfirst ≤ j) × (j < length ns) × (note ns j .page ≡ note ns i .page) × (note ns j .kind ≡ note ns i .kind)
+      chase zero i a b c = absurd (omega arith)
+      chase (suc fuel) i a b c =
+          let w = nstarted .lost i b c in
+          elim (decLt (w .place) nfirst) [
+            | yes y ↦ let q = chase fuel (w .place) (omega (arith, w .above)) (w .below) y in (q .0, q .1, q .2, q .3 ∙ w .page-is, q .4 ∙ w .kind-is)
+            | no z ↦ (w .place, omega arith, w .below, w .page-is, w .kind-is)
+          ]
+
+  note-top : 1 ≤ length ns → item g v (noteSlot g (suc (length ns - 1))) ≡ noteBytes (note ns (length ns - 1))
+  note-top a = run-last (λ t. omega (arith, t .above, t .below))
+    where
+      run-last : (Later ns (length ns - 1) → ⊥) → item g v (noteSlot g (suc (length ns - 1))) ≡ noteBytes (note ns (length ns - 1))
+      run-last no-later = elim (decLt (length ns) (length ns - 1 + g .notes)) [
+        | yes y ↦ o .notes .held (length ns - 1) (omega arith) y
+        | no z ↦ ⊎-elim (λ w. w) (λ t. absurd (no-later (t .2))) (o .notes .oldest (length ns - 1) (omega arith) (omega (arith, notes-low a)))
+      ]
+
+  note-numbers : (i : ℕ) → i < length ns → field 4 0 (noteBytes (note ns i)) ≡ suc i
+  note-numbers i b = note-number (noteBytes (note ns i)) ∙ (ap (λ (y : Note). y .number) (note-back i b) ∙ o .fit i b .number-is)
+
+  note-zeros : (i : ℕ) → 1 ≤ i → i ≤ g .notes → allZero (item g v (noteAt i)) ≡ true → sealed 12 (item g v (noteAt i)) ≡ false
+  note-zeros i a b z = fails-zero 12 16 (item g v (noteAt i)) (item-length g v (volume-size g v (h .vol)) (noteAt i) (a, b)) (omega arith) z
+
+  pub note-count : noteCount g v ≡ length ns
+  unfolding noteCount
+  note-count =
+      section-count g v noteAt 12 (g .notes) (length ns) (noteRing g) noteOfBytes (Later ns) (o .notes) (λ i b. note-sealed (note ns i)) notes-room notes-low
+      note-numbers note-top (o .tail) note-zeros (start g (noteAt 1)) (note-part g v)
+
+  note-rest : restZero 16 (g .notes) v (start g (noteAt 1)) (length ns) ≡ true
+  note-rest = rest-zero 16 (g .notes) v (start g (noteAt 1)) (length ns) (λ i a b. rw (note-part g v i) (o .tail .rest (suc i) a b))
+
+  note-ok : (i : ℕ) → i < length ns → nfirst ≤ i → noteRecord g v (suc i) ≡ note ns i
+  note-ok i b f = rw (nstarted .held i b f) (note-back i b)
+
+  -- what the log and the notes of the run before place n say of a page
+  abbrev runMark : ℕ → ℕ → Mark
+  runMark n p = markOf ns (inRun nfirst (lastBy true p ns n)) (inRun nfirst (lastBy false p ns n))
+
+  abbrev noteEntry : ℕ → ℕ → Entry
+  noteEntry n p = entryFrom (inRun first (lastOf p l)) (inRun first (lastOf p l)) (runMark n p)
+
+  pub note-index : (c : ℕ) → nfirst + c ≤ length ns → Tabled (noteIndex g v (suc nfirst) c) (noteEntry (nfirst + c))
+  unfolding noteIndex enterNote
+  note-index zero b =
+      tabled-same (runIndex g v) (logEntry (length l)) (noteEntry (nfirst + zero)) run-index
+      (λ p a c. sym (rw (
+        run-no nfirst (lastBy true p ns (nfirst + zero)) (omega (arith, by-le p ns true (nfirst + zero))),
+        run-no nfirst (lastBy false p ns (nfirst + zero)) (omega (arith, by-le p ns false (nfirst + zero))),
+      )))
+  note-index (suc c) b =
+      let i = nfirst + c in
+      let b′ : nfirst + c < length ns = omega arith in
+      let f = o .fit i b′ in
+      let q = note ns i .page in
+      let x = note-index c (omega arith) in
+      rw (suc-add nfirst c, add-suc nfirst c, note-ok i b′ (omega arith))
+      (tabled-set (noteIndex g v (suc nfirst) c) (noteEntry i) (noteEntry (suc i)) x q _ (f .low) (omega (arith, f .high, sz .p-high))
+      (rw (x .entry q (f .low) (omega (arith, f .high, sz .p-high)))
+      (entry-noted (inRun first (lastOf q l)) (inRun first (lastOf q l)) (runMark i q) (note ns i)
+      ∙ ap (entryFrom (inRun first (lastOf q l)) (inRun first (lastOf q l))) (marked i (omega arith))))
+      (λ p ne. rw (by-miss p ns true i (λ e. ne (sym e)), by-miss p ns false i (λ e. ne (sym e)))))
+    where
+      marked : (i : ℕ) → nfirst ≤ i → withMark (runMark i (note ns i .page)) (note ns i) ≡ runMark (suc i) (note ns i .page)
+      marked i a = byCases (isWritten (note ns i))
+          (λ t. rw (by-hit (note ns i .page) ns true i refl t, by-other (note ns i .page) ns false i (rw t refl), run-yes nfirst (suc i) (omega arith), t))
+          (λ t. rw (by-other (note ns i .page) ns true i t, by-hit (note ns i .page) ns false i refl (rw t refl), run-yes nfirst (suc i) (omega arith), t))
+
+  -- MARKS: the last notes of a page and kind are in the run
+  last-in-run : (t : Bool) (p : ℕ) → inRun nfirst (lastBy t p ns (length ns)) ≡ lastBy t p ns (length ns)
+  last-in-run t p = go (lastBy t p ns (length ns)) refl
+    where
+      same-kind : (t : Bool) (x y : Note) → x .kind ≡ y .kind → sameKind t y ≡ true → sameKind t x ≡ true
+      same-kind true x y e k = rw e k
+      same-kind false x y e k = rw e k
+
+      go : (n : ℕ) → lastBy t p ns (length ns) ≡ n → inRun nfirst n ≡ n
+      go zero e = run-no nfirst 0 (omega arith)
+      go (suc i) e = elim (decLt nfirst (suc i)) [
+        | yes y ↦ run-yes nfirst (suc i) y
+        | no z ↦
+            let q = by-is p ns t (length ns) i e in
+            let b : i < length ns = omega (arith, by-le p ns t (length ns)) in
+            let w = nstarted .lost i b (omega arith) in
+            let ge : suc (w .place) ≤ lastBy t p ns (length ns) =
+            by-ge p ns t (length ns) (w .place) (w .below) (w .page-is ∙ q .0) (same-kind t (note ns (w .place)) (note ns i) (w .kind-is) (q .1)) in
+            absurd (omega (arith, w .above))
+      ]
+
+  abbrev fullEntry : ℕ → Entry
+  fullEntry p = entryFrom (inRun first (lastOf p l)) (inRun first (lastOf p l)) (markAt p ns (length ns))
+
+  full-index : Tabled (noteIndex g v (suc nfirst) (suc (length ns) - suc nfirst)) fullEntry
+  unfolding noteIndex
+  full-index = elim (ℕ-discrete (length ns) 0) [
+    | yes z ↦
+        let e : suc (length ns) - suc nfirst ≡ 0 = omega arith in
+        rw e (tabled-same (runIndex g v) (logEntry (length l)) fullEntry run-index (λ p a c. sym (rw (z, mark-zero p ns))))
+    | no z ↦
+        let i : nfirst ≤ length ns = nstarted .inside (omega arith) in
+        let e : suc (length ns) - suc nfirst ≡ length ns - nfirst = omega arith in
+        let q : nfirst + (length ns - nfirst) ≡ length ns = omega arith in
+        rw e (tabled-same (noteIndex g v (suc nfirst) (length ns - nfirst)) (noteEntry (length ns)) fullEntry (rw q at (note-index (length ns - nfirst) (omega arith)))
+        (λ p a c. ap (entryFrom (inRun first (lastOf p l)) (inRun first (lastOf p l)))
+        (rw (last-in-run true p, last-in-run false p) (sym (mark-by p ns (length ns))))))
+  ]
+
+  -- the last step of a restart gives every page its last change
+  settled-is : (p : ℕ) → settled (fullEntry p) ≡ entryFrom (lastOf p l) (lastOf p l) (markAt p ns (length ns))
+  settled-is p = go (lastOf p l) refl
+    where
+      back : markAt p ns (length ns) .backup ≤ lastOf p l
+      back = mark-ok (g .pages) (g .slots) l ns (o .fit) p (length ns) (omega arith) .backs
+
+      go : (n : ℕ) → lastOf p l ≡ n → settled (entryFrom (inRun first n) (inRun first n) (markAt p ns (length ns))) ≡ entryFrom n n (markAt p ns (length ns))
+      go n e = elim (decLt first n) [
+        | yes y ↦ rw (run-yes first n y, ne-eqb n 0 (λ z. omega arith))
+        | no z ↦ let q : markAt p ns (length ns) .backup ≡ n = same n e (omega arith) in rw (run-no first n (omega arith), q)
+      ]
+        where
+          same : (n : ℕ) → lastOf p l ≡ n → n ≤ first → markAt p ns (length ns) .backup ≡ n
+          same zero e b = omega (arith, back)
+          same (suc i) e b =
+              let pg : at l i .page ≡ p = last-page p l (length l) i e in
+              let sp : suc i ≤ markAt p ns (length ns) .backup = rw pg at (started .lost i (omega (arith, last-le p l (length l))) b) in
+              omega (arith, back)
+
+  final-index : Tabled (map settled (noteIndex g v (suc nfirst) (suc (length ns) - suc nfirst))) (λ p. entryFrom (lastOf p l) (lastOf p l) (markAt p ns (length ns)))
+  final-index =
+      tabled-same (map settled (noteIndex g v (suc nfirst) (suc (length ns) - suc nfirst))) (λ p. settled (fullEntry p)) (λ p. entryFrom (lastOf p l) (lastOf p l) (markAt p ns (length ns)))
+      (tabled-map settled (noteIndex g v (suc nfirst) (suc (length ns) - suc nfirst)) fullEntry full-index) (λ p a c. settled-is p)
+
+  -- note i of the run passes the scan's tests
+  module _ (c : ℕ) (b : nfirst + c < length ns) where
+    abbrev i : ℕ
+    i = nfirst + c
+
+    x-ok : NoteOk (g .pages) (g .slots) l ns (nfirst + c) (note ns (nfirst + c))
+    x-ok = o .fit (nfirst + c) b
+
+    idx : Tabled (noteIndex g v (suc nfirst) c) (noteEntry (nfirst + c))
+    idx = note-index c (omega arith)
+
+    -- the marks of the run are those of all notes, or none
+    lsn-less : (n : ℕ) → lsnBy ns (inRun nfirst n) ≤ lsnBy ns n
+    lsn-less n = elim (decLt nfirst n) [ yes y ↦ rw (run-yes nfirst n y) (omega arith) | no z ↦ rw (run-no nfirst n (omega arith)) (omega arith) ]
+
+    slot-less : (n : ℕ) (s : ℕ) → 1 ≤ s → slotBy ns n ≢ s → slotBy ns (inRun nfirst n) ≢ s
+    slot-less n s a ne = elim (decLt nfirst n) [ yes y ↦ rw (run-yes nfirst n y) ne | no z ↦ rw (run-no nfirst n (omega arith)) (λ e. omega arith) ]
+
+    note-follows : noteFollows g (noteIndex g v (suc nfirst) c) (note ns i) ≡ true
+    unfolding noteFollows
+    note-follows =
+        let f = x-ok in
+        let q = note ns i .page in
+        let m : markAt q ns i ≡ markOf ns (lastBy true q ns i) (lastBy false q ns i) = mark-by q ns i in
+        rw (idx .entry q (f .low) (omega (arith, f .high, sz .p-high))) (byCases (isWritten (note ns i))
+        (λ t.
+        let w : lsnBy ns (lastBy true q ns i) ≤ note ns i .lsn = rw m at (f .written t .1) in
+        rw t (le-leb _ (note ns i .lsn) (omega (arith, lsn-less (lastBy true q ns i)))))
+        (λ t.
+        let k = f .backed t in
+        let w : lsnBy ns (lastBy false q ns i) ≤ note ns i .lsn = rw m at (k .above) in
+        rw (
+          t,
+          spare-tabled (noteIndex g v (suc nfirst) c) (noteEntry i) idx (note ns i .slot)
+              (λ p a d. slot-less (lastBy false p ns i) (note ns i .slot) (k .low) (rw (mark-by p ns i) at (k .spare p a d))),
+        )
+        (and-both (le-leb _ (note ns i .lsn) (omega (arith, lsn-less (lastBy false q ns i))))
+        (and-both (within-holds (g .slots) (note ns i .slot) (k .low) (k .high)) refl))))
+
+    layout : noteLayout (note ns i) ≡ true
+    unfolding noteLayout
+    layout = byCases (isWritten (note ns i))
+        (λ t. or-left (eqb (note ns i .kind) 2) (and-both t (eq-eqb (note ns i .slot) 0 (x-ok .written t .0))))
+        (λ t. or-right (eqb (note ns i .kind) 1 && eqb (note ns i .slot) 0) (eq-eqb (note ns i .kind) 2 (x-ok .backed t .kind-is)))
+
+    names : (ltb (note ns i .lsn) (suc first) || eqb (logRecord g v (note ns i .lsn) .page) (note ns i .page)) ≡ true
+    names = elim (decLt (note ns i .lsn) (suc first)) [
+      | yes y ↦ or-left _ (lt-ltb (note ns i .lsn) (suc first) y)
+      | no z ↦
           let f = x-ok in
           let s : note ns i .lsn ≡ suc (note ns i .lsn - 1) = omega (arith, f .some) in
-          ap (λ (k : ℕ). logRecord g v k .page) s
-          ∙ (ap (λ (y : LogRecord). y .page) (record-read (note ns i .lsn - 1) (omega (arith, f .some, f .below))) ∙ f .page-is)
+          or-right (ltb (note ns i .lsn) (suc first)) (eq-eqb (logRecord g v (note ns i .lsn) .page) (note ns i .page)
+          (ap (λ (k : ℕ). logRecord g v k .page) s
+          ∙ (ap (λ (y : LogRecord). y .page) (record-read (note ns i .lsn - 1) (omega (arith, f .some, f .below)) (omega arith)) ∙ f .page-is)))
+    ]
 
-      note-fits : noteFits g v (noteIndex g v i) (suc i) ≡ true
-      unfolding noteFits
-      note-fits =
-          let f = x-ok in
-          rw (note-ok i b, durable-count)
-          (and-both layout
-          (and-both (eq-eqb (note ns i .number) (suc i) (f .number-is))
-          (and-both (within-holds (g .pages) (note ns i .page) (f .low) (f .high))
-          (and-both (within-holds (length l) (note ns i .lsn) (f .some) (f .below))
-          (and-both (eq-eqb (logRecord g v (note ns i .lsn) .page) (note ns i .page) names) note-follows)))))
+    pub note-fits : noteFits g v (noteIndex g v (suc nfirst) c) (suc nfirst + c) ≡ true
+    unfolding noteFits
+    note-fits =
+        let f = x-ok in
+        let st = nstarted .held i b (omega arith) in
+        let sl : sealed 12 (item g v (noteSlot g (suc i))) ≡ true = rw st (note-sealed (note ns i)) in
+        rw (suc-add nfirst c, sl, note-ok i b (omega arith), durable-count, first-is)
+        (and-both layout
+        (and-both (eq-eqb (note ns i .number) (suc i) (f .number-is))
+        (and-both (within-holds (g .pages) (note ns i .page) (f .low) (f .high))
+        (and-both (within-holds (length l) (note ns i .lsn) (f .some) (f .below))
+        (and-both names note-follows)))))
 
-    pub valid-notes : validNotes g v ≡ true
-    unfolding validNotes
-    valid-notes = rw note-count (and-both (every-all (λ i. noteFits g v (noteIndex g v i) (suc i)) (length ns) note-fits) note-rest)
+  pub valid-notes : validNotes g v ≡ true
+  unfolding validNotes
+  valid-notes =
+      rw (note-count, nfirst-is) (and-both
+      (every-all (λ i. noteFits g v (noteIndex g v (suc nfirst) i) (suc nfirst + i)) (suc (length ns) - suc nfirst) (λ i b. note-fits i (omega arith)))
+      (and-both
+      (section-ends g v noteAt 12 (g .notes) (length ns) (noteRing g) noteOfBytes (Later ns) (o .notes) (λ i b. note-sealed (note ns i)) notes-room notes-low
+      note-numbers note-top (o .tail) note-zeros (start g (noteAt 1)) (note-part g v) nfirst (nstarted .ends))
+      (and-both note-rest
+      (every-all (λ i. leb (entryRow idx i .written) (entryRow idx i .last)) 64 (λ i b.
+      let e : suc i - 1 ≡ i = omega arith in
+      let q : entryRow idx i ≡ entryFrom (lastOf (suc i) l) (lastOf (suc i) l) (markAt (suc i) ns (length ns)) = rw e at (final-index .entry (suc i) (omega arith) (omega arith)) in
+      rw q (le-leb (markAt (suc i) ns (length ns) .written) (lastOf (suc i) l) (mark-ok (g .pages) (g .slots) l ns (o .fit) (suc i) (length ns) (omega arith) .wrote)))))))
+    where
+      idx : List Entry
+      idx = map settled (noteIndex g v (suc nfirst) (suc (length ns) - suc nfirst))
 
-    -- the index that the volume gives
-    pub index-is : Indexed (indexOf g v) l (length l) (length l) ns (length ns)
-    index-is = rw note-count (note-index (length ns) (omega arith))
+  -- the index that the volume gives
+  pub index-is : Indexed (indexOf g v) l (length l) (length l) ns (length ns)
+  index-is = rw (note-count, nfirst-is) final-index
+
+  -- where record 1 has not left, the run starts at it or is empty
+  pub not-gone : gone g v ≡ false → 1 ≤ length l → first ≡ 0
+  unfolding gone
+  not-gone t a =
+      let q : (ltb 0 (length l) && ltb 1 (suc first)) ≡ false = rw (durable-count, first-is) at t in
+      let r : ltb 1 (suc first) ≡ false = rw (lt-ltb 0 (length l) a) at q in
+      let b : suc first ≤ 1 = ltb-false 1 (suc first) r in
+      omega arith
+
+  -- it has left where the run starts later
+  pub is-gone : 1 ≤ first → 1 ≤ length l → gone g v ≡ true
+  unfolding gone
+  is-gone a b = rw (durable-count, first-is) (and-both (lt-ltb 0 (length l) b) (lt-ltb 1 (suc first) (omega arith)))

@@ -1,8 +1,8 @@
 -- The page recovery index, page by page: what its log columns say of a list of changes, and its note columns of a list of notes.
 use mathlib.Core.Path.{_≡_, refl, sym, ap, _∙_}
 use mathlib.Core.Logic.{_≢_}
-use mathlib.Core.Bool.{Bool, true, false, cond}
-use mathlib.Core.List.{List, [], _∷_, _++_}
+use mathlib.Core.Bool.{Bool, true, false, cond, not, _&&_}
+use mathlib.Core.List.{List, [], _∷_, _++_, map}
 use Prim.Native.Nat.{ℕ, zero, suc, _-_, _≤_, _<_}
 use native.Mathlib.Omega.{arith}
 use native.Mathlib.Decide.{ℕ-discrete}
@@ -10,14 +10,14 @@ use native.Mathlib.Nat.{le-of-suc-le-suc}
 use lib.ListN.{length, getD, length-set, length-append, length-replicate, getD-replicate, List·getD-append}
 use lib.Seq.{getD-set-same, getD-set-other, getD-append-seam}
 use lib.Dec.{eqb}
-use borrow.Author.Tests.{eq-eqb, ne-eqb}
+use borrow.Author.Tests.{eq-eqb, ne-eqb, eqb-true}
 use Rattle.model.specs.declared.item.Note.{Note}
 use Rattle.model.specs.declared.state.Entry.{Entry}
 use Rattle.model.specs.Item.{isWritten}
 use Rattle.model.specs.Index.{emptyEntry, emptyIndex, entryOf, setEntry, withNote, slotUsed}
 use Rattle.model.specs.AbstractLog.{Logged}
-use Rattle.laws.proofs.Tables.{byCases}
-use Rattle.history.proofs.Logs.{at, lastAt, last-ge, last-zero}
+use Rattle.laws.proofs.Tables.{byCases, and-left, and-right, and-both, true-not-false}
+use Rattle.history.proofs.Logs.{at, lastAt, last-ge}
 
 -- ---- what notes say of a page
 
@@ -38,6 +38,11 @@ note ns i = getD ns i noNote
 
 abbrev pub withMark : Mark → Note → Mark
 withMark k x = cond (isWritten x) (record { written = x .lsn; slot = k .slot; backup = k .backup }) (record { written = k .written; slot = x .slot; backup = x .lsn })
+
+-- the note is a written one (t), or a backup's (not t)
+abbrev pub sameKind : Bool → Note → Bool
+sameKind true x = isWritten x
+sameKind false x = not (isWritten x)
 
 -- what the first n notes say of page p
 unfoldable pub markAt : ℕ → List Note → ℕ → Mark
@@ -147,31 +152,54 @@ entryFrom a d k = record { last = a; durable = d; written = k .written; slot = k
 pub entry-noted : (a d : ℕ) (k : Mark) (x : Note) → withNote (entryFrom a d k) x ≡ entryFrom a d (withMark k x)
 entry-noted a d k x = byCases (isWritten x) (λ t. rw t) (λ t. rw t)
 
--- the index over the first a changes (the first d durable) and the first n notes
-pub record Indexed (index : List Entry) (l : List Logged) (a d : ℕ) (ns : List Note) (n : ℕ) : Type 0 where
+-- an index by its entries
+pub record Tabled (index : List Entry) (e : ℕ → Entry) : Type 0 where
   pub size : length index ≡ 64
-  pub entry : (p : ℕ) → 1 ≤ p → p ≤ 64 → entryOf index p ≡ entryFrom (lastAt p l a) (lastAt p l d) (markAt p ns n)
+  pub entry : (p : ℕ) → 1 ≤ p → p ≤ 64 → entryOf index p ≡ e p
 
-pub indexed-start : (l : List Logged) (ns : List Note) → Indexed emptyIndex l 0 0 ns 0
+-- the index over the first a changes (the first d durable) and the first n notes
+abbrev pub Indexed : List Entry → List Logged → ℕ → ℕ → List Note → ℕ → Type 0
+Indexed index l a d ns n = Tabled index (λ p. entryFrom (lastAt p l a) (lastAt p l d) (markAt p ns n))
+
+pub tabled-start : (e : ℕ → Entry) → ((p : ℕ) → e p ≡ emptyEntry) → Tabled emptyIndex e
 unfolding emptyIndex
-indexed-start l ns =
-    record {
-      size = length-replicate 64 emptyEntry;
-      entry = λ p h k. getD-replicate 64 (p - 1) emptyEntry emptyEntry (omega arith) ∙ sym (rw (last-zero p l, mark-zero p ns));
-    }
+tabled-start e z =
+    record { size = length-replicate 64 emptyEntry; entry = λ p h k. getD-replicate 64 (p - 1) emptyEntry emptyEntry (omega arith) ∙ sym (z p) }
 
 -- one entry is set, and nothing else changes
+pub tabled-set : (index : List Entry) (e e′ : ℕ → Entry) → Tabled index e → (q : ℕ) (x : Entry) → 1 ≤ q → q ≤ 64 → x ≡ e′ q → ((p : ℕ) → p ≢ q → e p ≡ e′ p)
+    → Tabled (setEntry index q x) e′
+tabled-set index e e′ x q y lo hi here there =
+    record { size = length-set index (q - 1) y ∙ x .size; entry = λ p h k. go p h k (ℕ-discrete p q) }
+  where
+    go : (p : ℕ) → 1 ≤ p → p ≤ 64 → Dec (p ≡ q) → entryOf (setEntry index q y) p ≡ e′ p
+    go p h k (yes z) = rw z (getD-set-same index (q - 1) y emptyEntry (omega (arith, x .size)) ∙ here)
+    go p h k (no z) = getD-set-other index (q - 1) (p - 1) y emptyEntry (λ w. z (omega arith)) ∙ (x .entry p h k ∙ there p z)
+
+-- another list of the same entries
+pub tabled-same : (index : List Entry) (e e′ : ℕ → Entry) → Tabled index e → ((p : ℕ) → 1 ≤ p → p ≤ 64 → e p ≡ e′ p) → Tabled index e′
+tabled-same index e e′ x f = record { size = x .size; entry = λ p h k. x .entry p h k ∙ f p h k }
+
+getD-map : (f : Entry → Entry) (xs : List Entry) (i : ℕ) → i < length xs → getD (map f xs) i emptyEntry ≡ f (getD xs i emptyEntry)
+getD-map f [] i h = absurd (omega arith)
+getD-map f (x ∷ xs) zero h = refl
+getD-map f (x ∷ xs) (suc i) h = getD-map f xs i (le-of-suc-le-suc h)
+
+length-map : (f : Entry → Entry) (xs : List Entry) → length (map f xs) ≡ length xs
+length-map f [] = refl
+length-map f (x ∷ xs) = ap suc (length-map f xs)
+
+pub tabled-map : (f : Entry → Entry) (index : List Entry) (e : ℕ → Entry) → Tabled index e → Tabled (map f index) (λ p. f (e p))
+tabled-map f index e x =
+    record { size = length-map f index ∙ x .size; entry = λ p h k. getD-map f index (p - 1) (omega (arith, x .size)) ∙ ap f (x .entry p h k) }
+
 pub indexed-set : (index : List Entry) (l : List Logged) (a d : ℕ) (ns : List Note) (n : ℕ) → Indexed index l a d ns n
     → (l′ : List Logged) (a′ d′ : ℕ) (ns′ : List Note) (n′ q : ℕ) (e : Entry) → 1 ≤ q → q ≤ 64
     → e ≡ entryFrom (lastAt q l′ a′) (lastAt q l′ d′) (markAt q ns′ n′)
     → ((p : ℕ) → p ≢ q → entryFrom (lastAt p l a) (lastAt p l d) (markAt p ns n) ≡ entryFrom (lastAt p l′ a′) (lastAt p l′ d′) (markAt p ns′ n′))
     → Indexed (setEntry index q e) l′ a′ d′ ns′ n′
 indexed-set index l a d ns n x l′ a′ d′ ns′ n′ q e lo hi here there =
-    record { size = length-set index (q - 1) e ∙ x .size; entry = λ p h k. go p h k (ℕ-discrete p q) }
-  where
-    go : (p : ℕ) → 1 ≤ p → p ≤ 64 → Dec (p ≡ q) → entryOf (setEntry index q e) p ≡ entryFrom (lastAt p l′ a′) (lastAt p l′ d′) (markAt p ns′ n′)
-    go p h k (yes y) = rw y (getD-set-same index (q - 1) e emptyEntry (omega (arith, x .size)) ∙ here)
-    go p h k (no z) = getD-set-other index (q - 1) (p - 1) e emptyEntry (λ y. z (omega arith)) ∙ (x .entry p h k ∙ there p z)
+    tabled-set index (λ p. entryFrom (lastAt p l a) (lastAt p l d) (markAt p ns n)) (λ p. entryFrom (lastAt p l′ a′) (lastAt p l′ d′) (markAt p ns′ n′)) x q e lo hi here there
 
 -- a slot is in the index where some page's entry has it
 slot-here : (b : ℕ) (index : List Entry) → slotUsed b index ≡ false → (i : ℕ) → i < length index → getD index i emptyEntry .slot ≢ b
@@ -190,13 +218,96 @@ unfolding slotUsed
 slot-nowhere b [] h = refl
 slot-nowhere b (x ∷ index) h = rw (ne-eqb (x .slot) b (h 0 (omega arith))) (slot-nowhere b index (λ i c. h (suc i) (omega arith)))
 
-module _ (index : List Entry) (l : List Logged) (a d : ℕ) (ns : List Note) (n : ℕ) (x : Indexed index l a d ns n) (b : ℕ) where
-  pub slot-spare : slotUsed b index ≡ false → (p : ℕ) → 1 ≤ p → p ≤ 64 → markAt p ns n .slot ≢ b
-  slot-spare h p lo hi e = slot-here b index h (p - 1) (omega (arith, x .size)) (ap (λ (y : Entry). y .slot) (x .entry p lo hi) ∙ e)
+module _ (index : List Entry) (e : ℕ → Entry) (x : Tabled index e) (b : ℕ) where
+  pub tabled-spare : slotUsed b index ≡ false → (p : ℕ) → 1 ≤ p → p ≤ 64 → e p .slot ≢ b
+  tabled-spare h p lo hi q = slot-here b index h (p - 1) (omega (arith, x .size)) (ap (λ (y : Entry). y .slot) (x .entry p lo hi) ∙ q)
 
-  pub spare-slot : ((p : ℕ) → 1 ≤ p → p ≤ 64 → markAt p ns n .slot ≢ b) → slotUsed b index ≡ false
-  spare-slot h = slot-nowhere b index (λ i c e.
-      h (suc i) (omega arith) (omega (arith, x .size)) (sym (ap (λ (y : Entry). y .slot) (x .entry (suc i) (omega arith) (omega (arith, x .size)))) ∙ (rw (suc-less i) e)))
+  pub spare-tabled : ((p : ℕ) → 1 ≤ p → p ≤ 64 → e p .slot ≢ b) → slotUsed b index ≡ false
+  spare-tabled h = slot-nowhere b index (λ i c q.
+      h (suc i) (omega arith) (omega (arith, x .size)) (sym (ap (λ (y : Entry). y .slot) (x .entry (suc i) (omega arith) (omega (arith, x .size)))) ∙ (rw (suc-less i) q)))
     where
       suc-less : (i : ℕ) → suc i - 1 ≡ i
       suc-less i = omega arith
+
+module _ (index : List Entry) (l : List Logged) (a d : ℕ) (ns : List Note) (n : ℕ) (x : Indexed index l a d ns n) (b : ℕ) where
+  pub slot-spare : slotUsed b index ≡ false → (p : ℕ) → 1 ≤ p → p ≤ 64 → markAt p ns n .slot ≢ b
+  slot-spare = tabled-spare index (λ p. entryFrom (lastAt p l a) (lastAt p l d) (markAt p ns n)) x b
+
+-- ---- notes by the place of the last one of a page and kind
+
+-- of the first n notes: one more than the place of the last of page p that is written (t) or backed up (not t); 0: there is none
+unfoldable pub lastBy : Bool → ℕ → List Note → ℕ → ℕ
+lastBy t p ns zero = 0
+lastBy t p ns (suc n) = cond (eqb (note ns n .page) p && sameKind t (note ns n)) (suc n) (lastBy t p ns n)
+
+abbrev pub lsnBy : List Note → ℕ → ℕ
+lsnBy ns zero = 0
+lsnBy ns (suc i) = note ns i .lsn
+
+abbrev pub slotBy : List Note → ℕ → ℕ
+slotBy ns zero = 0
+slotBy ns (suc i) = note ns i .slot
+
+abbrev pub markOf : List Note → ℕ → ℕ → Mark
+markOf ns a b = record { written = lsnBy ns a; slot = slotBy ns b; backup = lsnBy ns b }
+
+module _ (p : ℕ) (ns : List Note) where
+  pub by-hit : (t : Bool) (n : ℕ) → note ns n .page ≡ p → sameKind t (note ns n) ≡ true → lastBy t p ns (suc n) ≡ suc n
+  unfolding lastBy
+  by-hit t n h k = rw (eq-eqb (note ns n .page) p h, k)
+
+  pub by-other : (t : Bool) (n : ℕ) → sameKind t (note ns n) ≡ false → lastBy t p ns (suc n) ≡ lastBy t p ns n
+  unfolding lastBy
+  by-other t n k = byCases (eqb (note ns n .page) p) (λ u. rw (u, k)) (λ u. rw u)
+
+  pub by-miss : (t : Bool) (n : ℕ) → note ns n .page ≢ p → lastBy t p ns (suc n) ≡ lastBy t p ns n
+  unfolding lastBy
+  by-miss t n h = rw (ne-eqb (note ns n .page) p h)
+
+  pub by-zero : (t : Bool) → lastBy t p ns 0 ≡ 0
+  unfolding lastBy
+  by-zero t = refl
+
+  pub by-le : (t : Bool) (n : ℕ) → lastBy t p ns n ≤ n
+  unfolding lastBy
+  by-le t zero = omega arith
+  by-le t (suc n) = let ih : lastBy t p ns n ≤ n = by-le t n in byCases (eqb (note ns n .page) p && sameKind t (note ns n)) (λ e. rw e (omega arith)) (λ e. rw e (omega arith))
+
+  -- the last is one, and none is later
+  pub by-is : (t : Bool) (n i : ℕ) → lastBy t p ns n ≡ suc i → (note ns i .page ≡ p) × (sameKind t (note ns i) ≡ true)
+  unfolding lastBy
+  by-is t zero i e = absurd (omega arith)
+  by-is t (suc n) i e = byCases (eqb (note ns n .page) p && sameKind t (note ns n))
+      (λ u.
+      let q : suc n ≡ suc i = rw u at e in
+      let q′ : i ≡ n = omega arith in
+      rw q′ (eqb-true (note ns n .page) p (and-left (eqb (note ns n .page) p) (sameKind t (note ns n)) u), and-right (eqb (note ns n .page) p) (sameKind t (note ns n)) u))
+      (λ u. by-is t n i (rw u at e))
+
+  pub by-ge : (t : Bool) (n j : ℕ) → j < n → note ns j .page ≡ p → sameKind t (note ns j) ≡ true → suc j ≤ lastBy t p ns n
+  unfolding lastBy
+  by-ge t zero j b e k = absurd (omega arith)
+  by-ge t (suc n) j b e k = byCases (eqb (note ns n .page) p && sameKind t (note ns n))
+      (λ u. rw u b)
+      (λ u. rw u (elim (ℕ-discrete j n) [
+        | yes q ↦ absurd (true-not-false (rw (← q) (and-both (eq-eqb (note ns j .page) p e) k)) u)
+        | no q ↦ by-ge t n j (omega arith) e k
+      ]))
+
+  -- what the notes say, by those places
+  pub mark-by : (n : ℕ) → markAt p ns n ≡ markOf ns (lastBy true p ns n) (lastBy false p ns n)
+  mark-by zero = mark-zero p ns ∙ sym (rw (by-zero true, by-zero false))
+  mark-by (suc n) = elim (ℕ-discrete (note ns n .page) p) [
+    | yes y ↦ mark-hit p ns n y ∙ (rw (mark-by n) (byCases (isWritten (note ns n))
+        (λ t. rw (by-hit true n y t, by-other false n (rw t refl), t))
+        (λ t. rw (by-other true n t, by-hit false n y (rw t refl), t))))
+    | no z ↦ mark-miss p ns n z ∙ (mark-by n ∙ sym (rw (by-miss true n z, by-miss false n z)))
+  ]
+
+-- a later note has the page and kind of note i
+pub record Later (ns : List Note) (i : ℕ) : Type 0 where
+  pub place : ℕ
+  pub above : i < place
+  pub below : place < length ns
+  pub page-is : note ns place .page ≡ note ns i .page
+  pub kind-is : note ns place .kind ≡ note ns i .kind

@@ -12,7 +12,8 @@ use native.Mathlib.Nat.{le-of-suc-le-suc}
 use borrow.Author.Tests.{eqb-true, eq-eqb}
 use Rattle.laws.proofs.Tables.{byCases, and-both, or-neither, true-not-false, within-bounds, within-holds}
 use Rattle.model.specs.Tables.{firstOf}
-use Rattle.model.specs.Geometry.{Place, pageAt, slotAt, recordAt, noteAt, item, store}
+use Rattle.model.specs.Geometry.{Place, pageAt, slotAt, recordAt, noteAt, item, store, ring}
+use Rattle.laws.proofs.Ring.{displaced-restart}
 use Rattle.model.specs.Item.{validImage, validSomewhere, isWritten}
 use Rattle.model.specs.Index.{emptyEntry, slotUsed}
 use Rattle.model.specs.Scan.{indexOf}
@@ -27,18 +28,19 @@ use Rattle.model.specs.declared.state.Entry.{Entry}
 use Rattle.model.specs.declared.state.Frame.{Frame}
 use Rattle.model.specs.declared.state.PendingNote.{PendingNote}
 use Rattle.model.specs.declared.state.PendingNote.the-variants.{Absent, Present}
-use Rattle.history.proofs.Entries.{markAt, Indexed, spare-slot, slot-spare}
+use Rattle.history.proofs.Logs.{lastAt}
+use Rattle.history.proofs.Entries.{markAt, entryFrom, Indexed, spare-tabled, slot-spare}
 use Rattle.history.proofs.Leaf.{valid-page}
 use Rattle.history.proofs.Records.{Faithful}
 use Rattle.history.proofs.Sections.{volume-sized}
-use Rattle.history.proofs.Disk.{Holds, Noted, durable-count, note-count, index-is}
+use Rattle.history.proofs.Disk.{Holds, Noted, Stands, Torn, Spare, durable-count, note-count, index-is}
 use Rattle.history.proofs.Inv.{image-fine, Past, PendingOk, frame, Alive, PowerInv, Inv}
 use Rattle.history.proofs.Stores.{page-holds, page-noted, page-slots, slot-holds, slot-noted, slot-same, slot-other, pending-keep}
 use Rattle.history.proofs.Memory.{memory-is}
 
 -- ---- Restart
 
-module _ (g : Geometry) (v : List ℕ) (k : List Logged) (h : Holds g v k) (ns : List Note) (o : Noted g v k ns) where
+module _ {C : Type 0} (g : Geometry) (v : List ℕ) (k : List Logged) (h : Holds g v k) (ns : List Note) (o : Noted C g v k ns) where
   -- a Restart that is not refused was lent a memory of the right size
   pub restart-memory : (m : List ℕ) → firstOf (restartRows v m) ≡ 0 → validMemory (length m) ≡ true
   unfolding restartRows
@@ -47,12 +49,12 @@ module _ (g : Geometry) (v : List ℕ) (k : List Logged) (h : Holds g v k) (ns :
   empty-frame : (j : ℕ) → j < 16 → frame (replicate 16 emptyFrame) j ≡ emptyFrame
   empty-frame j b = getD-replicate 16 j emptyFrame emptyFrame b
 
-  fresh-alive : (m : List ℕ) → validMemory (length m) ≡ true → Alive g v (replicate (length m) 0) (restartState v) k [] k ns
+  fresh-alive : (m : List ℕ) → validMemory (length m) ≡ true → Alive C g v (replicate (length m) 0) (restartState v) k [] k ns
   unfolding restartState
   fresh-alive m t =
       let M = memory-is m t in
       let F : ℕ = frameCount (length m) in
-      rw (h .vol .geo, durable-count g v k h, note-count g v k h ns o) (record {
+      rw (h .vol .geo, durable-count g v k h ns o, note-count g v k h ns o) (record {
         F = F;
         memory = record { size = length-replicate (length m) 0 ∙ M .size; low = M .low; high = M .high };
         log = record {
@@ -74,12 +76,13 @@ module _ (g : Geometry) (v : List ℕ) (k : List Logged) (h : Holds g v k) (ns :
           clean = λ j b d n. refl;
         };
         index = rw (note-count g v k h ns o) at (index-is g v k h ns o);
+        displaced = displaced-restart (ring g) (g .records) (length k) (Stands g v k) (Torn g v) (Spare k ns) (o .run);
         notes-is = refl;
         note-ok = tt;
       })
 
-pub inv-restart : (g : Geometry) (v : List ℕ) (past : List StoredItem) (x : Power) (b : AbstractLog) (m : List ℕ) → Inv g v past x b
-    → Inv g v past (restarted v m) (cond (eqb (firstOf (restartRows v m)) 0) (forget b) b)
+pub inv-restart : {C : Type 0} (g : Geometry) (v : List ℕ) (past : List StoredItem) (x : Power) (b : AbstractLog) (m : List ℕ) → Inv C g v past x b
+    → Inv C g v past (restarted v m) (cond (eqb (firstOf (restartRows v m)) 0) (forget b) b)
 unfolding restartOf
 inv-restart g v past x b m i =
     byCases (eqb (firstOf (restartRows v m)) 0)
@@ -95,7 +98,7 @@ inv-restart g v past x b m i =
     }))
     (λ t. rw t (record { ns = i .ns; holds = i .holds; noted = i .noted; past-ok = i .past-ok; live = tt }))
 
-pub inv-crash-between : (g : Geometry) (v : List ℕ) (past : List StoredItem) (x : Power) (b : AbstractLog) → Inv g v past x b → Inv g v past off (forget b)
+pub inv-crash-between : {C : Type 0} (g : Geometry) (v : List ℕ) (past : List StoredItem) (x : Power) (b : AbstractLog) → Inv C g v past x b → Inv C g v past off (forget b)
 inv-crash-between g v past x b i = record { ns = i .ns; holds = i .holds; noted = i .noted; past-ok = i .past-ok; live = tt }
 
 -- ---- damage
@@ -124,7 +127,7 @@ pub record SlotDamage (g : Geometry) (k : List Logged) (ns : List Note) (i : ℕ
   pub given : (q : ℕ) → 1 ≤ q → q ≤ g .pages → markAt q ns (length ns) .slot ≡ i → Faithful g q k xs
   pub outside : ((p : ℕ) → 1 ≤ p → p ≤ 64 → markAt p ns (length ns) .slot ≢ i) → (q : ℕ) → 1 ≤ q → q ≤ g .pages → Faithful g q k xs
 
-module _ (g : Geometry) (v : List ℕ) (k : List Logged) (h : Holds g v k) (ns : List Note) (o : Noted g v k ns) where
+module _ {C : Type 0} (g : Geometry) (v : List ℕ) (k : List Logged) (h : Holds g v k) (ns : List Note) (o : Noted C g v k ns) where
   idx : Indexed (indexOf g v) k (length k) (length k) ns (length ns)
   idx = index-is g v k h ns o
 
@@ -144,7 +147,7 @@ module _ (g : Geometry) (v : List ℕ) (k : List Logged) (h : Holds g v k) (ns :
             (not-noted g i xs (indexOf g v) 0 n (q - 1) (omega (arith, idx .size)) (ap (λ (y : Entry). y .slot) (idx .entry q lo hi′) ∙ z)) in
             absurd (true-not-false t nv);
         outside = λ sp q lo hi t.
-            let u : slotUsed i (indexOf g v) ≡ false = spare-slot (indexOf g v) k (length k) (length k) ns (length ns) idx i sp in
+            let u : slotUsed i (indexOf g v) ≡ false = spare-tabled (indexOf g v) (λ p. entryFrom (lastAt p k (length k)) (lastAt p k (length k)) (markAt p ns (length ns))) idx i sp in
             let n : validSomewhere g xs ≡ false = rw u at e in
             absurd (true-not-false (somewhere g xs q lo hi t) n);
       }
@@ -153,10 +156,10 @@ module _ (g : Geometry) (v : List ℕ) (k : List Logged) (h : Holds g v k) (ns :
       not-spare q lo hi z = byCases (slotUsed i (indexOf g v)) (λ t. t)
           (λ t. absurd (slot-spare (indexOf g v) k (length k) (length k) ns (length ns) idx i t q lo hi z))
 
-  pending-damage : (i : ℕ) (xs : List ℕ) → 1 ≤ i → i ≤ g .slots → length xs ≡ 256 → SlotDamage g k ns i xs → (y : PendingNote)
-      → PendingOk g v k ns y → PendingOk g (store g v (slotAt i) xs) k ns y
-  pending-damage i xs lo hi five d Absent t = tt
-  pending-damage i xs lo hi five d (Present y) t = (t .0, t .1, λ z. go z (ℕ-discrete (y .slot) i))
+  pending-damage : (i : ℕ) (xs : List ℕ) → 1 ≤ i → i ≤ g .slots → length xs ≡ 256 → (C → ⊥) → SlotDamage g k ns i xs → (y : PendingNote)
+      → PendingOk C g v k ns y → PendingOk C g (store g v (slotAt i) xs) k ns y
+  pending-damage i xs lo hi five no-c d Absent t = tt
+  pending-damage i xs lo hi five no-c d (Present y) t = (t .0, t .1, (λ z. go z (ℕ-discrete (y .slot) i)), t .3, (λ c z. absurd (no-c c)))
     where
       go : isWritten y ≡ false → Dec (y .slot ≡ i) → Faithful g (y .page) k (item g (store g v (slotAt i) xs) (slotAt (y .slot)))
       go z (yes e) =
@@ -167,10 +170,10 @@ module _ (g : Geometry) (v : List ℕ) (k : List Logged) (h : Holds g v k) (ns :
           rw (slot-other g v k h ns o i xs lo hi five (slotAt (y .slot)) (bk .low, bk .high) (omega (arith, bk .low))) (t .2 z)
 
 -- a live machine after a store that leaves its pending note in order
-live-keep : (g : Geometry) (v v′ : List ℕ) (x : Power) (b : AbstractLog) (ns : List Note) → ((y : PendingNote) → PendingOk g v (b .durable) ns y → PendingOk g v′ (b .durable) ns y)
-    → PowerInv g v x b ns → PowerInv g v′ x b ns
-live-keep g v v′ off b ns f l = tt
-live-keep g v v′ (on m s) b ns f l = (
+live-keep : (C : Type 0) (g : Geometry) (v v′ : List ℕ) (x : Power) (b : AbstractLog) (ns : List Note) → ((y : PendingNote) → PendingOk C g v (b .durable) ns y → PendingOk C g v′ (b .durable) ns y)
+    → PowerInv C g v x b ns → PowerInv C g v′ x b ns
+live-keep C g v v′ off b ns f l = tt
+live-keep C g v v′ (on m s) b ns f l = (
   l .0,
   record {
     F = l .1 .F;
@@ -178,14 +181,15 @@ live-keep g v v′ (on m s) b ns f l = (
     log = l .1 .log;
     frames = l .1 .frames;
     index = l .1 .index;
+    displaced = l .1 .displaced;
     notes-is = l .1 .notes-is;
     note-ok = f (s .note) (l .1 .note-ok);
   },
 )
 
-pub inv-damage : (g : Geometry) (v : List ℕ) (past : List StoredItem) (x : Power) (b : AbstractLog) (at : Place) (xs : List ℕ) → isImage g at ≡ true → length xs ≡ 256
-    → (passesAt g (indexOf g v) at xs ≡ false) ⊎ (storedBefore at xs past ≡ true) → Inv g v past x b → Inv g (store g v at xs) past x b
-inv-damage g v past x b (pageAt p) xs r five d i =
+pub inv-damage : (C : Type 0) (g : Geometry) (v : List ℕ) (past : List StoredItem) (x : Power) (b : AbstractLog) (at : Place) (xs : List ℕ) → (C → ⊥) → isImage g at ≡ true → length xs ≡ 256
+    → (passesAt g (indexOf g v) at xs ≡ false) ⊎ (storedBefore at xs past ≡ true) → Inv C g v past x b → Inv C g (store g v at xs) past x b
+inv-damage C g v past x b (pageAt p) xs no-c r five d i =
     let w = within-bounds (g .pages) p r in
     let f = valid d in
     record {
@@ -193,22 +197,22 @@ inv-damage g v past x b (pageAt p) xs r five d i =
       holds = page-holds g v (b .durable) (i .holds) (i .ns) (i .noted) p xs (w .0) (w .1) five f;
       noted = page-noted g v (b .durable) (i .holds) (i .ns) (i .noted) p xs (w .0) (w .1) five f;
       past-ok = i .past-ok;
-      live = live-keep g v (store g v (pageAt p) xs) x b (i .ns) (λ y. pending-keep g v (store g v (pageAt p) xs) (b .durable) (b .durable) (i .ns) y (λ q z f. f) (λ z f. f)
+      live = live-keep C g v (store g v (pageAt p) xs) x b (i .ns) (λ y. pending-keep C g v (store g v (pageAt p) xs) (b .durable) (b .durable) (i .ns) y (λ q z f. f) (λ z f. f)
           (page-slots g v (b .durable) (i .holds) (i .ns) (i .noted) p xs (w .0) (w .1) five f)) (i .live);
     }
   where
     valid : (validImage g p xs ≡ false) ⊎ (storedBefore (pageAt p) xs past ≡ true) → Faithful g p (b .durable) xs
     valid (inl e) = λ t. absurd (true-not-false t e)
     valid (inr e) = image-fine g (b .durable) xs (i .past-ok (pageAt p) xs r e) p
-inv-damage g v past x b (slotAt n) xs r five d i =
+inv-damage C g v past x b (slotAt n) xs no-c r five d i =
     let w = within-bounds (g .slots) n r in
     let f = slot-damage g v (b .durable) (i .holds) (i .ns) (i .noted) n xs past r (i .past-ok) d in
     record {
       ns = i .ns;
       holds = slot-holds g v (b .durable) (i .holds) (i .ns) (i .noted) n xs (w .0) (w .1) five;
-      noted = slot-noted g v (b .durable) (i .holds) (i .ns) (i .noted) n xs (w .0) (w .1) five (f .given);
+      noted = slot-noted g v (b .durable) (i .holds) (i .ns) (i .noted) n xs (w .0) (w .1) five (f .given) (λ c p a z. absurd (no-c c));
       past-ok = i .past-ok;
-      live = live-keep g v (store g v (slotAt n) xs) x b (i .ns) (pending-damage g v (b .durable) (i .holds) (i .ns) (i .noted) n xs (w .0) (w .1) five f) (i .live);
+      live = live-keep C g v (store g v (slotAt n) xs) x b (i .ns) (pending-damage g v (b .durable) (i .holds) (i .ns) (i .noted) n xs (w .0) (w .1) five no-c f) (i .live);
     }
-inv-damage g v past x b (recordAt n) xs r five d i = absurd (true-not-false r refl)
-inv-damage g v past x b (noteAt n) xs r five d i = absurd (true-not-false r refl)
+inv-damage C g v past x b (recordAt n) xs no-c r five d i = absurd (true-not-false r refl)
+inv-damage C g v past x b (noteAt n) xs no-c r five d i = absurd (true-not-false r refl)

@@ -25,7 +25,7 @@ use Rattle.history.proofs.Inv.{Inv}
 use Rattle.history.proofs.Context.{Ctx, entry-is, last-entry, durable-last, found-frame}
 use Rattle.history.proofs.WellFormed.{state-ok, memory-ok}
 use Rattle.history.proofs.Refusals.{call-ordinary, load-durable, restart-right, restart-wrong, inspect-right, inspect-wrong, inspect-durable}
-use Rattle.history.proofs.Reached.{madeWith, context, tied}
+use Rattle.history.proofs.Reached.{Undamaged, madeWith, context, tied}
 
 -- a replay in the words of the facts
 is-replay : (p : ℕ) (k : List Logged) (x : List ℕ) → ReplayOf p k x → IsReplay p k x
@@ -38,7 +38,7 @@ is-replay p k x f =
     }
 
 module _ (h : History) (legal : Legal h) where
-  i : Inv (madeWith h) (reached h .volume) (reached h .past) (reached h .power) (logOf h)
+  i : Inv (Undamaged h) (madeWith h) (reached h .volume) (reached h .past) (reached h .power) (logOf h)
   i = tied h legal
 
   pub heading : headingOf h ≡ madeWith h
@@ -54,9 +54,9 @@ module _ (h : History) (legal : Legal h) where
 
   -- the machine that is on
   module _ (m : List ℕ) (s : State) (e : reached h .power ≡ on m s) where
-    ctx : Ctx (madeWith h) (volumeOf h) m (reached h .past) s (durableOf h) (logOf h .pending)
+    ctx : Ctx (Undamaged h) (madeWith h) (volumeOf h) m (reached h .past) s (durableOf h) (logOf h .pending)
     ctx = context (madeWith h) (volumeOf h) m (reached h .past) s (logOf h)
-        (subst (λ (y : Power). Inv (madeWith h) (volumeOf h) (reached h .past) y (logOf h)) e i)
+        (subst (λ (y : Power). Inv (Undamaged h) (madeWith h) (volumeOf h) (reached h .past) y (logOf h)) e i)
 
     same-entry : (p : ℕ) → 1 ≤ p → p ≤ h .pages → SameEntry h s p
     same-entry p lo hi =

@@ -1,5 +1,6 @@
 -- Write and Backup keep the invariant: the image that they store is a replay, and the note that they leave may follow.
 use mathlib.Core.Path.{_≡_, refl, sym, _∙_}
+use mathlib.Core.Logic.{_≢_}
 use mathlib.Core.Bool.{true, false}
 use mathlib.Core.List.{List, _∷_}
 use Prim.Native.Nat.{ℕ, zero, suc, _+_, _-_, _≤_}
@@ -8,8 +9,8 @@ use lib.ListN.{length}
 use Rattle.laws.proofs.Tables.{true-not-false}
 use Rattle.laws.proofs.Items.{sealImage-valid, frameImage-page, frameImage-zeros}
 use Rattle.model.specs.Checksum.{imageSealed, sealImage}
-use Rattle.model.specs.Geometry.{Place, pageAt, slotAt, width, store}
-use Rattle.model.specs.Item.{imageLsn, frameImage, isWritten}
+use Rattle.model.specs.Geometry.{topNumber, Place, pageAt, slotAt, width, store}
+use Rattle.model.specs.Item.{imageLsn, validImage, frameImage, isWritten}
 use Rattle.model.specs.Index.{slotUsed}
 use Rattle.model.specs.State.{frameBytes, holder, lastNote}
 use Rattle.model.specs.Calls.{StoredItem, oneItem}
@@ -27,17 +28,17 @@ use Rattle.history.proofs.Stores.{page-holds, page-noted, slot-holds, s
 use Rattle.history.proofs.Context.{Ctx, sized, len, few, body-size, durable-last, durable-page, durable-body, Found}
 
 -- an item that may be stored: what it leaves whole, and torn
-pub record StoreOk (g : Geometry) (v : List ℕ) (past : List StoredItem) (k : List Logged) (ns : List Note) (at : Place) (xs : List ℕ) (k′ : List Logged) (ns′ : List Note) : Type 0 where
+pub record StoreOk (C : Type 0) (g : Geometry) (v : List ℕ) (past : List StoredItem) (k : List Logged) (ns : List Note) (at : Place) (xs : List ℕ) (k′ : List Logged) (ns′ : List Note) : Type 0 where
   pub holds′ : Holds g (store g v at xs) k′
-  pub noted′ : Noted g (store g v at xs) k′ ns′
+  pub noted′ : Noted C g (store g v at xs) k′ ns′
   pub past′ : Past g k′ (oneItem at xs ∷ past)
-  pub torn′ : (ys : List ℕ) → itemSealed g at ys ≡ false → length ys ≡ width at → Holds g (store g v at ys) k × Noted g (store g v at ys) k ns
+  pub torn′ : (ys : List ℕ) → itemSealed g at ys ≡ false → length ys ≡ width at → Holds g (store g v at ys) k × Noted C g (store g v at ys) k ns
 
 -- a torn image is nobody's
 torn-fine : (g : Geometry) (k : List Logged) (ys : List ℕ) → imageSealed g ys ≡ false → Fine g k ys
 torn-fine g k ys t q z = absurd (true-not-false (valid-sealed g q ys z) t)
 
-module _ {g : Geometry} {v m : List ℕ} {past : List StoredItem} {s : State} {k w : List Logged} (x : Ctx g v m past s k w) where
+module _ {C : Type 0} {g : Geometry} {v m : List ℕ} {past : List StoredItem} {s : State} {k w : List Logged} (x : Ctx C g v m past s k w) where
   -- the image of a frame whose newest change is durable
   module _ (p : ℕ) (f : Found x p) (b : imageLsn (frameBytes m (holder s p)) ≤ s .durable) where
     abbrev N : ℕ
@@ -49,7 +50,7 @@ module _ {g : Geometry} {v m : List ℕ} {past : List StoredItem} {s : State} {k
     pg : p ≤ 64
     pg = omega (arith, f .framed .high, sized x .p-high)
 
-    nm : lastOf p (x .all) ≤ 1024
+    nm : lastOf p (x .all) ≤ topNumber
     nm = omega (arith, few x, last-le p (x .all) (length (x .all)))
 
     pub lsn-is : imageLsn (frameBytes m (holder s p)) ≡ lastOf p (x .all)
@@ -84,6 +85,12 @@ module _ {g : Geometry} {v m : List ℕ} {past : List StoredItem} {s : State} {k
                 body-is = image-body g p N B pg nm (body-size x p) ∙ durable-body x p j q le;
               };
             })
+
+    pub sealed-valid : validImage g p (sealImage g (frameBytes m (holder s p))) ≡ true
+    sealed-valid = rw (f .framed .frame-is) (sealImage-valid g (frameImage p N B) (frame-size g p N B pg nm (body-size x p)) p (frameImage-page p N B (body-size x p) (omega (arith, pg))) (frameImage-zeros p N B (body-size x p)))
+
+    pub sealed-lsn : imageLsn (sealImage g (frameBytes m (holder s p))) ≡ imageLsn (frameBytes m (holder s p))
+    sealed-lsn = rw (f .framed .frame-is) (image-lsn g p N B pg nm (body-size x p) ∙ sym (frame-lsn g p N B pg nm (body-size x p)))
 
     fine : Fine g k (sealImage g (frameBytes m (holder s p)))
     fine = image-fine g k (sealImage g (frameBytes m (holder s p))) image-is
@@ -132,7 +139,7 @@ module _ {g : Geometry} {v m : List ℕ} {past : List StoredItem} {s : State} {k
           above = mark-le .1;
         })
 
-    pub write-store : StoreOk g v past k (x .ns) (pageAt p) (sealImage g (frameBytes m (holder s p))) k (x .ns)
+    pub write-store : StoreOk C g v past k (x .ns) (pageAt p) (sealImage g (frameBytes m (holder s p))) k (x .ns)
     write-store =
         let lo = f .framed .low in
         let hi = f .framed .high in
@@ -146,14 +153,16 @@ module _ {g : Geometry} {v m : List ℕ} {past : List StoredItem} {s : State} {k
           );
         }
 
-    pub backup-store : (sl : ℕ) → 1 ≤ sl → sl ≤ g .slots → StoreOk g v past k (x .ns) (slotAt sl) (sealImage g (frameBytes m (holder s p))) k (x .ns)
-    backup-store sl lo hi =
+    pub backup-store : (sl : ℕ) → 1 ≤ sl → sl ≤ g .slots → slotUsed sl (s .index) ≡ false → StoreOk C g v past k (x .ns) (slotAt sl) (sealImage g (frameBytes m (holder s p))) k (x .ns)
+    backup-store sl lo hi un =
+        let nobody : C → (q : ℕ) → 1 ≤ q → q ≤ g .pages → markAt q (x .ns) (length (x .ns)) .slot ≢ sl =
+        λ c q a b. slot-spare (s .index) (x .all) (length (x .all)) (length k) (x .ns) (length (x .ns)) (x .al .index) sl un q a (omega (arith, sized x .p-high)) in
         record {
           holds′ = slot-holds g v k (x .hs) (x .ns) (x .no) sl (sealImage g (frameBytes m (holder s p))) lo hi sealed-size;
-          noted′ = slot-noted g v k (x .hs) (x .ns) (x .no) sl (sealImage g (frameBytes m (holder s p))) lo hi sealed-size (λ q l₁ h₁ z. fine q);
+          noted′ = slot-noted g v k (x .hs) (x .ns) (x .no) sl (sealImage g (frameBytes m (holder s p))) lo hi sealed-size (λ q l₁ h₁ z. fine q) nobody;
           past′ = past-cons g k past (oneItem (slotAt sl) (sealImage g (frameBytes m (holder s p)))) (λ z. image-is) (x .ps);
           torn′ = λ ys t n. (
             slot-holds g v k (x .hs) (x .ns) (x .no) sl ys lo hi n,
-            slot-noted g v k (x .hs) (x .ns) (x .no) sl ys lo hi n (λ q l₁ h₁ z. torn-fine g k ys t q),
+            slot-noted g v k (x .hs) (x .ns) (x .no) sl ys lo hi n (λ q l₁ h₁ z. torn-fine g k ys t q) nobody,
           );
         }

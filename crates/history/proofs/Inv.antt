@@ -10,8 +10,9 @@ use lib.ListN.{length, getD, length-append, List·getD-append}
 use lib.Dec.{eqb}
 use borrow.Author.Tests.{eqb-true}
 use Rattle.laws.proofs.Tables.{and-left, and-right, or-cases, true-not-false}
+use Rattle.laws.proofs.Ring.{Displaced}
 use Rattle.model.specs.Bytes.{sameBytes}
-use Rattle.model.specs.Geometry.{Place, pageAt, slotAt, recordAt, noteAt, item}
+use Rattle.model.specs.Geometry.{Place, pageAt, slotAt, recordAt, noteAt, item, most, mostNotes}
 use Rattle.model.specs.Item.{validImage, frameImage, isWritten}
 use Rattle.model.specs.State.{frameBytes, pendingBytes, emptyFrame}
 use Rattle.model.specs.Calls.{StoredItem, nothing, oneItem}
@@ -24,10 +25,10 @@ use Rattle.model.specs.declared.state.PendingNote.{PendingNote}
 use Rattle.model.specs.declared.state.PendingNote.the-variants.{Absent, Present}
 use Rattle.model.specs.declared.state.State.{State}
 use Rattle.history.proofs.Logs.{noLogged, at, lastAt, lastOf, bodyOf}
-use Rattle.history.proofs.Entries.{note, NoteOk, Indexed}
+use Rattle.history.proofs.Entries.{note, NoteOk, Indexed, Later}
 use Rattle.history.proofs.Leaf.{valid-page}
 use Rattle.history.proofs.Records.{AllFair, recOf, ReplayOf, Faithful, valid-append}
-use Rattle.history.proofs.Disk.{Holds, Noted}
+use Rattle.history.proofs.Disk.{Holds, Noted, Copy, Spare}
 
 -- ---- what calls stored
 
@@ -102,11 +103,16 @@ past-cons g k past (oneItem at′ ys) t f at xs i e =
 
 -- ---- memory and state
 
+-- there is a slot for one more note, and what it will displace is not needed (OWED SPARE)
+abbrev pub Room : Geometry → List Note → Type 0
+Room g ns = (1 ≤ g .notes) × ((i : ℕ) → i < length ns → length ns ≡ i + g .notes → Later ns i)
+
 -- the note that is pending
-abbrev pub PendingOk : Geometry → List ℕ → List Logged → List Note → PendingNote → Type 0
-PendingOk g v k ns Absent = Unit {0}
-PendingOk g v k ns (Present x) =
-    NoteOk (g .pages) (g .slots) k ns (length ns) x × (length ns < g .notes) × (isWritten x ≡ false → Faithful g (x .page) k (item g v (slotAt (x .slot))))
+abbrev pub PendingOk : Type 0 → Geometry → List ℕ → List Logged → List Note → PendingNote → Type 0
+PendingOk C g v k ns Absent = Unit {0}
+PendingOk C g v k ns (Present x) =
+    NoteOk (g .pages) (g .slots) k ns (length ns) x × (length ns < mostNotes g) × (isWritten x ≡ false → Faithful g (x .page) k (item g v (slotAt (x .slot)))) × Room g ns
+    × (C → isWritten x ≡ false → Copy g v (x .page) (x .slot) (x .lsn))
 
 -- a memory of F frames
 pub record Memory (F : ℕ) (m : List ℕ) : Type 0 where
@@ -143,30 +149,31 @@ pub record LogState (g : Geometry) (m : List ℕ) (durable pending : ℕ) (k w a
   pub split : all ≡ k ++ w
   pub durable-is : durable ≡ length k
   pub pending-is : pending ≡ length w
-  pub room : length all ≤ g .records
+  pub room : length all ≤ most g
   pub fair : AllFair (g .pages) all
   pub few : length w ≤ 16
   pub waits : (i : ℕ) → length k ≤ i → i < length all → pendingBytes m (suc i) ≡ recOf all i
 
-pub record Alive (g : Geometry) (v m : List ℕ) (s : State) (k w all : List Logged) (ns : List Note) : Type 0 where
+pub record Alive (C : Type 0) (g : Geometry) (v m : List ℕ) (s : State) (k w all : List Logged) (ns : List Note) : Type 0 where
   pub F : ℕ
   pub memory : Memory F m
   pub log : LogState g m (s .durable) (s .pending) k w all
   pub frames : Frames (g .pages) F all (length k) (s .frames) m
   pub index : Indexed (s .index) all (length all) (length k) ns (length ns)
+  pub displaced : Displaced (g .records) (length k) (length all) (Spare k ns)
   pub notes-is : s .notes ≡ length ns
-  pub note-ok : PendingOk g v k ns (s .note)
+  pub note-ok : PendingOk C g v k ns (s .note)
 
-abbrev pub PowerInv : Geometry → List ℕ → Power → AbstractLog → List Note → Type 0
-PowerInv g v off b ns = Unit {0}
-PowerInv g v (on m s) b ns = (all : List Logged) × Alive g v m s (b .durable) (b .pending) all ns
+abbrev pub PowerInv : Type 0 → Geometry → List ℕ → Power → AbstractLog → List Note → Type 0
+PowerInv C g v off b ns = Unit {0}
+PowerInv C g v (on m s) b ns = (all : List Logged) × Alive C g v m s (b .durable) (b .pending) all ns
 
-pub record Inv (g : Geometry) (v : List ℕ) (past : List StoredItem) (x : Power) (b : AbstractLog) : Type 0 where
+pub record Inv (C : Type 0) (g : Geometry) (v : List ℕ) (past : List StoredItem) (x : Power) (b : AbstractLog) : Type 0 where
   pub ns : List Note
   pub holds : Holds g v (b .durable)
-  pub noted : Noted g v (b .durable) ns
+  pub noted : Noted C g v (b .durable) ns
   pub past-ok : Past g (b .durable) past
-  pub live : PowerInv g v x b ns
+  pub live : PowerInv C g v x b ns
 
 -- a note over a longer list
 pub note-append : (P B : ℕ) (l r : List Logged) (ns : List Note) (n : ℕ) (x : Note) → NoteOk P B l ns n x → NoteOk P B (l ++ r) ns n x

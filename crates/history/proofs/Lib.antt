@@ -2,9 +2,10 @@ pub mod Logs
 pub mod Entries
 pub mod Leaf
 pub mod Records
-pub mod Walk
 pub mod Sections
+pub mod Runs
 pub mod Disk
+pub mod Walk
 pub mod Inv
 pub mod Stores
 pub mod Memory
@@ -12,6 +13,7 @@ pub mod LogSteps
 pub mod FrameSteps
 pub mod Views
 pub mod Context
+pub mod Asked
 pub mod Appends
 pub mod Loads
 pub mod Images
@@ -20,8 +22,9 @@ pub mod Calls
 pub mod Events
 pub mod Reached
 pub mod Inspection
-pub mod Theorem
 pub mod WellFormed
+pub mod Theorem
 pub mod Refusals
 pub mod Facts
 pub mod Health
+pub mod Lost

@@ -1,21 +1,23 @@
 -- Load keeps the invariant: a page in no frame is repaired to its replay, and its walk is never broken.
 use mathlib.Core.Path.{_≡_, refl, sym, ap, _∙_}
-use mathlib.Core.Logic.{_≢_}
+use mathlib.Core.Logic.{_≢_, _↔_}
 use mathlib.Core.Bool.{Bool, true, false, cond, not}
 use mathlib.Core.List.{List, [], _∷_, _++_}
 use Prim.Native.Nat.{ℕ, zero, suc, _-_, _≤_, _<_}
 use native.Mathlib.Omega.{arith}
 use lib.ListN.{length}
 use borrow.Author.Tests.{eqb-false}
-use Rattle.laws.proofs.Tables.{true-not-false}
+use Rattle.laws.proofs.Tables.{byCases, true-not-false}
 use Rattle.model.specs.Tables.{Row, firstOf, within}
 use Rattle.model.specs.Bytes.{splice}
-use Rattle.model.specs.Geometry.{geometryOf, validVolume}
+use Rattle.model.specs.Geometry.{topNumber, geometryOf, validVolume}
+use Rattle.model.specs.Scan.{firstHeld, gone, indexOf}
+use Rattle.model.specs.Claim.{startStands}
 use Rattle.model.specs.Item.{frameImage}
 use Rattle.model.specs.Index.{entryOf}
-use Rattle.model.specs.Repair.{viewOf, walkOf, isBroken, rebuilt}
+use Rattle.model.specs.Repair.{viewOf, walkOf, isBroken, isBelow, rebuilt}
 use Rattle.model.specs.State.{frameAt, held, frameCount, validMemory, wellFormed, blank}
-use Rattle.model.specs.Refusals.{loadRows, frameBlocked, chainBroken}
+use Rattle.model.specs.Refusals.{loadRows, frameBlocked, chainBroken, chainBelow}
 use Rattle.model.specs.Calls.{StoredItem, nothing, volumeAfter, withFrame, withFrames}
 use Rattle.model.specs.AbstractLog.{Logged}
 use Rattle.model.specs.declared.geometry.Geometry.{Geometry}
@@ -26,8 +28,10 @@ use Rattle.history.proofs.Leaf.{frame-size}
 use Rattle.history.proofs.Inv.{past-cons, Settled, frame}
 use Rattle.history.proofs.Memory.{frame-count, frame-memory, frame-same, frame-other, frame-pending}
 use Rattle.history.proofs.FrameSteps.{frames-put}
-use Rattle.history.proofs.Views.{view-unbroken, view-body}
-use Rattle.history.proofs.Context.{Ctx, Kept, Passed, passed, in-range, sized, geo, fair, few, body-size, entry-is, last-entry, durable-page, durable-body, nowhere}
+use Rattle.history.proofs.Views.{view-unbroken, view-body, view-whole, view-granted, Unserved, below-exact, exact-below}
+use Rattle.history.proofs.Entries.{markAt, entryFrom}
+use Rattle.history.proofs.Disk.{first, index-is}
+use Rattle.history.proofs.Context.{Ctx, Kept, Passed, passed, in-range, sized, geo, fair, few, body-size, entry-is, last-entry, durable-last, durable-page, durable-body, nowhere}
 
 -- the rows before a row whose number is answered do not hold, and it does
 abbrev pub Others : ℕ → List Row → Type 0
@@ -57,13 +61,16 @@ until n (t ∷ ts) b rest o r nz e =
     go true m k ne e = absurd (ne e)
     go false m k ne e = (refl, e)
 
-module _ {g : Geometry} {v m : List ℕ} {past : List StoredItem} {s : State} {k w : List Logged} (x : Ctx g v m past s k w) where
+module _ {C : Type 0} {g : Geometry} {v m : List ℕ} {past : List StoredItem} {s : State} {k w : List Logged} (x : Ctx C g v m past s k w) where
   -- a page with a change and none that is pending
   module _ (page : ℕ) (lo : 1 ≤ page) (hi : page ≤ g .pages) (st : Settled (x .all) (length k) page) (nz : lastOf page (x .all) ≢ 0) where
     abbrev Restored : ℕ → Type 0
     Restored p =
-        (isBroken (walkOf g p (viewOf g v (entryOf (s .index) p) p) .stop) ≡ false)
-        × (rebuilt g p (viewOf g v (entryOf (s .index) p) p) ≡ frameImage p (lastOf p (x .all)) (bodyOf p (x .all)))
+        (isBroken (walkOf g p (viewOf g v (firstHeld g v (s .durable)) (entryOf (s .index) p) p) .stop) ≡ false)
+        × (isBelow (walkOf g p (viewOf g v (firstHeld g v (s .durable)) (entryOf (s .index) p) p) .stop) ≡ false
+        → rebuilt g p (viewOf g v (firstHeld g v (s .durable)) (entryOf (s .index) p) p) ≡ frameImage p (lastOf p (x .all)) (bodyOf p (x .all)))
+        × (gone g v ≡ false → isBelow (walkOf g p (viewOf g v (firstHeld g v (s .durable)) (entryOf (s .index) p) p) .stop) ≡ false)
+        × (startStands g v (entryOf (indexOf g v) p) p ≡ true → isBelow (walkOf g p (viewOf g v (firstHeld g v (s .durable)) (entryOf (s .index) p) p) .stop) ≡ false)
 
     restored : (n : ℕ) → lastOf page (x .all) ≡ n → Restored page
     restored zero q = absurd (nz q)
@@ -72,13 +79,41 @@ module _ {g : Geometry} {v m : List ℕ} {past : List StoredItem} {s : State} {k
         let b : suc j ≤ length k = omega (arith, last-le page (x .all) (length k)) in
         let vb = view-body g v k (x .hs) (x .ns) (x .no) (suc j) j page lo hi b (durable-page x page j q b) in
         let vu = view-unbroken g v k (x .hs) (x .ns) (x .no) (suc j) j page lo hi b (durable-page x page j q b) in
-        rw (entry-is x page lo hi, d, q) (vu, ap (frameImage page (suc j)) (vb ∙ sym (durable-body x page j q b)))
+        let vw = view-whole g v k (x .hs) (x .ns) (x .no) (suc j) j page lo hi b (durable-page x page j q b) in
+        let vg = view-granted g v k (x .hs) (x .ns) (x .no) (suc j) j page lo hi b (durable-page x page j q b) in
+        let last : lastOf page k ≡ suc j = sym (durable-last x page lo hi) ∙ d in
+        let found : entryOf (indexOf g v) page ≡ entryFrom (lastOf page k) (lastOf page k) (markAt page (x .ns) (length (x .ns))) =
+        index-is g v k (x .hs) (x .ns) (x .no) .entry page lo (omega (arith, sized x .p-high)) in
+        rw (x .al .log .durable-is, entry-is x page lo hi, d, q, found) (vu, λ z. ap (frameImage page (suc j)) (vb z ∙ sym (durable-body x page j q b)), vw, λ t. vg t last)
 
     pub load-unbroken : chainBroken g v s page ≡ false
     load-unbroken = restored (lastOf page (x .all)) refl .0
 
-    pub load-image : rebuilt g page (viewOf g v (entryOf (s .index) page) page) ≡ frameImage page (lastOf page (x .all)) (bodyOf page (x .all))
+    pub load-image : chainBelow g v s page ≡ false
+        → rebuilt g page (viewOf g v (firstHeld g v (s .durable)) (entryOf (s .index) page) page) ≡ frameImage page (lastOf page (x .all)) (bodyOf page (x .all))
     load-image = restored (lastOf page (x .all)) refl .1
+
+    -- 23, exactly
+    exactly : (n : ℕ) → lastOf page (x .all) ≡ n → (chainBelow g v s page ≡ true) ↔ Unserved g v k (entryOf (indexOf g v) page) page (first g v k (x .hs) (x .ns) (x .no))
+    exactly zero q = absurd (nz q)
+    exactly (suc j) q =
+        let d : lastAt page (x .all) (length k) ≡ suc j = sym st ∙ q in
+        let b : suc j ≤ length k = omega (arith, last-le page (x .all) (length k)) in
+        let pg = durable-page x page j q b in
+        let last : lastOf page k ≡ suc j = sym (durable-last x page lo hi) ∙ d in
+        let found : entryOf (indexOf g v) page ≡ entryFrom (lastOf page k) (lastOf page k) (markAt page (x .ns) (length (x .ns))) =
+        index-is g v k (x .hs) (x .ns) (x .no) .entry page lo (omega (arith, sized x .p-high)) in
+        rw (x .al .log .durable-is, entry-is x page lo hi, d, found)
+        (below-exact g v k (x .hs) (x .ns) (x .no) (suc j) j page lo hi b pg last, exact-below g v k (x .hs) (x .ns) (x .no) (suc j) j page lo hi b pg last)
+
+    pub load-exact : (chainBelow g v s page ≡ true) ↔ Unserved g v k (entryOf (indexOf g v) page) page (first g v k (x .hs) (x .ns) (x .no))
+    load-exact = exactly (lastOf page (x .all)) refl
+
+    pub load-whole : gone g v ≡ false → chainBelow g v s page ≡ false
+    load-whole = restored (lastOf page (x .all)) refl .2
+
+    pub load-granted : startStands g v (entryOf (indexOf g v) page) page ≡ true → chainBelow g v s page ≡ false
+    load-granted = restored (lastOf page (x .all)) refl .3
 
   -- what a load that is not refused has been asked
   pub record Loaded (page f : ℕ) : Type 0 where
@@ -113,6 +148,12 @@ module _ {g : Geometry} {v m : List ℕ} {past : List StoredItem} {s : State} {k
       let t = passed (loadRows v m s page f) (omega arith) e in
       loaded-from page f (t .1 .1 .1 .0) (t .1 .1 .1 .1 .0) (t .1 .1 .1 .1 .1 .0) (t .1 .1 .1 .1 .1 .1 .0) (t .1 .1 .1 .1 .1 .1 .1 .0)
 
+  pub loads-above : (page f : ℕ) → firstOf (loadRows v m s page f) ≡ 0 → chainBelow g v s page ≡ false
+  unfolding loadRows
+  loads-above page f e =
+      let t = passed (loadRows v m s page f) (omega arith) e in
+      rw (geo x) at (t .1 .1 .1 .1 .1 .1 .1 .1 .1 .0)
+
   -- 19 never comes
   pub never-broken : (page f : ℕ) → firstOf (loadRows v m s page f) ≢ 19
   unfolding loadRows
@@ -121,30 +162,46 @@ module _ {g : Geometry} {v m : List ℕ} {past : List StoredItem} {s : State} {k
       let u = until 19
       ((not (validVolume v), 1) ∷ (not (validMemory (length m)), 2) ∷ (not (wellFormed h (frameCount (length m)) s), 2) ∷ (not (within (h .pages) page), 3)
       ∷ (not (within (frameCount (length m)) f), 4) ∷ (blank s page, 7) ∷ (held s page, 9) ∷ (frameBlocked s f, 10) ∷ [])
-      (chainBroken h v s page) [] (omega arith) tt (λ z. omega arith) e in
+      (chainBroken h v s page) ((chainBelow h v s page, 23) ∷ []) (omega arith) (omega arith) (λ z. omega arith) e in
       let t = u .0 in
       let l = loaded-from page f (t .1 .1 .1 .0) (t .1 .1 .1 .1 .0) (t .1 .1 .1 .1 .1 .0) (t .1 .1 .1 .1 .1 .1 .0) (t .1 .1 .1 .1 .1 .1 .1 .0) in
       let b : chainBroken g v s page ≡ true = rw (geo x) at (u .1) in
       true-not-false b (load-unbroken page (l .low) (l .high) (l .settled) (l .some))
 
+  -- 23 comes only where record 1 has left and the proviso fails
+  pub below-only : (page f : ℕ) → firstOf (loadRows v m s page f) ≡ 23 → (gone g v ≡ true) × (startStands g v (entryOf (indexOf g v) page) page ≡ true → ⊥)
+  unfolding loadRows
+  below-only page f e =
+      let h : Geometry = geometryOf v in
+      let u = until 23
+      ((not (validVolume v), 1) ∷ (not (validMemory (length m)), 2) ∷ (not (wellFormed h (frameCount (length m)) s), 2) ∷ (not (within (h .pages) page), 3)
+      ∷ (not (within (frameCount (length m)) f), 4) ∷ (blank s page, 7) ∷ (held s page, 9) ∷ (frameBlocked s f, 10) ∷ (chainBroken h v s page, 19) ∷ [])
+      (chainBelow h v s page) [] (omega arith) tt (λ z. omega arith) e in
+      let t = u .0 in
+      let l = loaded-from page f (t .1 .1 .1 .0) (t .1 .1 .1 .1 .0) (t .1 .1 .1 .1 .1 .0) (t .1 .1 .1 .1 .1 .1 .0) (t .1 .1 .1 .1 .1 .1 .1 .0) in
+      let b : chainBelow g v s page ≡ true = rw (geo x) at (u .1) in (
+        byCases (gone g v) (λ z. z) (λ z. absurd (true-not-false b (load-whole page (l .low) (l .high) (l .settled) (l .some) z))),
+        λ z. true-not-false b (load-granted page (l .low) (l .high) (l .settled) (l .some) z),
+      )
+
   pub keep-load : (page f : ℕ) (an : Answer) (t : Bool) → firstOf (loadRows v m s page f) ≡ 0
-      → Kept g v past (record {
+      → Kept C g v past (record {
         answer = an;
         state = withFrames s (withFrame s f page t) (s .note);
-        memory = splice m (frameAt f) (rebuilt (geometryOf v) page (viewOf (geometryOf v) v (entryOf (s .index) page) page));
+        memory = splice m (frameAt f) (rebuilt (geometryOf v) page (viewOf (geometryOf v) v (firstHeld (geometryOf v) v (s .durable)) (entryOf (s .index) page) page));
         stored = nothing;
       }) (record { durable = k; pending = w })
   unfolding volumeAfter
   keep-load page f an t e =
       let l = loads page f e in
-      let im = load-image page (l .low) (l .high) (l .settled) (l .some) in
+      let im = load-image page (l .low) (l .high) (l .settled) (l .some) (loads-above page f e) in
       let pg : page ≤ 64 = omega (arith, l .high, sized x .p-high) in
-      let nm : lastOf page (x .all) ≤ 1024 = omega (arith, few x, last-le page (x .all) (length (x .all))) in
+      let nm : lastOf page (x .all) ≤ topNumber = omega (arith, few x, last-le page (x .all) (length (x .all))) in
       let sz = frame-size g page (lastOf page (x .all)) (bodyOf page (x .all)) pg nm (body-size x page) in
       rw (geo x, im) (go l (frameImage page (lastOf page (x .all)) (bodyOf page (x .all))) sz refl)
     where
       go : Loaded page f → (image : List ℕ) → length image ≡ 256 → image ≡ frameImage page (lastOf page (x .all)) (bodyOf page (x .all))
-          → Kept g v past (record { answer = an; state = withFrames s (withFrame s f page t) (s .note); memory = splice m (frameAt f) image; stored = nothing }) (record { durable = k; pending = w })
+          → Kept C g v past (record { answer = an; state = withFrames s (withFrame s f page t) (s .note); memory = splice m (frameAt f) image; stored = nothing }) (record { durable = k; pending = w })
       go l image sz im =
           record {
             ns = x .ns;
@@ -176,6 +233,7 @@ module _ {g : Geometry} {v m : List ℕ} {past : List StoredItem} {s : State} {k
                     (λ i b ne. frame-other (x .al .F) m (x .al .memory) f image (l .frame-low) (l .frame-high) sz (suc i) (omega arith) (omega arith))
                     (λ q ne. (refl, refl, refl)) (λ i b ne. l .absent i b) (λ a b. x .al .frames .clean (f - 1) (omega (arith, l .frame-low, l .frame-high)) (l .spare) a) (λ z. l .settled);
                 index = x .al .index;
+                displaced = x .al .displaced;
                 notes-is = x .al .notes-is;
                 note-ok = x .al .note-ok;
               },

@@ -30,37 +30,53 @@ use Rattle.history.proofs.Context.{Ctx}
 use Rattle.history.proofs.Calls.{inv-call, inv-crash}
 use Rattle.history.proofs.Events.{inv-restart, inv-crash-between, inv-damage}
 
-abbrev pub Tied : Geometry → Machine → AbstractLog → Type 0
-Tied g w b = Inv g (w .volume) (w .past) (w .power) b
+-- a history without damage
+abbrev pub isDamage : Event → Bool
+isDamage (restart m) = false
+isDamage (perform c) = false
+isDamage crash = false
+isDamage (crashIn c l) = false
+isDamage (damage at xs) = true
 
-pub context : (g : Geometry) (v m : List ℕ) (past : List StoredItem) (s : State) (b : AbstractLog) → Inv g v past (on m s) b → Ctx g v m past s (b .durable) (b .pending)
+abbrev pub undamaged : List Event → Bool
+undamaged [] = true
+undamaged (e ∷ es) = not (isDamage e) && undamaged es
+
+abbrev pub Undamaged : History → Type 0
+Undamaged h = undamaged (h .events) ≡ true
+
+abbrev pub Tied : Type 0 → Geometry → Machine → AbstractLog → Type 0
+Tied C g w b = Inv C g (w .volume) (w .past) (w .power) b
+
+pub context : {C : Type 0} (g : Geometry) (v m : List ℕ) (past : List StoredItem) (s : State) (b : AbstractLog) → Inv C g v past (on m s) b → Ctx C g v m past s (b .durable) (b .pending)
 context g v m past s b i = record { all = i .live .0; ns = i .ns; hs = i .holds; no = i .noted; ps = i .past-ok; al = i .live .1 }
 
 module _ (g : Geometry) where
   -- one event
-  one-step : (v : List ℕ) (past : List StoredItem) (x : Power) (b : AbstractLog) → Inv g v past x b → (e : Event) → allowed (record { volume = v; power = x; past = past }) e ≡ true
-      → Tied g (step (record { volume = v; power = x; past = past }) e) (stepLog (record { volume = v; power = x; past = past }) b e)
+  one-step : (C : Type 0) (v : List ℕ) (past : List StoredItem) (x : Power) (b : AbstractLog) → Inv C g v past x b → (e : Event) → (C → isDamage e ≡ false) → allowed (record { volume = v; power = x; past = past }) e ≡ true
+      → Tied C g (step (record { volume = v; power = x; past = past }) e) (stepLog (record { volume = v; power = x; past = past }) b e)
   unfolding step stepLog allowed
-  one-step v past x b i (restart m) t = inv-restart g v past x b (lent x m) i
-  one-step v past x b i crash t = inv-crash-between g v past x b i
-  one-step v past off b i (perform c) t = absurd (true-not-false t refl)
-  one-step v past (on m s) b i (perform c) t = inv-call (context g v m past s b i) c t
-  one-step v past off b i (crashIn c l) t = absurd (true-not-false t refl)
-  one-step v past (on m s) b i (crashIn c l) t =
+  one-step C v past x b i (restart m) nd t = inv-restart g v past x b (lent x m) i
+  one-step C v past x b i crash nd t = inv-crash-between g v past x b i
+  one-step C v past off b i (perform c) nd t = absurd (true-not-false t refl)
+  one-step C v past (on m s) b i (perform c) nd t = inv-call (context g v m past s b i) c t
+  one-step C v past off b i (crashIn c l) nd t = absurd (true-not-false t refl)
+  one-step C v past (on m s) b i (crashIn c l) nd t =
       inv-crash (context g v m past s b i) c l (and-left (tornFits (geometryOf v) (outcomeOf c v m s .stored) l) (payloadFits c) t)
-  one-step v past x b i (damage at xs) t =
+  one-step C v past x b i (damage at xs) nd t =
       let e = i .holds .vol .geo in
       let t₁ : (isImage g at && (eqb (length xs) 256 && (not (passesAt g (indexOf g v) at xs) || storedBefore at xs past))) ≡ true = rw e at t in
       let t₂ = and-right (isImage g at) (eqb (length xs) 256 && (not (passesAt g (indexOf g v) at xs) || storedBefore at xs past)) t₁ in
-      rw e (inv-damage g v past x b at xs (and-left (isImage g at) _ t₁) (eqb-true (length xs) 256 (and-left (eqb (length xs) 256) _ t₂))
+      rw e (inv-damage C g v past x b at xs (λ c. true-not-false refl (nd c)) (and-left (isImage g at) _ t₁) (eqb-true (length xs) 256 (and-left (eqb (length xs) 256) _ t₂))
       (⊎-elim (λ h. inl (not-true (passesAt g (indexOf g v) at xs) h)) inr (or-cases (not (passesAt g (indexOf g v) at xs)) (storedBefore at xs past) (and-right (eqb (length xs) 256) _ t₂))) i)
 
-  all-steps : (es : List Event) (w : Machine) (b : AbstractLog) → Tied g w b → allAllowed w es ≡ true → Tied g (run w es) (logAfter w b es)
+  all-steps : (C : Type 0) (es : List Event) (w : Machine) (b : AbstractLog) → Tied C g w b → (C → undamaged es ≡ true) → allAllowed w es ≡ true → Tied C g (run w es) (logAfter w b es)
   unfolding allAllowed run logAfter
-  all-steps [] w b i t = i
-  all-steps (e ∷ es) w b i t =
+  all-steps C [] w b i f t = i
+  all-steps C (e ∷ es) w b i f t =
       let r = both (allowed w e) (allAllowed (step w e) es) t in
-      all-steps es (step w e) (stepLog w b e) (one-step (w .volume) (w .past) (w .power) b i e (r .0)) (r .1)
+      all-steps C es (step w e) (stepLog w b e) (one-step C (w .volume) (w .past) (w .power) b i e (λ c. not-true (isDamage e) (and-left (not (isDamage e)) (undamaged es) (f c))) (r .0))
+      (λ c. and-right (not (isDamage e)) (undamaged es) (f c)) (r .1)
     where
       both : (p q : Bool) → cond p q false ≡ true → (p ≡ true) × (q ≡ true)
       both true q h = (refl, h)
@@ -80,7 +96,7 @@ module _ (h : Heading) (p b l n : ℕ) (ok : validCounts p b l n ≡ true) where
       let z : imageSealed g (item g (emptyVolume h p b l n) at) ≡ false = rw e (zero-image-fails g) in
       true-not-false (valid-sealed g q (item g (emptyVolume h p b l n) at) t) z
 
-  fresh-tied : Inv (geometryFor h p b l n) (emptyVolume h p b l n) [] off emptyLog
+  fresh-tied : {C : Type 0} → Inv C (geometryFor h p b l n) (emptyVolume h p b l n) [] off emptyLog
   unfolding storedBefore
   fresh-tied =
       record {
@@ -89,7 +105,6 @@ module _ (h : Heading) (p b l n : ℕ) (ok : validCounts p b l n ≡ true) where
           vol = record { geo = empty-geometry h p b l n ok; ok = empty-valid h p b l n ok };
           room = omega arith;
           fair = λ i h. absurd (omega arith);
-          log = λ i h. absurd (omega arith);
           tail = record {
             gap = λ j. rw (empty-item h p b l n g refl refl refl refl (recordAt 1) (omega arith)) (zero-fails 60 64 (omega arith));
             rest = λ i j z. rw (empty-item h p b l n g refl refl refl refl (recordAt i) (omega arith)) (zero-replicate 64);
@@ -98,13 +113,15 @@ module _ (h : Heading) (p b l n : ℕ) (ok : validCounts p b l n ≡ true) where
         };
         noted = record {
           few = omega arith;
-          each = λ i h. absurd (omega arith);
+          run = record { held = λ i a b. absurd (omega arith); oldest = λ i a b. absurd (omega arith); lost = λ i a. absurd (omega arith) };
+          notes = record { held = λ i a b. absurd (omega arith); oldest = λ i a b. absurd (omega arith); lost = λ i a. absurd (omega arith) };
           tail = record {
             gap = λ j. rw (empty-item h p b l n g refl refl refl refl (noteAt 1) (omega arith)) (zero-fails 12 16 (omega arith));
             rest = λ i j z. rw (empty-item h p b l n g refl refl refl refl (noteAt i) (omega arith)) (zero-replicate 16);
           };
           fit = λ i h. absurd (omega arith);
           backups = λ q lo hi z. absurd (z (ap (λ (k : Mark). k .slot) (mark-zero q [])));
+          copies = λ c q lo hi z. absurd (z (ap (λ (k : Mark). k .slot) (mark-zero q [])));
         };
         past-ok = λ at xs i e. absurd (none at xs e);
         live = tt;
@@ -134,10 +151,10 @@ module _ (h : History) (legal : Legal h) where
   mk : Made (h .heading) (h .found) (h .pages) (h .slots) (h .records) (h .notes)
   mk = made (h .heading) (h .found) (h .pages) (h .slots) (h .records) (h .notes) (legal .make)
 
-  start-tied : Tied (madeWith h) (fresh h) emptyLog
+  start-tied : Tied (Undamaged h) (madeWith h) (fresh h) emptyLog
   unfolding freshMachine
   start-tied = rw (mk .volume-is) (fresh-tied (h .heading) (h .pages) (h .slots) (h .records) (h .notes) (mk .counts))
 
-  pub tied : Tied (madeWith h) (reached h) (logOf h)
+  pub tied : Tied (Undamaged h) (madeWith h) (reached h) (logOf h)
   unfolding reached logOf
-  tied = all-steps (madeWith h) (h .events) (fresh h) emptyLog start-tied (legal .events)
+  tied = all-steps (madeWith h) (Undamaged h) (h .events) (fresh h) emptyLog start-tied (λ c. c) (legal .events)

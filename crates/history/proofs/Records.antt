@@ -10,6 +10,7 @@ use lib.Dec.{eqb}
 use borrow.Author.Tests.{eqb-true}
 use Rattle.laws.proofs.Tables.{byCases}
 use Rattle.model.specs.declared.geometry.Geometry.{Geometry}
+use Rattle.model.specs.Geometry.{topNumber}
 use Rattle.model.specs.Change.{kindOf, lengthOf, fits}
 use Rattle.model.specs.Item.{imageLsn, imageBody, validImage, encodeChange}
 use Rattle.model.specs.AbstractLog.{Logged}
@@ -32,7 +33,7 @@ AllFair P l = (i : ℕ) → i < length l → Fair P l i
 unfoldable pub recOf : List Logged → ℕ → List ℕ
 recOf l i = encodeChange (suc i) (lastAt (at l i .page) l i) (at l i .page) (at l i .change) (at l i .bytes)
 
-pub recOf-is : (P : ℕ) (l : List Logged) (i : ℕ) → P ≤ 64 → i < 1024 → Fair P l i
+pub recOf-is : (P : ℕ) (l : List Logged) (i : ℕ) → P ≤ 64 → i < topNumber → Fair P l i
     → RecordIs (recOf l i) (suc i) (lastAt (at l i .page) l i) (at l i .page) (at l i .change) (at l i .bytes)
 unfolding recOf
 recOf-is P l i p b f =

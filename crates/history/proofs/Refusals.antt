@@ -16,7 +16,7 @@ use Rattle.model.specs.Change.{fits}
 use Rattle.model.specs.Index.{entryOf, slotUsed}
 use Rattle.model.specs.Scan.{indexOf}
 use Rattle.model.specs.State.{frameCount, validMemory, held, blank, logFull, notesFull, notePending}
-use Rattle.model.specs.Refusals.{frameBlocked, pageDirty, notDurable, chainBroken, restartRows, beginRows, loadRows, changeRows, forceRows, writeRows, backupRows, noteRows, inspectRows}
+use Rattle.model.specs.Refusals.{frameBlocked, pageDirty, notDurable, chainBroken, chainBelow, foundBelow, restartRows, beginRows, loadRows, changeRows, forceRows, writeRows, backupRows, noteRows, inspectRows}
 use Rattle.model.specs.Calls.{StoredItem, Outcome, decided, refusalOf, beginOf, loadOf, changeCall, forceOf, writeOf, backupOf, noteCall, noteStored, restartOf, inspectOf, Call, begin, load, change, force, write, backup, note, rowsOf, outcomeOf}
 use Rattle.model.specs.AbstractLog.{Logged}
 use Rattle.model.specs.declared.geometry.Geometry.{Geometry}
@@ -72,24 +72,24 @@ ordinary ts a b c d e =
 usual : (ts : List Row) → Others 1 ts → Others 2 ts → Others 17 ts → Others 18 ts → Others 19 ts → Ordinary (firstOf ts)
 usual ts a b c d e = ordinary ts a b c d (none-other 19 (λ z. omega arith) ts e)
 
-module _ {g : Geometry} {v m : List ℕ} {past : List StoredItem} {s : State} {k w : List Logged} (x : Ctx g v m past s k w) where
+module _ {C : Type 0} {g : Geometry} {v m : List ℕ} {past : List StoredItem} {s : State} {k w : List Logged} (x : Ctx C g v m past s k w) where
   -- a call's own rows, after the rows 1 and 2
   ownRows : Call → List Row
   ownRows (begin page f fill) =
       (not (within (geometryOf v .pages) page), 3) ∷ (not (within (frameCount (length m)) f), 4) ∷ (not (blank s page), 9) ∷ (frameBlocked s f, 10) ∷ (eqb (s .pending) 16, 11)
-      ∷ (logFull (geometryOf v) s, 12) ∷ []
+      ∷ (logFull (geometryOf v) v s, 12) ∷ []
   ownRows (load page f) =
       (not (within (geometryOf v .pages) page), 3) ∷ (not (within (frameCount (length m)) f), 4) ∷ (blank s page, 7) ∷ (held s page, 9) ∷ (frameBlocked s f, 10)
-      ∷ (chainBroken (geometryOf v) v s page, 19) ∷ []
+      ∷ (chainBroken (geometryOf v) v s page, 19) ∷ (chainBelow (geometryOf v) v s page, 23) ∷ []
   ownRows (change page c payload) =
-      (not (within (geometryOf v .pages) page), 3) ∷ (not (fits c), 6) ∷ (not (held s page), 8) ∷ (eqb (s .pending) 16, 11) ∷ (logFull (geometryOf v) s, 12) ∷ []
+      (not (within (geometryOf v .pages) page), 3) ∷ (not (fits c), 6) ∷ (not (held s page), 8) ∷ (eqb (s .pending) 16, 11) ∷ (logFull (geometryOf v) v s, 12) ∷ []
   ownRows force = []
   ownRows (write page) =
-      (not (within (geometryOf v .pages) page), 3) ∷ (not (held s page), 8) ∷ (pageDirty s page && notePending (s .note), 13) ∷ (pageDirty s page && notesFull (geometryOf v) s, 14)
+      (not (within (geometryOf v .pages) page), 3) ∷ (not (held s page), 8) ∷ (pageDirty s page && notePending (s .note), 13) ∷ (pageDirty s page && notesFull (geometryOf v) v s, 14)
       ∷ (pageDirty s page && notDurable m s page, 15) ∷ []
   ownRows (backup page b) =
       (not (within (geometryOf v .pages) page), 3) ∷ (not (within (geometryOf v .slots) b), 5) ∷ (not (held s page), 8) ∷ (notePending (s .note), 13)
-      ∷ (notesFull (geometryOf v) s, 14) ∷ (notDurable m s page, 15) ∷ (slotUsed b (s .index), 16) ∷ []
+      ∷ (notesFull (geometryOf v) v s, 14) ∷ (notDurable m s page, 15) ∷ (slotUsed b (s .index), 16) ∷ []
   ownRows note = []
 
   -- the rows 1 and 2 do not hold
@@ -122,7 +122,7 @@ module _ {g : Geometry} {v m : List ℕ} {past : List StoredItem} {s : State} {k
   unfolding ownRows
   load-durable p f nz e =
       let u = until 7 ((not (within (geometryOf v .pages) p), 3) ∷ (not (within (frameCount (length m)) f), 4) ∷ []) (blank s p)
-      ((held s p, 9) ∷ (frameBlocked s f, 10) ∷ (chainBroken (geometryOf v) v s p, 19) ∷ []) (omega arith) (omega arith) (λ z. omega arith)
+      ((held s p, 9) ∷ (frameBlocked s f, 10) ∷ (chainBroken (geometryOf v) v s p, 19) ∷ (chainBelow (geometryOf v) v s p, 23) ∷ []) (omega arith) (omega arith) (λ z. omega arith)
       (sym (rows-are (load p f)) ∙ (sym (call-refusal (load p f) v m s) ∙ e)) in
       let r : (1 ≤ p) × (p ≤ g .pages) = rw (geo x) at (in-range (geometryOf v .pages) p (u .0 .0)) in
       let z : lastOf p (x .all) ≡ 0 = sym (last-entry x p (r .0) (r .1)) ∙ eqb-true (entryOf (s .index) p .last) 0 (u .1) in
@@ -130,21 +130,21 @@ module _ {g : Geometry} {v m : List ℕ} {past : List StoredItem} {s : State} {k
 
 -- ---- Restart and Inspect, on any volume that holds a list of changes and notes
 
-module _ (g : Geometry) (v : List ℕ) (k : List Logged) (h : Holds g v k) (ns : List Note) (o : Noted g v k ns) where
+module _ {C : Type 0} (g : Geometry) (v : List ℕ) (k : List Logged) (h : Holds g v k) (ns : List Note) (o : Noted C g v k ns) where
   pub restart-right : (m : List ℕ) → validMemory (length m) ≡ true → refusalOf (restartOf v m .answer) ≡ 0
   unfolding restartRows
-  restart-right m t = restart-refusal v m ∙ rw (h .vol .geo, h .vol .ok, t, valid-log g v k h, valid-notes g v k h ns o)
+  restart-right m t = restart-refusal v m ∙ rw (h .vol .geo, h .vol .ok, t, valid-log g v k h ns o, valid-notes g v k h ns o)
 
   pub restart-wrong : (m : List ℕ) → validMemory (length m) ≡ false → refusalOf (restartOf v m .answer) ≡ 2
   unfolding restartRows
   restart-wrong m t = restart-refusal v m ∙ rw (h .vol .ok, t)
 
   shortRows : ℕ → List Row
-  shortRows p = (not (within (g .pages) p), 3) ∷ (eqb (entryOf (indexOf g v) p .durable) 0, 7) ∷ []
+  shortRows p = (not (within (g .pages) p), 3) ∷ (eqb (entryOf (indexOf g v) p .durable) 0, 7) ∷ (foundBelow g v p, 23) ∷ []
 
   inspect-rows : (p size : ℕ) → size ≡ 256 → firstOf (inspectRows v p size) ≡ firstOf (shortRows p)
   unfolding inspectRows shortRows
-  inspect-rows p size e = rw (h .vol .geo, h .vol .ok, eq-eqb size 256 e, valid-log g v k h, valid-notes g v k h ns o)
+  inspect-rows p size e = rw (h .vol .geo, h .vol .ok, eq-eqb size 256 e, valid-log g v k h ns o, valid-notes g v k h ns o)
 
   pub inspect-right : (p : ℕ) (buffer : List ℕ) → length buffer ≡ 256 → Ordinary (refusalOf (inspectOf v p buffer .answer))
   unfolding shortRows
@@ -160,7 +160,7 @@ module _ (g : Geometry) (v : List ℕ) (k : List Logged) (h : Holds g v k) (ns :
   unfolding shortRows
   inspect-durable p buffer nz e = elim (ℕ-discrete (length buffer) 256) [
     | yes y ↦
-        let u = until 7 ((not (within (g .pages) p), 3) ∷ []) (eqb (entryOf (indexOf g v) p .durable) 0) [] (omega arith) tt (λ z. omega arith)
+        let u = until 7 ((not (within (g .pages) p), 3) ∷ []) (eqb (entryOf (indexOf g v) p .durable) 0) ((foundBelow g v p, 23) ∷ []) (omega arith) (omega arith) (λ z. omega arith)
         (sym (inspect-rows p (length buffer) y) ∙ (sym (inspect-refusal v p buffer) ∙ e)) in
         let r = in-range (g .pages) p (u .0 .0) in
         nz (r .0) (r .1) (eqb-true (entryOf (indexOf g v) p .durable) 0 (u .1))

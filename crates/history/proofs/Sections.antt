@@ -8,12 +8,12 @@ use native.Mathlib.Omega.{arith}
 use lib.ListN.{length, take, drop}
 use lib.Seq.{take-add, drop-drop}
 use lib.Dec.{eqb}
-use Rattle.laws.proofs.Tables.{and-left, and-right}
+use Rattle.laws.proofs.Tables.{byCases, and-left, and-right}
 use Rattle.laws.proofs.Checksums.{run-stops, run-goes}
 use Rattle.laws.proofs.Places.{total, In, valid-facts, item-store-same, item-store-other, geometry-store, valid-store}
 use Rattle.model.specs.Bytes.{part, allZero}
 use Rattle.model.specs.Checksum.{sealed, sealedRun}
-use Rattle.model.specs.Geometry.{Place, width, start, item, store, geometryOf, validVolume}
+use Rattle.model.specs.Geometry.{Place, ring, noteRing, most, mostNotes, topNumber, width, start, item, store, geometryOf, validVolume}
 use Rattle.model.specs.Scan.{restZero}
 use Rattle.model.specs.declared.geometry.Geometry.{Geometry}
 
@@ -31,6 +31,20 @@ pub record Sized (g : Geometry) : Type 0 where
   pub l-low : 1 ≤ g .records
   pub l-high : g .records ≤ 1024
   pub n-high : g .notes ≤ 1024
+
+-- the last numbers, where there is a ring and where there is none
+module _ (g : Geometry) (z : Sized g) where
+  pub most-high : most g ≤ topNumber
+  most-high = byCases (ring g) (λ t. rw t (omega arith)) (λ t. rw t (omega (arith, z .l-high)))
+
+  pub most-plain : ring g ≡ false → most g ≡ g .records
+  most-plain t = rw t
+
+  pub notes-high : mostNotes g ≤ topNumber
+  notes-high = byCases (noteRing g) (λ t. rw t (omega arith)) (λ t. rw t (omega (arith, z .n-high)))
+
+  pub notes-plain : noteRing g ≡ false → mostNotes g ≡ g .notes
+  notes-plain t = rw t
 
 module _ (g : Geometry) (v : List ℕ) (x : Volume g v) where
   pub volume-sized : Sized g

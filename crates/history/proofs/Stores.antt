@@ -1,35 +1,42 @@
 -- What each store, whole or torn, leaves of the volume's part of the invariant.
 use mathlib.Core.Path.{_≡_, refl, sym, ap, _∙_}
-use mathlib.Core.Logic.{_≢_, _⊎_, inl, inr}
+use mathlib.Core.Logic.{_≢_, _⊎_, inl, inr, ⊎-elim}
 use mathlib.Core.Bool.{true, false}
 use mathlib.Core.List.{List, [], _∷_, _++_}
-use Prim.Native.Nat.{ℕ, suc, _≤_, _<_}
+use Prim.Native.Nat.{ℕ, suc, _+_, _≤_, _<_}
 use native.Mathlib.Omega.{arith}
 use native.Mathlib.Decide.{decLt, ℕ-discrete}
 use lib.ListN.{length, List·getD-append}
 use Rattle.laws.proofs.Tables.{byCases}
 use Rattle.laws.proofs.Places.{In, item-length}
-use Rattle.laws.proofs.Zeros.{zero-is, zero-fails}
+use Rattle.laws.proofs.Ring.{slot-low, slot-in, slot-again, slot-apart, Run, run-keep, run-new, run-torn}
 use Rattle.laws.proofs.Notes.{note-length}
 use Rattle.model.specs.Bytes.{allZero}
 use Rattle.model.specs.Checksum.{sealed}
-use Rattle.model.specs.Geometry.{Place, pageAt, slotAt, recordAt, noteAt, start, item, store}
+use Rattle.model.specs.Geometry.{Place, pageAt, slotAt, recordAt, noteAt, start, item, store, ring, noteRing, most, mostNotes, slotOf, logSlot, noteSlot}
 use Rattle.model.specs.Item.{noteBytes, isWritten}
 use Rattle.model.specs.AbstractLog.{Logged}
 use Rattle.model.specs.declared.geometry.Geometry.{Geometry}
 use Rattle.model.specs.declared.item.Note.{Note}
 use Rattle.model.specs.declared.state.PendingNote.{PendingNote}
 use Rattle.model.specs.declared.state.PendingNote.the-variants.{Absent, Present}
-use Rattle.history.proofs.Logs.{at, lenA}
-use Rattle.history.proofs.Entries.{note, noNote, markAt, mark-hit, mark-miss, mark-append, lenN, noteN, NoteOk, NotesOk, mark-ok}
+use Rattle.history.proofs.Logs.{noLogged, at, lenA}
+use Rattle.history.proofs.Entries.{note, noNote, markAt, mark-hit, mark-miss, mark-append, lenN, noteN, NoteOk, NotesOk, mark-ok, Later}
 use Rattle.history.proofs.Records.{Fair, fair-more, recOf, recOf-is, recOf-append, Faithful, valid-append}
-use Rattle.history.proofs.Sections.{Volume, Sized, volume-sized, volume-size, volume-store, store-same, store-other, Tail}
-use Rattle.history.proofs.Disk.{Holds, Noted}
-use Rattle.history.proofs.Inv.{PendingOk, note-append}
+use Rattle.history.proofs.Sections.{Volume, Sized, volume-sized, volume-size, volume-store, store-same, store-other, most-high, most-plain, notes-plain, Tail}
+use Rattle.history.proofs.Disk.{Holds, Noted, Copy, Stands, Torn, Spare, NoteStands, NoteTorn, LogRun, NoteRun, fails-zero}
+use Rattle.history.proofs.Inv.{Room, PendingOk, note-append}
 
--- a zero item fails its check
-fails-zero : (c n : ℕ) (xs : List ℕ) → length xs ≡ n → c ≤ n → allZero xs ≡ true → sealed c xs ≡ false
-fails-zero c n xs e h z = rw (zero-is xs z) (zero-fails c (length xs) (omega arith))
+-- a later note stays one as the list grows
+pub later-more : (ns : List Note) (x : Note) (i : ℕ) → i < length ns → Later ns i → Later (ns ++ (x ∷ [])) i
+later-more ns x i b t =
+    record {
+      place = t .place;
+      above = t .above;
+      below = rw (lenN ns x) (omega (arith, t .below));
+      page-is = rw (List·getD-append ns (x ∷ []) noNote (t .place) (t .below), List·getD-append ns (x ∷ []) noNote i b) (t .page-is);
+      kind-is = rw (List·getD-append ns (x ∷ []) noNote (t .place) (t .below), List·getD-append ns (x ∷ []) noNote i b) (t .kind-is);
+    }
 
 -- two volumes that read alike where it matters
 module _ (g : Geometry) (v v′ : List ℕ) where
@@ -37,33 +44,47 @@ module _ (g : Geometry) (v v′ : List ℕ) where
   tail-keep place c n N e t =
       record { gap = λ b. rw (e (suc n) (omega arith) b) (t .gap b); rest = λ i a b. rw (e i (omega arith) b) (t .rest i a b) }
 
+  -- the two rings
+  log-keep : (k : List Logged) (ns ns′ : List Note) → 1 ≤ g .records → ((i : ℕ) → 1 ≤ i → i ≤ g .records → item g v′ (recordAt i) ≡ item g v (recordAt i))
+      → ((i : ℕ) → i < length k → Spare k ns i → Spare k ns′ i) → LogRun g v k ns → LogRun g v′ k ns′
+  log-keep k ns ns′ low e up r =
+      run-keep (ring g) (g .records) (length k) (Stands g v k) (Torn g v) (Spare k ns) (Stands g v′ k) (Torn g v′) (Spare k ns′) up r
+      (λ i a b w. same i ∙ w) (λ i a b t. rw (same i) t)
+    where
+      same : (i : ℕ) → item g v′ (logSlot g (suc i)) ≡ item g v (logSlot g (suc i))
+      same i = let q = slot-in (g .records) i low in e (slotOf (g .records) (suc i)) (q .0) (q .1)
+
+  notes-keep : (ns : List Note) → ((i : ℕ) → 1 ≤ i → i ≤ g .notes → item g v′ (noteAt i) ≡ item g v (noteAt i)) → NoteRun g v ns → NoteRun g v′ ns
+  notes-keep ns e r =
+      run-keep (noteRing g) (g .notes) (length ns) (NoteStands g v ns) (NoteTorn g v) (Later ns) (NoteStands g v′ ns) (NoteTorn g v′) (Later ns) (λ i b s. s) r
+      (λ i a b w. same i (omega arith) ∙ w) (λ i a b t. rw (same i (omega arith)) t)
+    where
+      same : (i : ℕ) → 1 ≤ g .notes → item g v′ (noteSlot g (suc i)) ≡ item g v (noteSlot g (suc i))
+      same i low = let q = slot-in (g .notes) i low in e (slotOf (g .notes) (suc i)) (q .0) (q .1)
+
   module _ (k : List Logged) where
     holds-keep : Holds g v k → Volume g v′ → ((i : ℕ) → 1 ≤ i → i ≤ g .records → item g v′ (recordAt i) ≡ item g v (recordAt i))
         → ((p : ℕ) → 1 ≤ p → p ≤ g .pages → Faithful g p k (item g v′ (pageAt p))) → Holds g v′ k
     holds-keep h vol e f =
-        record {
-          vol = vol;
-          room = h .room;
-          fair = h .fair;
-          log = λ i b. e (suc i) (omega arith) (omega (arith, h .room)) ∙ h .log i b;
-          tail = tail-keep recordAt 60 (length k) (g .records) e (h .tail);
-          images = f;
-        }
+        record { vol = vol; room = h .room; fair = h .fair; tail = tail-keep recordAt 60 (length k) (g .records) e (h .tail); images = f }
 
-    noted-keep : (k′ : List Logged) (ns : List Note) → Noted g v k ns → ((i : ℕ) → 1 ≤ i → i ≤ g .notes → item g v′ (noteAt i) ≡ item g v (noteAt i))
-        → NotesOk (g .pages) (g .slots) k′ ns
-        → ((p : ℕ) → 1 ≤ p → p ≤ g .pages → markAt p ns (length ns) .slot ≢ 0 → Faithful g p k′ (item g v′ (slotAt (markAt p ns (length ns) .slot))))
-        → Noted g v′ k′ ns
-    noted-keep k′ ns o e f b =
+    noted-keep : {C : Type 0} (ns : List Note) → 1 ≤ g .records → Noted C g v k ns → ((i : ℕ) → 1 ≤ i → i ≤ g .records → item g v′ (recordAt i) ≡ item g v (recordAt i))
+        → ((i : ℕ) → 1 ≤ i → i ≤ g .notes → item g v′ (noteAt i) ≡ item g v (noteAt i))
+        → ((p : ℕ) → 1 ≤ p → p ≤ g .pages → markAt p ns (length ns) .slot ≢ 0 → Faithful g p k (item g v′ (slotAt (markAt p ns (length ns) .slot))))
+        → (C → (p : ℕ) → 1 ≤ p → p ≤ g .pages → markAt p ns (length ns) .slot ≢ 0 → Copy g v′ p (markAt p ns (length ns) .slot) (markAt p ns (length ns) .backup))
+        → Noted C g v′ k ns
+    noted-keep ns low o r e b cs =
         record {
           few = o .few;
-          each = λ i c. e (suc i) (omega arith) (omega (arith, o .few)) ∙ o .each i c;
+          run = log-keep k ns ns low r (λ i c s. s) (o .run);
+          notes = notes-keep ns e (o .notes);
           tail = tail-keep noteAt 12 (length ns) (g .notes) e (o .tail);
-          fit = f;
+          fit = o .fit;
           backups = b;
+          copies = cs;
         }
 
-module _ (g : Geometry) (v : List ℕ) (k : List Logged) (h : Holds g v k) (ns : List Note) (o : Noted g v k ns) where
+module _ {C : Type 0} (g : Geometry) (v : List ℕ) (k : List Logged) (h : Holds g v k) (ns : List Note) (o : Noted C g v k ns) where
   sz : Sized g
   sz = volume-sized g v (h .vol)
 
@@ -81,77 +102,132 @@ module _ (g : Geometry) (v : List ℕ) (k : List Logged) (h : Holds g v k) (ns :
   backups-other v′ k′ up e p lo hi b =
       rw (e (slot p) (omega arith) (slot-high p)) (up p (item g v (slotAt (slot p))) (o .backups p lo hi b))
 
+  copies-other : (v′ : List ℕ) → ((i : ℕ) → 1 ≤ i → i ≤ g .slots → item g v′ (slotAt i) ≡ item g v (slotAt i))
+      → C → (p : ℕ) → 1 ≤ p → p ≤ g .pages → markAt p ns (length ns) .slot ≢ 0 → Copy g v′ p (markAt p ns (length ns) .slot) (markAt p ns (length ns) .backup)
+  copies-other v′ e c p lo hi b = rw (e (slot p) (omega arith) (slot-high p)) (o .copies c p lo hi b)
+
   -- the next record's place
-  module _ (xs : List ℕ) (b : length k < g .records) (six : length xs ≡ 64) where
-    here : In g (recordAt (suc (length k)))
-    here = omega arith
+  module _ (xs : List ℕ) (six : length xs ≡ 64) where
+    abbrev next : Place
+    next = logSlot g (suc (length k))
 
-    rec-other : (q : Place) → In g q → start g q ≢ start g (recordAt (suc (length k))) → item g (store g v (recordAt (suc (length k))) xs) q ≡ item g v q
-    rec-other q i ne = store-other g v (h .vol) (recordAt (suc (length k))) xs here six q i ne
+    abbrev after : List ℕ
+    after = store g v (logSlot g (suc (length k))) xs
 
-    rec-notes : (i : ℕ) → 1 ≤ i → i ≤ g .notes → item g (store g v (recordAt (suc (length k))) xs) (noteAt i) ≡ item g v (noteAt i)
-    rec-notes i lo hi = rec-other (noteAt i) (lo, hi) (omega arith)
+    here : In g (logSlot g (suc (length k)))
+    here = slot-in (g .records) (length k) (sz .l-low)
 
-    pub rec-slots : (i : ℕ) → 1 ≤ i → i ≤ g .slots → item g (store g v (recordAt (suc (length k))) xs) (slotAt i) ≡ item g v (slotAt i)
-    rec-slots i lo hi = rec-other (slotAt i) (lo, hi) (omega arith)
+    rec-other : (q : Place) → In g q → start g q ≢ start g (logSlot g (suc (length k))) → item g after q ≡ item g v q
+    rec-other q i ne = store-other g v (h .vol) next xs here six q i ne
 
-    rec-pages : (i : ℕ) → 1 ≤ i → i ≤ g .pages → item g (store g v (recordAt (suc (length k))) xs) (pageAt i) ≡ item g v (pageAt i)
-    rec-pages i lo hi = rec-other (pageAt i) (lo, hi) (omega arith)
+    rec-same : item g after (logSlot g (suc (length k))) ≡ xs
+    rec-same = store-same g v (h .vol) next xs here six
+
+    rec-notes : (i : ℕ) → 1 ≤ i → i ≤ g .notes → item g after (noteAt i) ≡ item g v (noteAt i)
+    rec-notes i lo hi = rec-other (noteAt i) (lo, hi) (omega (arith, here .0, here .1))
+
+    pub rec-slots : (i : ℕ) → 1 ≤ i → i ≤ g .slots → item g after (slotAt i) ≡ item g v (slotAt i)
+    rec-slots i lo hi = rec-other (slotAt i) (lo, hi) (omega (arith, here .0, here .1))
+
+    rec-pages : (i : ℕ) → 1 ≤ i → i ≤ g .pages → item g after (pageAt i) ≡ item g v (pageAt i)
+    rec-pages i lo hi = rec-other (pageAt i) (lo, hi) (omega (arith, here .0, here .1))
+
+    rec-records : (i : ℕ) → 1 ≤ i → i ≤ g .records → i ≢ slotOf (g .records) (suc (length k)) → item g after (recordAt i) ≡ item g v (recordAt i)
+    rec-records i lo hi ne = rec-other (recordAt i) (lo, hi) (λ z. ne (omega (arith, here .0)))
+
+    -- the other places of the ring
+    rec-held : (i : ℕ) → i < length k → length k < i + g .records → item g after (logSlot g (suc i)) ≡ item g v (logSlot g (suc i))
+    rec-held i a b =
+        let q = slot-in (g .records) i (sz .l-low) in
+        rec-records (slotOf (g .records) (suc i)) (q .0) (q .1) (slot-apart (g .records) i (length k) a b)
+
+    rest-stays : (i : ℕ) → suc (length k) < i → i ≤ g .records → item g after (recordAt i) ≡ item g v (recordAt i)
+    rest-stays i a z = rec-records i (omega arith) z (λ e. omega (arith, slot-low (g .records) (length k) (omega arith)))
 
     -- torn
-    pub torn-holds : sealed 60 xs ≡ false → Holds g (store g v (recordAt (suc (length k))) xs) k
+    pub torn-holds : sealed 60 xs ≡ false → Holds g (store g v (logSlot g (suc (length k))) xs) k
     torn-holds t =
         record {
-          vol = volume-store g v (h .vol) (recordAt (suc (length k))) xs here six;
+          vol = volume-store g v (h .vol) next xs here six;
           room = h .room;
           fair = h .fair;
-          log = λ i a. rec-other (recordAt (suc i)) (omega arith) (omega arith) ∙ h .log i a;
           tail = record {
-            gap = λ a. rw (store-same g v (h .vol) (recordAt (suc (length k))) xs here six) t;
-            rest = λ i a z. rw (rec-other (recordAt i) (omega arith) (omega arith)) (h .tail .rest i a z);
+            gap = λ a. let q : item g after (recordAt (suc (length k))) ≡ xs = ap (λ (n : ℕ). item g after (recordAt n)) (sym (slot-low (g .records) (length k) a)) ∙ rec-same in rw q t;
+            rest = λ i a z. rw (rest-stays i a z) (h .tail .rest i a z);
           };
           images = λ p lo hi. rw (rec-pages p lo hi) (h .images p lo hi);
         }
 
-    pub torn-noted : Noted g (store g v (recordAt (suc (length k))) xs) k ns
-    torn-noted = noted-keep g v (store g v (recordAt (suc (length k))) xs) k k ns o rec-notes (o .fit) (backups-other (store g v (recordAt (suc (length k))) xs) k (λ p y f. f) rec-slots)
+    pub torn-noted : sealed 60 xs ≡ false → length k < most g → ((i : ℕ) → i < length k → length k ≡ i + g .records → Spare k ns i)
+        → Noted C g (store g v (logSlot g (suc (length k))) xs) k ns
+    torn-noted t b spare =
+        record {
+          few = o .few;
+          run = run-torn (ring g) (g .records) (length k) (Stands g v k) (Torn g v) (Spare k ns) (Stands g after k) (Torn g after) (Spare k ns) (λ i c s. s) (o .run)
+              (λ i a c w. rec-held i a c ∙ w) (λ i a e. (in-ring i e, again i e)) spare;
+          notes = notes-keep g v after ns rec-notes (o .notes);
+          tail = tail-keep g v after noteAt 12 (length ns) (g .notes) rec-notes (o .tail);
+          fit = o .fit;
+          backups = backups-other after k (λ p y f. f) rec-slots;
+          copies = copies-other after rec-slots;
+        }
+      where
+        in-ring : (i : ℕ) → length k ≡ i + g .records → ring g ≡ true
+        in-ring i e = byCases (ring g) (λ r. r) (λ r. absurd (omega (arith, most-plain g sz r)))
+
+        again : (i : ℕ) → length k ≡ i + g .records → sealed 60 (item g after (logSlot g (suc i))) ≡ false
+        again i e =
+            let q : slotOf (g .records) (suc i) ≡ slotOf (g .records) (suc (length k)) = sym (slot-again (g .records) i) ∙ ap (λ (n : ℕ). slotOf (g .records) (suc n)) (sym e) in
+            ap (λ (n : ℕ). sealed 60 (item g after (recordAt n))) q ∙ (ap (sealed 60) rec-same ∙ t)
 
   -- the next record, whole
-  module _ (c : Logged) (b : length k < g .records) (f : Fair (g .pages) (k ++ (c ∷ [])) (length k)) where
+  module _ (c : Logged) (b : length k < most g) (f : Fair (g .pages) (k ++ (c ∷ [])) (length k)) where
     xs : List ℕ
     xs = recOf (k ++ (c ∷ [])) (length k)
 
     pub record-size : length (recOf (k ++ (c ∷ [])) (length k)) ≡ 64
-    record-size = recOf-is (g .pages) (k ++ (c ∷ [])) (length k) (sz .p-high) (omega (arith, sz .l-high)) f .size
+    record-size = recOf-is (g .pages) (k ++ (c ∷ [])) (length k) (sz .p-high) (omega (arith, most-high g sz)) f .size
 
-    pub force-holds : Holds g (store g v (recordAt (suc (length k))) (recOf (k ++ (c ∷ [])) (length k))) (k ++ (c ∷ []))
+    abbrev after′ : List ℕ
+    after′ = store g v (logSlot g (suc (length k))) (recOf (k ++ (c ∷ [])) (length k))
+
+    pub force-holds : Holds g (store g v (logSlot g (suc (length k))) (recOf (k ++ (c ∷ [])) (length k))) (k ++ (c ∷ []))
     unfolding xs
     force-holds =
         record {
-          vol = volume-store g v (h .vol) (recordAt (suc (length k))) xs (omega arith) record-size;
+          vol = volume-store g v (h .vol) (logSlot g (suc (length k))) xs (here xs record-size) record-size;
           room = rw (lenA k c) b;
           fair = fair-more (g .pages) k c (h .fair) f;
-          log = λ i a. elim (decLt i (length k)) [
-            | yes y ↦ rec-other xs b record-size (recordAt (suc i)) (omega arith) (omega arith) ∙ (h .log i y ∙ sym (recOf-append k (c ∷ []) i y))
-            | no n ↦ let q : i ≡ length k = omega (arith, lenA k c) in rw q (store-same g v (h .vol) (recordAt (suc (length k))) xs (omega arith) record-size)
-          ];
           tail = record {
             gap = λ a.
                 let a′ : suc (length k) < g .records = rw (lenA k c) at a in
-                rw (lenA k c, rec-other xs b record-size (recordAt (suc (suc (length k)))) (omega arith) (omega arith))
+                rw (lenA k c, rest-stays xs record-size (suc (suc (length k))) (omega arith) a′)
                 (fails-zero 60 64 (item g v (recordAt (suc (suc (length k))))) (item-length g v (volume-size g v (h .vol)) (recordAt (suc (suc (length k)))) (omega arith)) (omega arith)
                 (h .tail .rest (suc (suc (length k))) (omega arith) a′));
-            rest = λ i a z. rw (rec-other xs b record-size (recordAt i) (omega arith) (omega (arith, lenA k c))) (h .tail .rest i (omega (arith, lenA k c)) z);
+            rest = λ i a z. rw (rest-stays xs record-size i (omega (arith, lenA k c)) z) (h .tail .rest i (omega (arith, lenA k c)) z);
           };
-          images = λ p lo hi. rw (rec-pages xs b record-size p lo hi) (valid-append g p k (c ∷ []) (item g v (pageAt p)) (h .images p lo hi));
+          images = λ p lo hi. rw (rec-pages xs record-size p lo hi) (valid-append g p k (c ∷ []) (item g v (pageAt p)) (h .images p lo hi));
         }
 
-    pub force-noted : Noted g (store g v (recordAt (suc (length k))) (recOf (k ++ (c ∷ [])) (length k))) (k ++ (c ∷ [])) ns
+    spare-longer : (i : ℕ) → i < length k → Spare k ns i → Spare (k ++ (c ∷ [])) ns i
+    spare-longer i a s = rw (List·getD-append k (c ∷ []) noLogged i a) s
+
+    pub force-noted : ((i : ℕ) → i < length k → length k ≡ i + g .records → Spare k ns i)
+        → Noted C g (store g v (logSlot g (suc (length k))) (recOf (k ++ (c ∷ [])) (length k))) (k ++ (c ∷ [])) ns
     unfolding xs
-    force-noted =
-        noted-keep g v (store g v (recordAt (suc (length k))) xs) k (k ++ (c ∷ [])) ns o (rec-notes xs b record-size)
-        (λ i z. note-append (g .pages) (g .slots) k (c ∷ []) ns i (note ns i) (o .fit i z))
-        (backups-other (store g v (recordAt (suc (length k))) xs) (k ++ (c ∷ [])) (λ p y. valid-append g p k (c ∷ []) y) (rec-slots xs b record-size))
+    force-noted spare =
+        record {
+          few = o .few;
+          run = rw (lenA k c) (run-new (ring g) (g .records) (length k) (Stands g v k) (Torn g v) (Spare k ns)
+              (Stands g after′ (k ++ (c ∷ []))) (Torn g after′) (Spare (k ++ (c ∷ [])) ns) spare-longer (o .run)
+              (λ i a d w. rec-held xs record-size i a d ∙ (w ∙ sym (recOf-append k (c ∷ []) i a))) (rec-same xs record-size)
+              (λ i a e. let q : i < length k = omega (arith, sz .l-low) in spare-longer i q (spare i q e)));
+          notes = notes-keep g v after′ ns (rec-notes xs record-size) (o .notes);
+          tail = tail-keep g v after′ noteAt 12 (length ns) (g .notes) (rec-notes xs record-size) (o .tail);
+          fit = λ i z. note-append (g .pages) (g .slots) k (c ∷ []) ns i (note ns i) (o .fit i z);
+          backups = backups-other after′ (k ++ (c ∷ [])) (λ p y. valid-append g p k (c ∷ []) y) (rec-slots xs record-size);
+          copies = copies-other after′ (rec-slots xs record-size);
+        }
 
   -- a page's image: whole, torn or damaged
   module _ (i : ℕ) (xs : List ℕ) (lo : 1 ≤ i) (hi : i ≤ g .pages) (five : length xs ≡ 256) (f : Faithful g i k xs) where
@@ -170,10 +246,10 @@ module _ (g : Geometry) (v : List ℕ) (k : List Logged) (h : Holds g v k) (ns :
         go p a b (yes e) = rw (e, store-same g v (h .vol) (pageAt i) xs (lo, hi) five) f
         go p a b (no e) = rw (page-other (pageAt p) (a, b) (omega arith)) (h .images p a b)
 
-    pub page-noted : Noted g (store g v (pageAt i) xs) k ns
+    pub page-noted : Noted C g (store g v (pageAt i) xs) k ns
     page-noted =
-        noted-keep g v (store g v (pageAt i) xs) k k ns o (λ j a b. page-other (noteAt j) (a, b) (omega arith)) (o .fit)
-        (backups-other (store g v (pageAt i) xs) k (λ p y z. z) page-slots)
+        noted-keep g v (store g v (pageAt i) xs) k ns (sz .l-low) o (λ j a b. page-other (recordAt j) (a, b) (omega arith)) (λ j a b. page-other (noteAt j) (a, b) (omega arith))
+        (backups-other (store g v (pageAt i) xs) k (λ p y z. z) page-slots) (copies-other (store g v (pageAt i) xs) page-slots)
 
   -- a slot's image: whole, torn or damaged
   module _ (i : ℕ) (xs : List ℕ) (lo : 1 ≤ i) (hi : i ≤ g .slots) (five : length xs ≡ 256) where
@@ -188,80 +264,132 @@ module _ (g : Geometry) (v : List ℕ) (k : List Logged) (h : Holds g v k) (ns :
         holds-keep g v (store g v (slotAt i) xs) k h (volume-store g v (h .vol) (slotAt i) xs (lo, hi) five)
         (λ j a b. slot-other (recordAt j) (a, b) (omega arith)) (λ p a b. rw (slot-other (pageAt p) (a, b) (omega arith)) (h .images p a b))
 
-    pub slot-noted : ((p : ℕ) → 1 ≤ p → p ≤ g .pages → markAt p ns (length ns) .slot ≡ i → Faithful g p k xs) → Noted g (store g v (slotAt i) xs) k ns
-    slot-noted f =
-        noted-keep g v (store g v (slotAt i) xs) k k ns o (λ j a b. slot-other (noteAt j) (a, b) (omega arith)) (o .fit)
+    pub slot-noted : ((p : ℕ) → 1 ≤ p → p ≤ g .pages → markAt p ns (length ns) .slot ≡ i → Faithful g p k xs)
+        → (C → (p : ℕ) → 1 ≤ p → p ≤ g .pages → markAt p ns (length ns) .slot ≢ i) → Noted C g (store g v (slotAt i) xs) k ns
+    slot-noted f none =
+        noted-keep g v (store g v (slotAt i) xs) k ns (sz .l-low) o (λ j a b. slot-other (recordAt j) (a, b) (omega arith)) (λ j a b. slot-other (noteAt j) (a, b) (omega arith))
         (λ p a b z. go p a b z (ℕ-discrete (slot p) i))
+        (λ c p a b z. rw (slot-other (slotAt (slot p)) (omega (arith, slot-high p)) (λ q. none c p a b (omega arith))) (o .copies c p a b z))
       where
         go : (p : ℕ) → 1 ≤ p → p ≤ g .pages → slot p ≢ 0 → Dec (slot p ≡ i) → Faithful g p k (item g (store g v (slotAt i) xs) (slotAt (slot p)))
         go p a b z (yes e) = rw (e, slot-same) (f p a b e)
         go p a b z (no e) = rw (slot-other (slotAt (slot p)) (omega (arith, slot-high p)) (omega arith)) (o .backups p a b z)
 
   -- the next note: whole or torn
-  module _ (xs : List ℕ) (b : length ns < g .notes) (six : length xs ≡ 16) where
-    note-other : (q : Place) → In g q → start g q ≢ start g (noteAt (suc (length ns))) → item g (store g v (noteAt (suc (length ns))) xs) q ≡ item g v q
-    note-other q n ne = store-other g v (h .vol) (noteAt (suc (length ns))) xs (omega arith) six q n ne
+  module _ (xs : List ℕ) (room : Room g ns) (six : length xs ≡ 16) where
+    abbrev noteAfter : List ℕ
+    noteAfter = store g v (noteSlot g (suc (length ns))) xs
 
-    note-same : item g (store g v (noteAt (suc (length ns))) xs) (noteAt (suc (length ns))) ≡ xs
-    note-same = store-same g v (h .vol) (noteAt (suc (length ns))) xs (omega arith) six
+    note-here : In g (noteSlot g (suc (length ns)))
+    note-here = slot-in (g .notes) (length ns) (room .0)
 
-    pub note-holds : Holds g (store g v (noteAt (suc (length ns))) xs) k
+    note-other : (q : Place) → In g q → start g q ≢ start g (noteSlot g (suc (length ns))) → item g noteAfter q ≡ item g v q
+    note-other q n ne = store-other g v (h .vol) (noteSlot g (suc (length ns))) xs note-here six q n ne
+
+    note-same : item g noteAfter (noteSlot g (suc (length ns))) ≡ xs
+    note-same = store-same g v (h .vol) (noteSlot g (suc (length ns))) xs note-here six
+
+    note-records : (j : ℕ) → 1 ≤ j → j ≤ g .records → item g noteAfter (recordAt j) ≡ item g v (recordAt j)
+    note-records j l u = note-other (recordAt j) (l, u) (omega (arith, note-here .0))
+
+    note-notes : (i : ℕ) → 1 ≤ i → i ≤ g .notes → i ≢ slotOf (g .notes) (suc (length ns)) → item g noteAfter (noteAt i) ≡ item g v (noteAt i)
+    note-notes i lo hi ne = note-other (noteAt i) (lo, hi) (λ z. ne (omega (arith, note-here .0)))
+
+    note-held : (i : ℕ) → i < length ns → length ns < i + g .notes → item g noteAfter (noteSlot g (suc i)) ≡ item g v (noteSlot g (suc i))
+    note-held i a b =
+        let q = slot-in (g .notes) i (room .0) in
+        note-notes (slotOf (g .notes) (suc i)) (q .0) (q .1) (slot-apart (g .notes) i (length ns) a b)
+
+    notes-stay : (i : ℕ) → suc (length ns) < i → i ≤ g .notes → item g noteAfter (noteAt i) ≡ item g v (noteAt i)
+    notes-stay i a z = note-notes i (omega arith) z (λ e. omega (arith, slot-low (g .notes) (length ns) (omega arith)))
+
+    pub note-holds : Holds g (store g v (noteSlot g (suc (length ns))) xs) k
     note-holds =
-        holds-keep g v (store g v (noteAt (suc (length ns))) xs) k h (volume-store g v (h .vol) (noteAt (suc (length ns))) xs (omega arith) six)
-        (λ j l u. note-other (recordAt j) (l, u) (omega arith)) (λ p l u. rw (note-other (pageAt p) (l, u) (omega arith)) (h .images p l u))
+        holds-keep g v noteAfter k h (volume-store g v (h .vol) (noteSlot g (suc (length ns))) xs note-here six)
+        note-records (λ p l u. rw (note-other (pageAt p) (l, u) (omega (arith, note-here .0))) (h .images p l u))
 
-    slots-stay : (i : ℕ) → 1 ≤ i → i ≤ g .slots → item g (store g v (noteAt (suc (length ns))) xs) (slotAt i) ≡ item g v (slotAt i)
-    slots-stay i l u = note-other (slotAt i) (l, u) (omega arith)
+    slots-stay : (i : ℕ) → 1 ≤ i → i ≤ g .slots → item g noteAfter (slotAt i) ≡ item g v (slotAt i)
+    slots-stay i l u = note-other (slotAt i) (l, u) (omega (arith, note-here .0))
 
-    pub note-torn : sealed 12 xs ≡ false → Noted g (store g v (noteAt (suc (length ns))) xs) k ns
-    note-torn t =
+    pub note-torn : sealed 12 xs ≡ false → length ns < mostNotes g → Noted C g (store g v (noteSlot g (suc (length ns))) xs) k ns
+    note-torn t b =
         record {
           few = o .few;
-          each = λ i a. note-other (noteAt (suc i)) (omega arith) (omega arith) ∙ o .each i a;
+          run = log-keep g v noteAfter k ns ns (sz .l-low) note-records (λ i c s. s) (o .run);
+          notes = run-torn (noteRing g) (g .notes) (length ns) (NoteStands g v ns) (NoteTorn g v) (Later ns) (NoteStands g noteAfter ns) (NoteTorn g noteAfter) (Later ns) (λ i c s. s) (o .notes)
+              (λ i a c w. note-held i a c ∙ w) (λ i a e. (in-ring i e, again i e)) (room .1);
           tail = record {
-            gap = λ a. rw note-same t;
-            rest = λ i a z. rw (note-other (noteAt i) (omega arith) (omega arith)) (o .tail .rest i a z);
+            gap = λ a. let q : item g noteAfter (noteAt (suc (length ns))) ≡ xs = ap (λ (n : ℕ). item g noteAfter (noteAt n)) (sym (slot-low (g .notes) (length ns) a)) ∙ note-same in rw q t;
+            rest = λ i a z. rw (notes-stay i a z) (o .tail .rest i a z);
           };
           fit = o .fit;
-          backups = backups-other (store g v (noteAt (suc (length ns))) xs) k (λ p y f. f) slots-stay;
+          backups = backups-other noteAfter k (λ p y f. f) slots-stay;
+          copies = copies-other noteAfter slots-stay;
         }
+      where
+        in-ring : (i : ℕ) → length ns ≡ i + g .notes → noteRing g ≡ true
+        in-ring i e = byCases (noteRing g) (λ r. r) (λ r. absurd (omega (arith, notes-plain g sz r)))
+
+        again : (i : ℕ) → length ns ≡ i + g .notes → sealed 12 (item g noteAfter (noteSlot g (suc i))) ≡ false
+        again i e =
+            let q : slotOf (g .notes) (suc i) ≡ slotOf (g .notes) (suc (length ns)) = sym (slot-again (g .notes) i) ∙ ap (λ (n : ℕ). slotOf (g .notes) (suc n)) (sym e) in
+            ap (λ (n : ℕ). sealed 12 (item g noteAfter (noteAt n))) q ∙ (ap (sealed 12) note-same ∙ t)
 
   -- the slot that one more note gives a page
   module _ (x : Note) (x-ok : NoteOk (g .pages) (g .slots) k ns (length ns) x) where
     new-mark : (p : ℕ)
-        → (markAt p (ns ++ (x ∷ [])) (length (ns ++ (x ∷ []))) .slot ≡ slot p)
-        ⊎ ((isWritten x ≡ false) × (p ≡ x .page) × (markAt p (ns ++ (x ∷ [])) (length (ns ++ (x ∷ []))) .slot ≡ x .slot))
+        → ((markAt p (ns ++ (x ∷ [])) (length (ns ++ (x ∷ []))) .slot ≡ slot p) × (markAt p (ns ++ (x ∷ [])) (length (ns ++ (x ∷ []))) .backup ≡ markAt p ns (length ns) .backup))
+        ⊎ ((isWritten x ≡ false) × (p ≡ x .page) × (markAt p (ns ++ (x ∷ [])) (length (ns ++ (x ∷ []))) .slot ≡ x .slot) × (markAt p (ns ++ (x ∷ [])) (length (ns ++ (x ∷ []))) .backup ≡ x .lsn))
     new-mark p = rw (lenN ns x) (elim (ℕ-discrete (x .page) p) [
       | yes y ↦ rw (mark-hit p (ns ++ (x ∷ [])) (length ns) (rw (noteN ns x) y), noteN ns x, mark-append p ns (x ∷ []) (length ns) (omega arith)) (byCases (isWritten x)
-          (λ t. rw t (inl refl))
-          (λ t. rw t (inr (refl, sym y, refl))))
-      | no z ↦ inl (rw (mark-miss p (ns ++ (x ∷ [])) (length ns) (rw (noteN ns x) z), mark-append p ns (x ∷ []) (length ns) (omega arith)))
+          (λ t. rw t (inl (refl, refl)))
+          (λ t. rw t (inr (refl, sym y, refl, refl))))
+      | no z ↦ rw (mark-miss p (ns ++ (x ∷ [])) (length ns) (rw (noteN ns x) z), mark-append p ns (x ∷ []) (length ns) (omega arith)) (inl (refl, refl))
     ])
 
-    pub note-noted : length ns < g .notes → (isWritten x ≡ false → Faithful g (x .page) k (item g v (slotAt (x .slot))))
-        → Noted g (store g v (noteAt (suc (length ns))) (noteBytes x)) k (ns ++ (x ∷ []))
-    note-noted b f =
+    -- backups only rise
+    pub backup-rises : (p : ℕ) → markAt p ns (length ns) .backup ≤ markAt p (ns ++ (x ∷ [])) (length (ns ++ (x ∷ []))) .backup
+    backup-rises p = rw (lenN ns x) (elim (ℕ-discrete (x .page) p) [
+      | yes y ↦ rw (mark-hit p (ns ++ (x ∷ [])) (length ns) (rw (noteN ns x) y), noteN ns x, mark-append p ns (x ∷ []) (length ns) (omega arith)) (byCases (isWritten x)
+          (λ t. rw t (omega arith))
+          (λ t. rw t (let q : markAt p ns (length ns) .backup ≤ x .lsn = rw y at (x-ok .backed t .above) in q)))
+      | no z ↦ rw (mark-miss p (ns ++ (x ∷ [])) (length ns) (rw (noteN ns x) z), mark-append p ns (x ∷ []) (length ns) (omega arith)) (omega arith)
+    ])
+
+    pub spare-rises : (k′ : List Logged) (i : ℕ) → Spare k′ ns i → Spare k′ (ns ++ (x ∷ [])) i
+    spare-rises k′ i s = omega (arith, s, backup-rises (at k′ i .page))
+
+    pub note-noted : length ns < mostNotes g → Room g ns → (isWritten x ≡ false → Faithful g (x .page) k (item g v (slotAt (x .slot))))
+        → (C → isWritten x ≡ false → Copy g v (x .page) (x .slot) (x .lsn))
+        → Noted C g (store g v (noteSlot g (suc (length ns))) (noteBytes x)) k (ns ++ (x ∷ []))
+    note-noted b room f fc =
         record {
           few = rw (lenN ns x) b;
-          each = λ i a. elim (decLt i (length ns)) [
-            | yes y ↦ note-other (noteBytes x) b six (noteAt (suc i)) (omega arith) (omega arith) ∙ (o .each i y ∙ ap noteBytes (sym (List·getD-append ns (x ∷ []) noNote i y)))
-            | no n ↦ let q : i ≡ length ns = omega (arith, lenN ns x) in rw (q, noteN ns x) (note-same (noteBytes x) b six)
-          ];
+          run = log-keep g v after″ k ns (ns ++ (x ∷ [])) (sz .l-low) (note-records (noteBytes x) room six) (λ i c s. spare-rises k i s) (o .run);
+          notes = rw (lenN ns x) (run-new (noteRing g) (g .notes) (length ns) (NoteStands g v ns) (NoteTorn g v) (Later ns)
+              (NoteStands g after″ (ns ++ (x ∷ []))) (NoteTorn g after″) (Later (ns ++ (x ∷ []))) (later-more ns x) (o .notes)
+              (λ i a d w. note-held (noteBytes x) room six i a d ∙ (w ∙ ap noteBytes (sym (List·getD-append ns (x ∷ []) noNote i a))))
+              (note-same (noteBytes x) room six ∙ ap noteBytes (sym (noteN ns x)))
+              (λ i a e. let q : i < length ns = omega (arith, room .0) in later-more ns x i q (room .1 i q e)));
           tail = record {
             gap = λ a.
                 let a′ : suc (length ns) < g .notes = rw (lenN ns x) at a in
-                rw (lenN ns x, note-other (noteBytes x) b six (noteAt (suc (suc (length ns)))) (omega arith) (omega arith))
+                rw (lenN ns x, notes-stay (noteBytes x) room six (suc (suc (length ns))) (omega arith) a′)
                 (fails-zero 12 16 (item g v (noteAt (suc (suc (length ns))))) (item-length g v (volume-size g v (h .vol)) (noteAt (suc (suc (length ns)))) (omega arith)) (omega arith)
                 (o .tail .rest (suc (suc (length ns))) (omega arith) a′));
-            rest = λ i a z. rw (note-other (noteBytes x) b six (noteAt i) (omega arith) (omega (arith, lenN ns x))) (o .tail .rest i (omega (arith, lenN ns x)) z);
+            rest = λ i a z. rw (notes-stay (noteBytes x) room six i (omega (arith, lenN ns x)) z) (o .tail .rest i (omega (arith, lenN ns x)) z);
           };
           fit = λ i a. elim (decLt i (length ns)) [
             | yes y ↦ rw (List·getD-append ns (x ∷ []) noNote i y) (notes-longer i (omega arith) (note ns i) (o .fit i y))
             | no n ↦ let q : i ≡ length ns = omega (arith, lenN ns x) in rw (q, noteN ns x) (notes-longer (length ns) (omega arith) x x-ok)
           ];
           backups = λ p lo hi z. backed p lo hi z (new-mark p);
+          copies = λ c p lo hi z. copied c p lo hi z (new-mark p);
         }
       where
+        after″ : List ℕ
+        after″ = store g v (noteSlot g (suc (length ns))) (noteBytes x)
+
         six : length (noteBytes x) ≡ 16
         six = note-length x
 
@@ -288,22 +416,33 @@ module _ (g : Geometry) (v : List ℕ) (k : List Logged) (h : Holds g v k) (ns :
             }
 
         backed : (p : ℕ) → 1 ≤ p → p ≤ g .pages → markAt p (ns ++ (x ∷ [])) (length (ns ++ (x ∷ []))) .slot ≢ 0
-            → (markAt p (ns ++ (x ∷ [])) (length (ns ++ (x ∷ []))) .slot ≡ slot p)
-            ⊎ ((isWritten x ≡ false) × (p ≡ x .page) × (markAt p (ns ++ (x ∷ [])) (length (ns ++ (x ∷ []))) .slot ≡ x .slot))
-            → Faithful g p k (item g (store g v (noteAt (suc (length ns))) (noteBytes x)) (slotAt (markAt p (ns ++ (x ∷ [])) (length (ns ++ (x ∷ []))) .slot)))
-        backed p lo hi z (inl e) = rw e (rw (slots-stay (noteBytes x) b six (slot p) (omega (arith, rw e at z)) (slot-high p)) (o .backups p lo hi (rw e at z)))
+            → ((markAt p (ns ++ (x ∷ [])) (length (ns ++ (x ∷ []))) .slot ≡ slot p) × (markAt p (ns ++ (x ∷ [])) (length (ns ++ (x ∷ []))) .backup ≡ markAt p ns (length ns) .backup))
+            ⊎ ((isWritten x ≡ false) × (p ≡ x .page) × (markAt p (ns ++ (x ∷ [])) (length (ns ++ (x ∷ []))) .slot ≡ x .slot) × (markAt p (ns ++ (x ∷ [])) (length (ns ++ (x ∷ []))) .backup ≡ x .lsn))
+            → Faithful g p k (item g (store g v (noteSlot g (suc (length ns))) (noteBytes x)) (slotAt (markAt p (ns ++ (x ∷ [])) (length (ns ++ (x ∷ []))) .slot)))
+        backed p lo hi z (inl e) = let q = e .0 in rw (e .0) (rw (slots-stay (noteBytes x) room six (slot p) (omega (arith, rw q at z)) (slot-high p)) (o .backups p lo hi (rw q at z)))
         backed p lo hi z (inr e) =
             let bk = x-ok .backed (e .0) in
-            rw (e .2) (rw (slots-stay (noteBytes x) b six (x .slot) (bk .low) (bk .high), e .1) (f (e .0)))
+            rw (e .2) (rw (slots-stay (noteBytes x) room six (x .slot) (bk .low) (bk .high), e .1) (f (e .0)))
+
+        copied : C → (p : ℕ) → 1 ≤ p → p ≤ g .pages → markAt p (ns ++ (x ∷ [])) (length (ns ++ (x ∷ []))) .slot ≢ 0
+            → ((markAt p (ns ++ (x ∷ [])) (length (ns ++ (x ∷ []))) .slot ≡ slot p) × (markAt p (ns ++ (x ∷ [])) (length (ns ++ (x ∷ []))) .backup ≡ markAt p ns (length ns) .backup))
+            ⊎ ((isWritten x ≡ false) × (p ≡ x .page) × (markAt p (ns ++ (x ∷ [])) (length (ns ++ (x ∷ []))) .slot ≡ x .slot) × (markAt p (ns ++ (x ∷ [])) (length (ns ++ (x ∷ []))) .backup ≡ x .lsn))
+            → Copy g (store g v (noteSlot g (suc (length ns))) (noteBytes x)) p (markAt p (ns ++ (x ∷ [])) (length (ns ++ (x ∷ []))) .slot) (markAt p (ns ++ (x ∷ [])) (length (ns ++ (x ∷ []))) .backup)
+        copied c p lo hi z (inl e) = let q = e .0 in rw (e .0, e .1) (rw (slots-stay (noteBytes x) room six (slot p) (omega (arith, rw q at z)) (slot-high p)) (o .copies c p lo hi (rw q at z)))
+        copied c p lo hi z (inr e) =
+            let bk = x-ok .backed (e .0) in
+            rw (e .2, e .3) (rw (slots-stay (noteBytes x) room six (x .slot) (bk .low) (bk .high), e .1) (fc c (e .0)))
 
 -- the pending note, as the volume and the durable list change
-pub pending-keep : (g : Geometry) (v v′ : List ℕ) (k k′ : List Logged) (ns : List Note) (w : PendingNote)
+pub pending-keep : (C : Type 0) (g : Geometry) (v v′ : List ℕ) (k k′ : List Logged) (ns : List Note) (w : PendingNote)
     → ((p : ℕ) (y : List ℕ) → Faithful g p k y → Faithful g p k′ y) → ((x : Note) → NoteOk (g .pages) (g .slots) k ns (length ns) x → NoteOk (g .pages) (g .slots) k′ ns (length ns) x)
     → ((i : ℕ) → 1 ≤ i → i ≤ g .slots → item g v′ (slotAt i) ≡ item g v (slotAt i))
-    → PendingOk g v k ns w → PendingOk g v′ k′ ns w
-pending-keep g v v′ k k′ ns Absent up nup e t = tt
-pending-keep g v v′ k k′ ns (Present x) up nup e t = (
+    → PendingOk C g v k ns w → PendingOk C g v′ k′ ns w
+pending-keep C g v v′ k k′ ns Absent up nup e t = tt
+pending-keep C g v v′ k k′ ns (Present x) up nup e t = (
   nup x (t .0),
   t .1,
   λ z. let bk = t .0 .backed z in rw (e (x .slot) (bk .low) (bk .high)) (up (x .page) (item g v (slotAt (x .slot))) (t .2 z)),
+  t .3,
+  λ c z. let bk = t .0 .backed z in rw (e (x .slot) (bk .low) (bk .high)) (t .4 c z),
 )

@@ -11,7 +11,7 @@ use lib.Dec.{eqb, ltb}
 use borrow.Author.Tests.{eq-eqb, ne-eqb, eqb-true, eqb-false, le-leb, lt-ltb, le-ltb}
 use Rattle.laws.proofs.Tables.{byCases, and-both, or-left, or-right, every-all, within-holds}
 use Rattle.model.specs.Tables.{all, within}
-use Rattle.model.specs.Geometry.{geometryOf, validVolume}
+use Rattle.model.specs.Geometry.{most, mostNotes, geometryOf, validVolume}
 use Rattle.model.specs.Item.{isWritten, noteLayout}
 use Rattle.model.specs.Index.{emptyEntry, entryRow, entryOf}
 use Rattle.model.specs.State.{frameCount, validMemory, frameRow, held, blank, lastNumber, pendingNoteFits, frameFits, entryFits, pageFits, wellFormed}
@@ -36,19 +36,20 @@ layout-ok P B l ns n y f = byCases (isWritten y)
     (λ t. or-left (eqb (y .kind) 2) (and-both t (eq-eqb (y .slot) 0 (f .written t .0))))
     (λ t. or-right (eqb (y .kind) 1 && eqb (y .slot) 0) (eq-eqb (y .kind) 2 (f .backed t .kind-is)))
 
-module _ {g : Geometry} {v m : List ℕ} {past : List StoredItem} {s : State} {k w : List Logged} (x : Ctx g v m past s k w) where
-  note-fits : (y : PendingNote) → PendingOk g v k (x .ns) y → pendingNoteFits g (s .notes) (s .durable) y ≡ true
+module _ {C : Type 0} {g : Geometry} {v m : List ℕ} {past : List StoredItem} {s : State} {k w : List Logged} (x : Ctx C g v m past s k w) where
+  note-fits : (y : PendingNote) → PendingOk C g v k (x .ns) y → pendingNoteFits g (s .notes) (s .durable) y ≡ true
   unfolding pendingNoteFits
   note-fits Absent t = refl
   note-fits (Present y) t =
       let f = t .0 in
-      and-both (lt-ltb (s .notes) (g .notes) (omega (arith, t .1, x .al .notes-is)))
+      and-both (lt-ltb (s .notes) (mostNotes g) (omega (arith, t .1, x .al .notes-is)))
+      (and-both (lt-ltb 0 (g .notes) (t .3 .0))
       (and-both (layout-ok (g .pages) (g .slots) k (x .ns) (length (x .ns)) y f)
       (and-both (eq-eqb (y .number) (s .notes + 1) (omega (arith, f .number-is, x .al .notes-is)))
       (and-both (within-holds (g .pages) (y .page) (f .low) (f .high))
       (and-both
       (byCases (isWritten y) (λ z. or-left (within (g .slots) (y .slot)) z) (λ z. or-right (isWritten y) (within-holds (g .slots) (y .slot) (f .backed z .low) (f .backed z .high))))
-      (le-leb (y .lsn) (s .durable) (omega (arith, f .below, x .al .log .durable-is)))))))
+      (le-leb (y .lsn) (s .durable) (omega (arith, f .below, x .al .log .durable-is))))))))
 
   -- ---- frames
 
@@ -112,9 +113,9 @@ module _ {g : Geometry} {v m : List ℕ} {past : List StoredItem} {s : State} {k
   pub well-formed : wellFormed g (x .al .F) s ≡ true
   unfolding wellFormed
   well-formed =
-      and-both (le-leb (s .durable + s .pending) (g .records) (omega (arith, sum x, x .al .log .room)))
+      and-both (le-leb (s .durable + s .pending) (most g) (omega (arith, sum x, x .al .log .room)))
       (and-both (le-leb (s .pending) 16 (omega (arith, x .al .log .few, x .al .log .pending-is)))
-      (and-both (le-leb (s .notes) (g .notes) (omega (arith, x .al .notes-is, x .no .few)))
+      (and-both (le-leb (s .notes) (mostNotes g) (omega (arith, x .al .notes-is, x .no .few)))
       (and-both (note-fits (s .note) (x .al .note-ok))
       (and-both (every-all (frameFits g (x .al .F) s) 16 frame-fits) (every-all (pageFits g s) 64 page-fits)))))
 

@@ -5,18 +5,19 @@ use mathlib.Core.Bool.{Bool, true, false, cond, _||_}
 use mathlib.Core.List.{List, [], _∷_, map}
 use native.Mathlib.Numerals.{add-one}
 use native.Mathlib.Omega.{arith}
-use lib.Dec.{eqb}
+use lib.Dec.{eqb, leb}
 use lib.ListN.{length, drop, getD, set, take, replicate, length-map, length-set, length-replicate, drop-of-length-le, List·getD-map, List·getD-eq-default}
 use lib.Seq.{drop-cons, map-set-same, take-suc-set, take-suc, take-all}
-use borrow.Author.Tests.{eq-eqb, ne-eqb}
-use Rattle.laws.proofs.Tables.{byCases}
+use borrow.Author.Tests.{eq-eqb, ne-eqb, le-leb, lt-leb}
+use Rattle.laws.proofs.Tables.{byCases, every-same, every-more, every-fails}
+use Rattle.model.specs.Tables.{every}
 use Rattle.model.specs.Item.{isWritten}
-use Rattle.model.specs.Index.{emptyEntry, emptyIndex, entryOf, withNote, enterNote, slotUsed}
-use Rattle.model.specs.Scan.{logRecord, noteRecord, durableCount, logIndex, noteIndex}
+use Rattle.model.specs.Index.{emptyEntry, emptyIndex, entryRow, withNote, settled, enterNote, slotUsed}
+use Rattle.model.specs.Scan.{logRecord, noteRecord, logIndex, runIndex, noteIndex}
 use Rattle.model.specs.declared.geometry.Geometry.{Geometry}
 use Rattle.model.specs.declared.item.Note.{Note}
 use Rattle.model.specs.declared.state.Entry.{Entry}
-use Rattle.index.specs.Columns.{lasts, durables, writtens, slotsIn, backups, Noted, Columns, Blank, columnRow, slotIn, Wide}
+use Rattle.index.specs.Columns.{lasts, durables, writtens, slotsIn, backups, Noted, Columns, Blank, columnRow, columnsOrdered, slotIn, Wide}
 
 -- ---- a column
 
@@ -49,30 +50,46 @@ module _ (b : ℕ) (l : List ℕ) (i : ℕ) where
 -- ---- rows
 
 module _ (index : List Entry) (last written slots backup : List ℕ) (c : Columns index last written slots backup) where
-  pub row-of : (i : ℕ) → columnRow last written slots backup i ≡ getD index i emptyEntry
+  pub row-of : (i : ℕ) → columnRow last written slots backup i ≡ settled (getD index i emptyEntry)
   row-of i =
       let a : getD last i 0 ≡ getD index i emptyEntry .last = ap (λ (l : List ℕ). getD l i 0) (sym (c .last-is)) ∙ List·getD-map (λ (e : Entry). e .last) index i emptyEntry in
       let d : getD last i 0 ≡ getD index i emptyEntry .durable = ap (λ (l : List ℕ). getD l i 0) (sym (c .durable-is)) ∙ List·getD-map (λ (e : Entry). e .durable) index i emptyEntry in
       let w : getD written i 0 ≡ getD index i emptyEntry .written = ap (λ (l : List ℕ). getD l i 0) (sym (c .noted .written-is)) ∙ List·getD-map (λ (e : Entry). e .written) index i emptyEntry in
       let s : getD slots i 0 ≡ getD index i emptyEntry .slot = ap (λ (l : List ℕ). getD l i 0) (sym (c .noted .slots-are)) ∙ List·getD-map (λ (e : Entry). e .slot) index i emptyEntry in
       let b : getD backup i 0 ≡ getD index i emptyEntry .backup = ap (λ (l : List ℕ). getD l i 0) (sym (c .noted .backup-is)) ∙ List·getD-map (λ (e : Entry). e .backup) index i emptyEntry in
-      same (getD index i emptyEntry) (getD last i 0) (getD last i 0) (getD written i 0) (getD slots i 0) (getD backup i 0) a d w s b
+      same (getD index i emptyEntry) (getD last i 0) (getD written i 0) (getD slots i 0) (getD backup i 0) a d w s b
     where
-      same : (x : Entry) (a d w s b : ℕ) → a ≡ x .last → d ≡ x .durable → w ≡ x .written → s ≡ x .slot → b ≡ x .backup
-          → _≡_ {A = Entry} (record { last = a; durable = d; written = w; slot = s; backup = b }) x
-      same x a d w s b ea ed ew es eb = rw (ea, ed, ew, es, eb)
+      same : (x : Entry) (a w s b : ℕ) → a ≡ x .last → a ≡ x .durable → w ≡ x .written → s ≡ x .slot → b ≡ x .backup
+          → _≡_ {A = Entry} (record { last = cond (eqb a 0) b a; durable = cond (eqb a 0) b a; written = w; slot = s; backup = b }) (settled x)
+      same x a w s b ea ed ew es eb =
+          byCases (eqb a 0) (λ t. let u : eqb (x .last) 0 ≡ true = rw ea at t in rw (t, u, ew, es, eb))
+          (λ t. let u : eqb (x .last) 0 ≡ false = rw ea at t in rw (t, u) (plain x a w s b ea ed ew es eb))
+        where
+          plain : (x : Entry) (a w s b : ℕ) → a ≡ x .last → a ≡ x .durable → w ≡ x .written → s ≡ x .slot → b ≡ x .backup
+              → _≡_ {A = Entry} (record { last = a; durable = a; written = w; slot = s; backup = b }) x
+          plain x a w s b ea ed ew es eb = λ i. record { last = ea i; durable = ed i; written = ew i; slot = es i; backup = eb i }
+
+  -- and so it is the settled index's
+  pub settled-row : (i : ℕ) → columnRow last written slots backup i ≡ getD (map settled index) i emptyEntry
+  settled-row i = row-of i ∙ sym (List·getD-map settled index i emptyEntry)
+
+  pub ordered-is : columnsOrdered last written slots backup ≡ every 64 (λ i. leb (entryRow (map settled index) i .written) (entryRow (map settled index) i .last))
+  unfolding columnsOrdered
+  ordered-is = every-same _ _ 64 (λ i b. ap (λ (e : Entry). leb (e .written) (e .last)) (settled-row i))
 
   pub index-length : length index ≡ length last
   index-length = sym (length-map index (λ (e : Entry). e .last)) ∙ ap length (c .last-is)
 
   -- i rows are made
-  pub gathered-more : (made : List Entry) (i : ℕ) (x : Entry) → i < length made → i < length index → take i made ≡ take i index → x ≡ columnRow last written slots backup i
-      → take (i + 1) (set made i x) ≡ take (i + 1) index
-  gathered-more made i x h k e ex = rw (add-one, take-suc-set made i x h, e, ex, row-of i, take-suc index i emptyEntry k)
+  pub gathered-more : (made : List Entry) (i : ℕ) (x : Entry) → i < length made → i < length index → take i made ≡ take i (map settled index) → x ≡ columnRow last written slots backup i
+      → take (i + 1) (set made i x) ≡ take (i + 1) (map settled index)
+  gathered-more made i x h k e ex =
+      let l : i < length (map settled index) = omega (arith, length-map index settled) in
+      rw (add-one, take-suc-set made i x h, e, ex, settled-row i, take-suc (map settled index) i emptyEntry l)
 
-  pub gathered-all : length last ≡ 64 → (made : List Entry) (i : ℕ) → i ≡ 64 → length made ≡ 64 → take i made ≡ take i index → made ≡ index
+  pub gathered-all : length last ≡ 64 → (made : List Entry) (i : ℕ) → i ≡ 64 → length made ≡ 64 → take i made ≡ take i (map settled index) → made ≡ map settled index
   gathered-all h made i e l q =
-      sym (take-all i made (omega arith)) ∙ q ∙ take-all i index (omega (arith, index-length))
+      sym (take-all i made (omega arith)) ∙ q ∙ take-all i (map settled index) (omega (arith, index-length, length-map index settled))
 
 -- past the last row
 pub row-past : (last written slots backup : List ℕ) → Wide last written slots backup → (i : ℕ) → 64 ≤ i → emptyEntry ≡ columnRow last written slots backup i
@@ -84,52 +101,68 @@ row-past last written slots backup w i h =
       List·getD-eq-default backup 0 {n = i} (omega (arith, w .backup-wide)),
     )
 
+-- no written number above its page's last, row by row
+module _ (last written slots backup : List ℕ) where
+  abbrev orderedAt : ℕ → Bool
+  orderedAt i = leb (columnRow last written slots backup i .written) (columnRow last written slots backup i .last)
+
+  pub unordered : (i : ℕ) (e : Entry) → i < 64 → e ≡ columnRow last written slots backup i → e .last < e .written → columnsOrdered last written slots backup ≡ false
+  unfolding columnsOrdered
+  unordered i e h q l = every-fails orderedAt 64 i h (ap (λ (x : Entry). leb (x .written) (x .last)) (sym q) ∙ lt-leb (e .written) (e .last) l)
+
+  pub ordered-more : (i : ℕ) (e : Entry) → every i orderedAt ≡ true → e ≡ columnRow last written slots backup i → e .written ≤ e .last → every (i + 1) orderedAt ≡ true
+  ordered-more i e h q l = every-more orderedAt i h (ap (λ (x : Entry). leb (x .written) (x .last)) (sym q) ∙ le-leb (e .written) (e .last) l)
+
+  pub ordered-all : (i : ℕ) → i ≡ 64 → every i orderedAt ≡ true → true ≡ columnsOrdered last written slots backup
+  unfolding columnsOrdered
+  ordered-all i e h = sym (rw e at h)
+
 -- ---- the log
 
 -- a record leaves the columns of the notes
-module _ (g : Geometry) (v : List ℕ) where
-  pub log-written : (n : ℕ) → writtens (logIndex g v n) ≡ replicate 64 0
+module _ (g : Geometry) (v : List ℕ) (f : ℕ) where
+  pub log-written : (n : ℕ) → writtens (logIndex g v f n) ≡ replicate 64 0
   unfolding logIndex emptyIndex
   log-written zero = refl
-  log-written (suc n) = map-set-same (λ (e : Entry). e .written) (logIndex g v n) _ _ emptyEntry refl ∙ log-written n
+  log-written (suc n) = map-set-same (λ (e : Entry). e .written) (logIndex g v f n) _ _ emptyEntry refl ∙ log-written n
 
-  pub log-slots : (n : ℕ) → slotsIn (logIndex g v n) ≡ replicate 64 0
+  pub log-slots : (n : ℕ) → slotsIn (logIndex g v f n) ≡ replicate 64 0
   unfolding logIndex emptyIndex
   log-slots zero = refl
-  log-slots (suc n) = map-set-same (λ (e : Entry). e .slot) (logIndex g v n) _ _ emptyEntry refl ∙ log-slots n
+  log-slots (suc n) = map-set-same (λ (e : Entry). e .slot) (logIndex g v f n) _ _ emptyEntry refl ∙ log-slots n
 
-  pub log-backup : (n : ℕ) → backups (logIndex g v n) ≡ replicate 64 0
+  pub log-backup : (n : ℕ) → backups (logIndex g v f n) ≡ replicate 64 0
   unfolding logIndex emptyIndex
   log-backup zero = refl
-  log-backup (suc n) = map-set-same (λ (e : Entry). e .backup) (logIndex g v n) _ _ emptyEntry refl ∙ log-backup n
+  log-backup (suc n) = map-set-same (λ (e : Entry). e .backup) (logIndex g v f n) _ _ emptyEntry refl ∙ log-backup n
 
   -- the last number is durable
-  pub log-durable : (n : ℕ) → durables (logIndex g v n) ≡ lasts (logIndex g v n)
+  pub log-durable : (n : ℕ) → durables (logIndex g v f n) ≡ lasts (logIndex g v f n)
   unfolding logIndex emptyIndex
   log-durable zero = refl
   log-durable (suc n) =
-      column-set (λ (e : Entry). e .durable) (logIndex g v n) _ _
-      ∙ ap (λ (l : List ℕ). set l (logRecord g v (suc n) .page - 1) (suc n)) (log-durable n)
-      ∙ sym (column-set (λ (e : Entry). e .last) (logIndex g v n) _ _)
+      column-set (λ (e : Entry). e .durable) (logIndex g v f n) _ _
+      ∙ ap (λ (l : List ℕ). set l (logRecord g v (f + n) .page - 1) (f + n)) (log-durable n)
+      ∙ sym (column-set (λ (e : Entry). e .last) (logIndex g v f n) _ _)
 
-  pub log-none : lasts (logIndex g v 0) ≡ replicate 64 0
+  pub log-none : lasts (logIndex g v f 0) ≡ replicate 64 0
   unfolding logIndex emptyIndex
   log-none = refl
 
   -- a note leaves the numbers of the records
-  pub note-last : (k : ℕ) → lasts (noteIndex g v k) ≡ lasts (logIndex g v (durableCount g v))
+  pub note-last : (k : ℕ) → lasts (noteIndex g v f k) ≡ lasts (runIndex g v)
   unfolding noteIndex enterNote
   note-last zero = refl
   note-last (suc k) =
-      map-set-same (λ (e : Entry). e .last) (noteIndex g v k) _ _ emptyEntry
-      (byCases (isWritten (noteRecord g v (suc k))) (λ t. rw t) (λ t. rw t)) ∙ note-last k
+      map-set-same (λ (e : Entry). e .last) (noteIndex g v f k) _ _ emptyEntry
+      (byCases (isWritten (noteRecord g v (f + k))) (λ t. rw t) (λ t. rw t)) ∙ note-last k
 
-  pub note-durable : (k : ℕ) → durables (noteIndex g v k) ≡ durables (logIndex g v (durableCount g v))
+  pub note-durable : (k : ℕ) → durables (noteIndex g v f k) ≡ durables (runIndex g v)
   unfolding noteIndex enterNote
   note-durable zero = refl
   note-durable (suc k) =
-      map-set-same (λ (e : Entry). e .durable) (noteIndex g v k) _ _ emptyEntry
-      (byCases (isWritten (noteRecord g v (suc k))) (λ t. rw t) (λ t. rw t)) ∙ note-durable k
+      map-set-same (λ (e : Entry). e .durable) (noteIndex g v f k) _ _ emptyEntry
+      (byCases (isWritten (noteRecord g v (f + k))) (λ t. rw t) (λ t. rw t)) ∙ note-durable k
 
 -- ---- a note, entered in an entry of which only the notes' columns are known
 

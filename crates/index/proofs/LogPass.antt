@@ -1,89 +1,116 @@
--- The log as a pass sees it, and laws of one record of it: as it was judged, and entered.
-use mathlib.Core.Path.{_≡_, refl, sym, ap, _∙_}
-use mathlib.Core.Bool.{Bool, true, false, _&&_}
+-- Laws of the log's scan: one record as it was judged and entered, and what the whole log comes to.
+use mathlib.Core.Path.{_≡_, refl, sym, ap, _∙_, subst}
+use mathlib.Core.Bool.{Bool, true, false, _&&_, _||_}
 use mathlib.Core.List.{List, [], _∷_}
-use Prim.Native.Nat.{ℕ, suc, _+_, _-_, _*_, _≤_, _<_}
+use Prim.Native.Nat.{ℕ, suc, _+_, _-_, _≤_, _<_}
 use native.Mathlib.Numerals.{add-one}
 use native.Mathlib.Omega.{arith}
 use lib.Dec.{eqb}
-use lib.ListN.{length, getD, set, List·getD-map}
-use Rattle.laws.proofs.Tables.{all-at, within-bounds}
-use Rattle.laws.proofs.Places.{item-length}
-use Rattle.model.specs.Tables.{within}
-use Rattle.model.specs.Bytes.{part}
-use Rattle.model.specs.Geometry.{recordAt, logSlot, start, item}
+use lib.ListN.{length, getD, set, replicate, length-set, length-replicate, List·getD-map}
+use Rattle.laws.proofs.Tables.{all-at, within-bounds, every-none, every-more, every-fails}
+use Rattle.model.specs.Tables.{every, within}
+use Rattle.model.specs.Checksum.{sealed}
+use Rattle.model.specs.Geometry.{recordAt, logSlot, item}
 use Rattle.model.specs.Item.{recordOf, recordLayout, firstIsFormat}
 use Rattle.model.specs.Index.{emptyEntry, entryOf}
-use Rattle.model.specs.Scan.{logRecord, durableCount, logIndex, recordFits, validLog}
+use Rattle.model.specs.Scan.{logRecord, durableCount, firstHeld, logIndex, runIndex, recordFits, linked, endsAt, restZero, validLog}
 use Rattle.model.specs.declared.geometry.Geometry.{Geometry}
 use Rattle.model.specs.declared.item.LogRecord.{LogRecord}
 use Rattle.model.specs.declared.state.Entry.{Entry}
 use Rattle.index.specs.Rows.{rowOf}
 use Rattle.index.specs.Columns.{lasts}
-use Rattle.index.specs.Section.{Sized, recordFollows}
-use Rattle.index.proofs.ColumnLaws.{column-set}
+use Rattle.index.specs.Section.{endsIn, logSection, logRun, recordFollows}
+use Rattle.index.specs.declared.section.Run.{Run}
+use Rattle.index.specs.declared.section.Section.{Section}
+use Rattle.index.proofs.ColumnLaws.{column-set, log-none}
 use Rattle.index.proofs.Entries.{row-is}
-use Rattle.index.proofs.Pass.{guarded, Items, Spaced, run, keeps}
+use Rattle.index.proofs.Located.{record-slot, first-low}
+use Rattle.index.proofs.Sections.{guarded}
 
 module _ (g : Geometry) (v : List ℕ) where
-  abbrev pub logItems : Items v
-  logItems =
-      record {
-        size = 60;
-        most = g .records;
-        base = start g (recordAt 1);
-        bytes = λ i. item g v (logSlot g (i + 1));
-        fit = λ i. recordFits g v (logIndex g v i) (suc i);
-      }
+  breaks : (i : ℕ) → let n = durableCount g v in let f = firstHeld g v n in
+      i < suc n - f → recordFits g v f (logIndex g v f i) (f + i) ≡ false → validLog g v ≡ false
+  unfolding validLog
+  breaks i b h =
+      let n = durableCount g v in
+      let f = firstHeld g v n in
+      rw (every-fails (λ j. recordFits g v f (logIndex g v f j) (f + j)) (suc n - f) i b h)
 
-  pub log-spaced : Spaced v logItems
-  unfolding item
-  log-spaced i =
-      let e : start g (recordAt 1) + (60 + 4) * i ≡ start g (logSlot g (i + 1)) = omega arith in
-      ap (λ (k : ℕ). part v k 64) e
+  ends : let n = durableCount g v in let f = firstHeld g v n in
+      every (suc n - f) (λ j. recordFits g v f (logIndex g v f j) (f + j)) ≡ true → endsIn v (logSection g) f n ≡ validLog g v
+  unfolding validLog endsIn
+  ends h = rw (h, record-slot g v (durableCount g v))
 
-  pub log-keeps : keeps v logItems ≡ validLog g v
-  unfolding validLog durableCount
-  log-keeps = refl
+  -- the first i records of a run from f on fit, and gave the column of last numbers
+  pub record Judged (f i : ℕ) (last : List ℕ) : Type 0 where
+    pub held : every i (λ j. recordFits g v f (logIndex g v f j) (f + j)) ≡ true
+    pub same : last ≡ lasts (logIndex g v f i)
+    pub long : length last ≡ 64
 
-  pub log-run : run v logItems ≡ durableCount g v
-  unfolding durableCount
-  log-run = refl
+  pub judged-none : (f : ℕ) (last : List ℕ) → last ≡ replicate 64 0 → Judged f 0 last
+  judged-none f last e =
+      record { held = every-none _; same = e ∙ sym (log-none g v f); long = ap length e ∙ length-replicate {A = ℕ} 64 0 }
 
-  pub record-length : Sized g v → (n : ℕ) → n < g .records → length (item g v (logSlot g (n + 1))) ≡ 64
-  record-length s n h = item-length g v (s .size) (logSlot g (n + 1)) (omega arith, omega arith)
+  -- the log's run
+  module _ (r : Run) (er : r ≡ logRun g v) where
+    pub run-low : 1 ≤ r .first
+    run-low = rw er (first-low g v (durableCount g v))
 
-  -- record n + 1 as it was read and judged, after records that gave the column of last numbers
-  module _ (few : g .pages ≤ 64) (n : ℕ) (last : List ℕ) (same : last ≡ lasts (logIndex g v n))
-      (r : List ℕ) (er : r ≡ item g v (logSlot g (n + 1))) (e : LogRecord) (ee : e ≡ recordOf r) (i : ℕ) (ei : i ≡ rowOf (e .page))
-      (layout ok : Bool) (el : layout ≡ recordLayout r) (eo : ok ≡ recordFollows layout e (g .pages) (getD last i 0) (n + 1)) where
-    inside : within (g .pages) (e .page) ≡ true → i ≡ e .page - 1
-    inside t = ei ∙ row-is (e .page) (omega (arith, within-bounds (g .pages) (e .page) t))
+    -- a record does not fit
+    pub log-breaks : (i : ℕ) → i < suc (r .count) - r .first → recordFits g v (r .first) (logIndex g v (r .first) i) (r .first + i) ≡ false → validLog g v ≡ false
+    log-breaks =
+        subst (λ (x : Run). (i : ℕ) → i < suc (x .count) - x .first → recordFits g v (x .first) (logIndex g v (x .first) i) (x .first + i) ≡ false → validLog g v ≡ false)
+        (sym er) breaks
 
-    last-at : within (g .pages) (e .page) ≡ true → getD last i 0 ≡ entryOf (logIndex g v n) (e .page) .last
+    -- all fit
+    pub log-ends : (i : ℕ) (last : List ℕ) → Judged (r .first) i last → i ≡ suc (r .count) - r .first → (s : Section) → s ≡ logSection g → (b : Bool)
+        → b ≡ endsIn v s (r .first) (r .count) → b ≡ validLog g v
+    log-ends i last j ei s es b eb =
+        eb ∙ ap (λ (x : Section). endsIn v x (r .first) (r .count)) es
+        ∙ subst (λ (x : Run). every (suc (x .count) - x .first) (λ k. recordFits g v (x .first) (logIndex g v (x .first) k) (x .first + k)) ≡ true
+        → endsIn v (logSection g) (x .first) (x .count) ≡ validLog g v) (sym er) ends (rw ei at (j .held))
+
+    pub log-columns : (i : ℕ) (last : List ℕ) → Judged (r .first) i last → i ≡ suc (r .count) - r .first → last ≡ lasts (runIndex g v)
+    log-columns i last j ei = j .same ∙ ap (λ (k : ℕ). lasts (logIndex g v (r .first) k)) ei ∙ ap (λ (x : Run). lasts (logIndex g v (x .first) (suc (x .count) - x .first))) er
+
+  -- record n = f + i as it was read and judged, after records that gave the column of last numbers
+  module _ (few : g .pages ≤ 64) (f i : ℕ) (last : List ℕ) (same : last ≡ lasts (logIndex g v f i)) (n : ℕ) (n-is : n ≡ f + i)
+      (below : ℕ) (below-is : below ≡ f - 1) (r : List ℕ) (er : r ≡ item g v (logSlot g n)) (e : LogRecord) (ee : e ≡ recordOf r)
+      (k : ℕ) (ek : k ≡ rowOf (e .page)) (whole layout ok : Bool) (ew : whole ≡ sealed 60 r) (el : layout ≡ recordLayout r)
+      (eo : ok ≡ recordFollows whole layout e (g .pages) below (getD last k 0) n) where
+    inside : within (g .pages) (e .page) ≡ true → k ≡ e .page - 1
+    inside t = ek ∙ row-is (e .page) (omega (arith, within-bounds (g .pages) (e .page) t))
+
+    last-at : within (g .pages) (e .page) ≡ true → getD last k 0 ≡ entryOf (logIndex g v f i) (e .page) .last
     last-at t =
-        ap (λ (l : List ℕ). getD l i 0) same
-        ∙ ap (λ (k : ℕ). getD (lasts (logIndex g v n)) k 0) (inside t)
-        ∙ List·getD-map (λ (x : Entry). x .last) (logIndex g v n) (e .page - 1) emptyEntry
+        ap (λ (l : List ℕ). getD l k 0) same
+        ∙ ap (λ (x : ℕ). getD (lasts (logIndex g v f i)) x 0) (inside t)
+        ∙ List·getD-map (λ (x : Entry). x .last) (logIndex g v f i) (e .page - 1) emptyEntry
 
-    pub log-judged : ok ≡ recordFits g v (logIndex g v n) (suc n)
+    abbrev link : ℕ → ℕ → Bool
+    link b l = (eqb (e .prev) l || (eqb l 0 && within b (e .prev))) && firstIsFormat e
+
+    pub log-judged : ok ≡ recordFits g v f (logIndex g v f i) (f + i)
     unfolding recordFits
     log-judged =
         eo
-        ∙ guarded layout (eqb (e .lsn) (n + 1)) (within (g .pages) (e .page))
-        (eqb (e .prev) (getD last i 0) && firstIsFormat e)
-        (eqb (e .prev) (entryOf (logIndex g v n) (e .page) .last) && firstIsFormat e)
-        (λ t. rw (last-at t))
-        ∙ ap (λ (t : Bool). recordFollows t e (g .pages) (entryOf (logIndex g v n) (e .page) .last) (n + 1)) (el ∙ ap recordLayout er)
-        ∙ ap (λ (x : LogRecord). recordFollows (recordLayout (item g v (logSlot g (n + 1)))) x (g .pages) (entryOf (logIndex g v n) (x .page) .last) (n + 1))
-        (ee ∙ ap recordOf er)
-        ∙ rw (add-one n)
+        ∙ ap (λ (t : Bool). whole && t)
+        (guarded layout (eqb (e .lsn) n) (within (g .pages) (e .page)) (link below (getD last k 0)) (link below (entryOf (logIndex g v f i) (e .page) .last))
+        (λ t. ap (link below) (last-at t)))
+        ∙ rw (ew, el, ee, er, n-is, below-is)
 
-    pub log-enters : ok ≡ true → set last i (n + 1) ≡ lasts (logIndex g v (n + 1))
+    log-enters : ok ≡ true → set last k n ≡ lasts (logIndex g v f (i + 1))
     unfolding logIndex
     log-enters t =
         let w : within (g .pages) (e .page) ≡ true =
-        all-at (layout ∷ eqb (e .lsn) (n + 1) ∷ within (g .pages) (e .page) ∷ eqb (e .prev) (getD last i 0) ∷ firstIsFormat e ∷ []) 2
-        (sym eo ∙ t) in
-        let q : e ≡ logRecord g v (suc n) = ee ∙ ap recordOf er ∙ ap (λ (k : ℕ). logRecord g v k) (add-one n) in
-        rw (inside w, same, add-one n, q) (sym (column-set (λ (x : Entry). x .last) (logIndex g v n) _ _))
+        all-at (whole ∷ layout ∷ eqb (e .lsn) n ∷ within (g .pages) (e .page) ∷ link below (getD last k 0) ∷ []) 3 (sym eo ∙ t) in
+        let q : e ≡ logRecord g v (f + i) = ee ∙ ap recordOf er ∙ ap (λ (x : ℕ). logRecord g v x) n-is in
+        rw (inside w, same, add-one i, q, n-is) (sym (column-set (λ (x : Entry). x .last) (logIndex g v f i) _ _))
+
+    pub judged-more : Judged f i last → ok ≡ true → Judged f (i + 1) (set last k n)
+    judged-more j t =
+        record {
+          held = every-more (λ x. recordFits g v f (logIndex g v f x) (f + x)) i (j .held) (sym log-judged ∙ t);
+          same = log-enters t;
+          long = length-set last k n ∙ j .long;
+        }

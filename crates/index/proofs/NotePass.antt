@@ -1,29 +1,33 @@
--- The notes as a pass sees them, and laws of one note: as it was judged, and entered.
-use mathlib.Core.Path.{_≡_, refl, sym, ap, _∙_}
-use mathlib.Core.Bool.{Bool, true, false, _&&_}
+-- Laws of the notes' scan: one note as it was judged and entered, and what all notes come to.
+use mathlib.Core.Path.{_≡_, refl, sym, ap, _∙_, subst}
+use mathlib.Core.Bool.{Bool, true, false, _&&_, _||_}
 use mathlib.Core.List.{List, [], _∷_, map}
 use Prim.Native.Nat.{ℕ, suc, _+_, _-_, _*_, _≤_, _<_}
 use native.Mathlib.Numerals.{add-one}
 use native.Mathlib.Omega.{arith}
-use lib.Dec.{eqb, lit≤}
+use lib.Dec.{eqb, leb, ltb, lit≤}
 use lib.ListN.{getD, set, List·getD-map}
-use Rattle.laws.proofs.Tables.{all-at, within-bounds}
+use Rattle.laws.proofs.Tables.{all-at, within-bounds, every-none, every-more, every-fails}
 use Rattle.laws.proofs.Fields.{field-part}
-use Rattle.model.specs.Tables.{within}
+use Rattle.model.specs.Tables.{every, within}
 use Rattle.model.specs.Bytes.{field, part}
+use Rattle.model.specs.Checksum.{sealed}
 use Rattle.model.specs.Geometry.{noteAt, logSlot, noteSlot, start, item}
 use Rattle.model.specs.Item.{recordOf, noteOf, noteLayout}
-use Rattle.model.specs.Index.{emptyEntry, entryOf, withNote, enterNote, slotUsed}
-use Rattle.model.specs.Scan.{logRecord, noteRecord, durableCount, noteCount, noteIndex, noteFollows, noteFits, validNotes}
+use Rattle.model.specs.Index.{emptyEntry, entryRow, entryOf, withNote, enterNote, slotUsed, settled}
+use Rattle.model.specs.Scan.{logRecord, noteRecord, durableCount, firstHeld, noteCount, firstNote, runIndex, noteIndex, noteFollows, noteFits, endsAt, restZero, validNotes, indexOf}
 use Rattle.model.specs.declared.geometry.Geometry.{Geometry}
 use Rattle.model.specs.declared.item.Note.{Note}
 use Rattle.model.specs.declared.state.Entry.{Entry}
 use Rattle.index.specs.Rows.{rowOf}
 use Rattle.index.specs.Columns.{Noted, Blank, earlierEntry, slotIn}
-use Rattle.index.specs.Section.{noteAfter, noteAgrees}
-use Rattle.index.proofs.ColumnLaws.{column-set, slot-in, log-written, log-slots, log-backup, noted-written, noted-slot, noted-backup}
+use Rattle.index.specs.Section.{endsIn, noteSection, noteRun, noteAfter, noteAgrees, notedIndex, notesKept}
+use Rattle.index.specs.declared.section.Run.{Run}
+use Rattle.index.specs.declared.section.Section.{Section}
+use Rattle.index.proofs.ColumnLaws.{column-set, slot-in, log-written, log-slots, log-backup, noted-written, noted-slot, noted-backup, Long, blank-long, long-set}
 use Rattle.index.proofs.Entries.{row-is}
-use Rattle.index.proofs.Pass.{guarded, Items, Spaced, run, keeps}
+use Rattle.index.proofs.Located.{note-slot, first-note-low, notes-some}
+use Rattle.index.proofs.Sections.{guarded, and-assoc}
 
 -- the page of a record, of the whole volume's bytes
 pub record-page : (g : Geometry) (v : List ℕ) (n : ℕ) → logRecord g v n .page ≡ field 2 (start g (logSlot g n) + 8) v
@@ -31,105 +35,158 @@ unfolding recordOf item
 record-page g v n = field-part 2 8 64 (start g (logSlot g n)) v (lit≤ tt)
 
 module _ (g : Geometry) (v : List ℕ) where
-  abbrev pub noteItems : Items v
-  noteItems =
-      record {
-        size = 12;
-        most = g .notes;
-        base = start g (noteAt 1);
-        bytes = λ i. item g v (noteSlot g (i + 1));
-        fit = λ i. noteFits g v (noteIndex g v i) (suc i);
-      }
+  breaks : (i : ℕ) → let k = noteCount g v in let f = firstNote g v k in
+      i < suc k - f → noteFits g v (noteIndex g v f i) (f + i) ≡ false → notesKept g v ≡ false
+  unfolding notesKept
+  breaks i b h =
+      let k = noteCount g v in
+      let f = firstNote g v k in
+      rw (every-fails (λ j. noteFits g v (noteIndex g v f j) (f + j)) (suc k - f) i b h)
 
-  pub note-spaced : Spaced v noteItems
-  unfolding item
-  note-spaced i =
-      let e : start g (noteAt 1) + (12 + 4) * i ≡ start g (noteSlot g (i + 1)) = omega arith in
-      ap (λ (k : ℕ). part v k 16) e
+  ends : let k = noteCount g v in let f = firstNote g v k in
+      every (suc k - f) (λ j. noteFits g v (noteIndex g v f j) (f + j)) ≡ true → endsIn v (noteSection g) f k ≡ notesKept g v
+  unfolding notesKept
+  ends h = rw h
 
-  pub note-keeps : keeps v noteItems ≡ validNotes g v
-  unfolding validNotes noteCount
-  note-keeps = refl
+  -- the first i notes of a run from f on fit, and gave the columns
+  pub record Entered (f i : ℕ) (written slots backup : List ℕ) : Type 0 where
+    pub held : every i (λ j. noteFits g v (noteIndex g v f j) (f + j)) ≡ true
+    pub same : Noted (noteIndex g v f i) written slots backup
+    pub long : Long written slots backup
 
-  pub note-run : run v noteItems ≡ noteCount g v
-  unfolding noteCount
-  note-run = refl
+  -- the notes' run
+  module _ (r : Run) (er : r ≡ noteRun g v) where
+    pub run-low : 1 ≤ r .first
+    run-low = rw er (first-note-low g v (noteCount g v))
+
+    pub run-some : (i : ℕ) → i < suc (r .count) - r .first → 1 ≤ g .notes
+    run-some = subst (λ (x : Run). (i : ℕ) → i < suc (x .count) - x .first → 1 ≤ g .notes) (sym er)
+        (λ i b. notes-some g v (omega (arith, first-note-low g v (noteCount g v))))
+
+    -- a note does not fit
+    pub notes-break : (i : ℕ) → i < suc (r .count) - r .first → noteFits g v (noteIndex g v (r .first) i) (r .first + i) ≡ false → notesKept g v ≡ false
+    notes-break =
+        subst (λ (x : Run). (i : ℕ) → i < suc (x .count) - x .first → noteFits g v (noteIndex g v (x .first) i) (x .first + i) ≡ false → notesKept g v ≡ false)
+        (sym er) breaks
+
+    -- all fit
+    module _ (i : ℕ) (written slots backup : List ℕ) (j : Entered (r .first) i written slots backup) (ei : i ≡ suc (r .count) - r .first) where
+      pub notes-end : (s : Section) → s ≡ noteSection g → (b : Bool) → b ≡ endsIn v s (r .first) (r .count) → b ≡ notesKept g v
+      notes-end s es b eb =
+          eb ∙ ap (λ (x : Section). endsIn v x (r .first) (r .count)) es
+          ∙ subst (λ (x : Run). every (suc (x .count) - x .first) (λ k. noteFits g v (noteIndex g v (x .first) k) (x .first + k)) ≡ true
+          → endsIn v (noteSection g) (x .first) (x .count) ≡ notesKept g v) (sym er) ends (rw ei at (j .held))
+
+      pub notes-columns : Noted (notedIndex g v) written slots backup
+      notes-columns =
+          subst (λ (x : Run). Noted (noteIndex g v (x .first) (suc (x .count) - x .first)) written slots backup) er
+          (subst (λ (k : ℕ). Noted (noteIndex g v (r .first) k) written slots backup) ei (j .same))
+
+  -- the rule of the notes, with what is judged at the end
+  pub notes-valid : validNotes g v ≡ (notesKept g v && every 64 (λ i. leb (entryRow (indexOf g v) i .written) (entryRow (indexOf g v) i .last)))
+  unfolding validNotes notesKept endsIn
+  notes-valid =
+      let k = noteCount g v in
+      let f = firstNote g v k in
+      rw (note-slot g v k)
+      (regroup (every (suc k - f) (λ j. noteFits g v (noteIndex g v f j) (f + j))) (endsAt (g .notes) k f (sealed 12 (item g v (noteAt (suc k)))))
+      (restZero 16 (g .notes) v (start g (noteAt 1)) k) (every 64 (λ i. leb (entryRow (indexOf g v) i .written) (entryRow (indexOf g v) i .last))))
+    where
+      regroup : (a b c d : Bool) → (a && (b && (c && d))) ≡ ((a && (b && c)) && d)
+      regroup a b c d = ap (λ (t : Bool). a && t) (and-assoc b c d) ∙ and-assoc a (b && c) d
 
   -- the columns before any note
-  pub note-none : (written slots backup : List ℕ) → Blank written slots backup → Noted (noteIndex g v 0) written slots backup
+  note-none : (f : ℕ) (written slots backup : List ℕ) → Blank written slots backup → Noted (noteIndex g v f 0) written slots backup
   unfolding noteIndex
-  note-none written slots backup b =
+  note-none f written slots backup b =
+      let n = durableCount g v in
+      let s = firstHeld g v n in
       record {
-        written-is = log-written g v (durableCount g v) ∙ sym (b .written-none);
-        slots-are = log-slots g v (durableCount g v) ∙ sym (b .slots-none);
-        backup-is = log-backup g v (durableCount g v) ∙ sym (b .backup-none);
+        written-is = log-written g v s (suc n - s) ∙ sym (b .written-none);
+        slots-are = log-slots g v s (suc n - s) ∙ sym (b .slots-none);
+        backup-is = log-backup g v s (suc n - s) ∙ sym (b .backup-none);
       }
 
-  -- note k + 1 as it was read and judged, after notes that gave the columns
-  module _ (few : g .pages ≤ 64) (durable : ℕ) (ed : durable ≡ durableCount g v) (k : ℕ) (written slots backup : List ℕ)
-      (same : Noted (noteIndex g v k) written slots backup)
-      (r : List ℕ) (er : r ≡ item g v (noteSlot g (k + 1))) (e : Note) (ee : e ≡ noteOf r) (i : ℕ) (ei : i ≡ rowOf (e .page))
-      (was : Entry) (ew : was ≡ earlierEntry (getD written i 0) (getD slots i 0) (getD backup i 0))
-      (used follows ok : Bool) (page : ℕ) (eu : used ≡ slotIn (e .slot) slots) (ef : follows ≡ noteAfter was e (g .slots) used)
-      (ep : page ≡ logRecord g v (e .lsn) .page) (eo : ok ≡ noteAgrees e (k + 1) (g .pages) durable page follows) where
-    read-is : e ≡ noteRecord g v (suc k)
-    read-is = ee ∙ ap noteOf er ∙ ap (λ (n : ℕ). noteRecord g v n) (add-one k)
+  pub entered-none : (f : ℕ) (written slots backup : List ℕ) → Blank written slots backup → Entered f 0 written slots backup
+  entered-none f written slots backup b =
+      record { held = every-none _; same = note-none f written slots backup b; long = blank-long written slots backup b }
 
-    inside : within (g .pages) (e .page) ≡ true → i ≡ e .page - 1
-    inside t = ei ∙ row-is (e .page) (omega (arith, within-bounds (g .pages) (e .page) t))
+  -- note k = f + i as it was read and judged, after notes that gave the columns
+  module _ (few : g .pages ≤ 64) (f i : ℕ) (written slots backup : List ℕ)
+      (same : Noted (noteIndex g v f i) written slots backup) (k : ℕ) (k-is : k ≡ f + i)
+      (r : List ℕ) (er : r ≡ item g v (noteSlot g k)) (e : Note) (ee : e ≡ noteOf r) (j : ℕ) (ej : j ≡ rowOf (e .page))
+      (was : Entry) (ew : was ≡ earlierEntry (getD written j 0) (getD slots j 0) (getD backup j 0))
+      (durable first : ℕ) (ed : durable ≡ durableCount g v) (ef : first ≡ firstHeld g v (durableCount g v))
+      (whole used follows named ok : Bool) (eh : whole ≡ sealed 12 r) (eu : used ≡ slotIn (e .slot) slots) (el : follows ≡ noteAfter was e (g .slots) used)
+      (en : named ≡ (ltb (e .lsn) first || eqb (logRecord g v (e .lsn) .page) (e .page)))
+      (eo : ok ≡ noteAgrees whole e k (g .pages) durable named follows) where
+    read-is : e ≡ noteRecord g v (f + i)
+    read-is = ee ∙ ap noteOf er ∙ ap (λ (n : ℕ). noteRecord g v n) k-is
+
+    inside : within (g .pages) (e .page) ≡ true → j ≡ e .page - 1
+    inside t = ej ∙ row-is (e .page) (omega (arith, within-bounds (g .pages) (e .page) t))
 
     -- a column at the note's page
-    at-page : (f : Entry → ℕ) → f emptyEntry ≡ 0 → (l : List ℕ) → map f (noteIndex g v k) ≡ l → within (g .pages) (e .page) ≡ true
-        → getD l i 0 ≡ f (entryOf (noteIndex g v k) (e .page))
-    at-page f z l h t =
-        ap (λ (x : List ℕ). getD x i 0) (sym h)
-        ∙ ap (λ (x : ℕ). getD (map f (noteIndex g v k)) x 0) (inside t)
-        ∙ ap (λ (x : ℕ). getD (map f (noteIndex g v k)) (e .page - 1) x) (sym z)
-        ∙ List·getD-map f (noteIndex g v k) (e .page - 1) emptyEntry
+    at-page : (h : Entry → ℕ) → h emptyEntry ≡ 0 → (l : List ℕ) → map h (noteIndex g v f i) ≡ l → within (g .pages) (e .page) ≡ true
+        → getD l j 0 ≡ h (entryOf (noteIndex g v f i) (e .page))
+    at-page h z l q t =
+        ap (λ (x : List ℕ). getD x j 0) (sym q)
+        ∙ ap (λ (x : ℕ). getD (map h (noteIndex g v f i)) x 0) (inside t)
+        ∙ ap (λ (x : ℕ). getD (map h (noteIndex g v f i)) (e .page - 1) x) (sym z)
+        ∙ List·getD-map h (noteIndex g v f i) (e .page - 1) emptyEntry
 
-    written-at : within (g .pages) (e .page) ≡ true → was .written ≡ entryOf (noteIndex g v k) (e .page) .written
+    written-at : within (g .pages) (e .page) ≡ true → was .written ≡ entryOf (noteIndex g v f i) (e .page) .written
     written-at t = ap (λ (x : Entry). x .written) ew ∙ at-page (λ (x : Entry). x .written) refl written (same .written-is) t
 
-    slot-at : within (g .pages) (e .page) ≡ true → was .slot ≡ entryOf (noteIndex g v k) (e .page) .slot
+    slot-at : within (g .pages) (e .page) ≡ true → was .slot ≡ entryOf (noteIndex g v f i) (e .page) .slot
     slot-at t = ap (λ (x : Entry). x .slot) ew ∙ at-page (λ (x : Entry). x .slot) refl slots (same .slots-are) t
 
-    backup-at : within (g .pages) (e .page) ≡ true → was .backup ≡ entryOf (noteIndex g v k) (e .page) .backup
+    backup-at : within (g .pages) (e .page) ≡ true → was .backup ≡ entryOf (noteIndex g v f i) (e .page) .backup
     backup-at t = ap (λ (x : Entry). x .backup) ew ∙ at-page (λ (x : Entry). x .backup) refl backup (same .backup-is) t
 
-    used-is : used ≡ slotUsed (e .slot) (noteIndex g v k)
-    used-is = eu ∙ ap (slotIn (e .slot)) (sym (same .slots-are)) ∙ slot-in (e .slot) (noteIndex g v k)
+    used-is : used ≡ slotUsed (e .slot) (noteIndex g v f i)
+    used-is = eu ∙ ap (slotIn (e .slot)) (sym (same .slots-are)) ∙ slot-in (e .slot) (noteIndex g v f i)
 
-    follows-is : within (g .pages) (e .page) ≡ true → follows ≡ noteFollows g (noteIndex g v k) e
+    follows-is : within (g .pages) (e .page) ≡ true → follows ≡ noteFollows g (noteIndex g v f i) e
     unfolding noteFollows
-    follows-is t = ef ∙ rw (written-at t, backup-at t, used-is)
+    follows-is t = el ∙ rw (written-at t, backup-at t, used-is)
 
-    pub note-judged : ok ≡ noteFits g v (noteIndex g v k) (suc k)
+    pub note-judged : ok ≡ noteFits g v (noteIndex g v f i) (f + i)
     unfolding noteFits
     note-judged =
         eo
-        ∙ guarded (noteLayout e) (eqb (e .number) (k + 1)) (within (g .pages) (e .page))
-        (within durable (e .lsn) && (eqb page (e .page) && follows))
-        (within (durableCount g v) (e .lsn) && (eqb (logRecord g v (e .lsn) .page) (e .page) && noteFollows g (noteIndex g v k) e))
-        (λ t. rw (ed, ep, follows-is t))
-        ∙ ap (λ (n : ℕ). noteAgrees e n (g .pages) (durableCount g v) (logRecord g v (e .lsn) .page) (noteFollows g (noteIndex g v k) e)) (add-one k)
-        ∙ ap (λ (x : Note). noteAgrees x (suc k) (g .pages) (durableCount g v) (logRecord g v (x .lsn) .page) (noteFollows g (noteIndex g v k) x)) read-is
+        ∙ ap (λ (t : Bool). whole && t)
+        (guarded (noteLayout e) (eqb (e .number) k) (within (g .pages) (e .page))
+        (within durable (e .lsn) && (named && follows))
+        (within durable (e .lsn) && (named && noteFollows g (noteIndex g v f i) e))
+        (λ t. ap (λ (x : Bool). within durable (e .lsn) && (named && x)) (follows-is t)))
+        ∙ rw (en, eh, ed, ef, ee, er, k-is)
 
     -- a column with the note entered
-    enters : (f : Entry → ℕ) (l : List ℕ) → map f (noteIndex g v k) ≡ l → (y : ℕ) → within (g .pages) (e .page) ≡ true
-        → y ≡ f (withNote (entryOf (noteIndex g v k) (e .page)) e) → map f (noteIndex g v (k + 1)) ≡ set l i y
+    enters : (h : Entry → ℕ) (l : List ℕ) → map h (noteIndex g v f i) ≡ l → (y : ℕ) → within (g .pages) (e .page) ≡ true
+        → y ≡ h (withNote (entryOf (noteIndex g v f i) (e .page)) e) → map h (noteIndex g v f (i + 1)) ≡ set l j y
     unfolding noteIndex enterNote
-    enters f l h y t ey =
-        rw (add-one k, ← read-is, inside t, ey, ← h) (column-set f (noteIndex g v k) (e .page - 1) (withNote (entryOf (noteIndex g v k) (e .page)) e))
+    enters h l q y t ey =
+        rw (add-one i, ← read-is, inside t, ey, ← q) (column-set h (noteIndex g v f i) (e .page - 1) (withNote (entryOf (noteIndex g v f i) (e .page)) e))
 
-    pub note-enters : ok ≡ true → (x : Entry) → x ≡ withNote was e
-        → Noted (noteIndex g v (k + 1)) (set written i (x .written)) (set slots i (x .slot)) (set backup i (x .backup))
+    note-enters : ok ≡ true → (x : Entry) → x ≡ withNote was e
+        → Noted (noteIndex g v f (i + 1)) (set written j (x .written)) (set slots j (x .slot)) (set backup j (x .backup))
     note-enters t x ex =
         let w : within (g .pages) (e .page) ≡ true =
-        all-at (noteLayout e ∷ eqb (e .number) (k + 1) ∷ within (g .pages) (e .page) ∷ within durable (e .lsn) ∷ eqb page (e .page) ∷ follows ∷ []) 2
+        all-at (whole ∷ noteLayout e ∷ eqb (e .number) k ∷ within (g .pages) (e .page) ∷ within durable (e .lsn) ∷ named ∷ follows ∷ []) 3
         (sym eo ∙ t) in
-        let b = entryOf (noteIndex g v k) (e .page) in
+        let b = entryOf (noteIndex g v f i) (e .page) in
         record {
           written-is = enters (λ (q : Entry). q .written) written (same .written-is) (x .written) w (ap (λ (q : Entry). q .written) ex ∙ noted-written was b e (written-at w));
           slots-are = enters (λ (q : Entry). q .slot) slots (same .slots-are) (x .slot) w (ap (λ (q : Entry). q .slot) ex ∙ noted-slot was b e (slot-at w));
           backup-is = enters (λ (q : Entry). q .backup) backup (same .backup-is) (x .backup) w (ap (λ (q : Entry). q .backup) ex ∙ noted-backup was b e (backup-at w));
+        }
+
+    pub entered-more : Entered f i written slots backup → ok ≡ true → (x : Entry) → x ≡ withNote was e
+        → Entered f (i + 1) (set written j (x .written)) (set slots j (x .slot)) (set backup j (x .backup))
+    entered-more n t x ex =
+        record {
+          held = every-more (λ z. noteFits g v (noteIndex g v f z) (f + z)) i (n .held) (sym note-judged ∙ t);
+          same = note-enters t x ex;
+          long = long-set written slots backup (n .long) j (x .written) (x .slot) (x .backup);
         }

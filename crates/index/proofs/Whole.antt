@@ -1,31 +1,26 @@
 -- Laws of the whole scan: what its sections come to, refusal by refusal, and what a clean one gives.
 use mathlib.Core.Path.{_≡_, refl, sym, ap, _∙_}
-use mathlib.Core.Bool.{Bool, true, false, cond, not}
+use mathlib.Core.Bool.{Bool, true, false, cond, not, _&&_}
 use mathlib.Core.List.{List, [], _∷_}
-use Prim.Native.Nat.{ℕ, _≤_}
+use Prim.Native.Nat.{ℕ, suc, _-_, _≤_}
 use borrow.Author.Tests.{eqb-false}
-use Rattle.laws.proofs.Tables.{when-true}
+use Rattle.laws.proofs.Tables.{and-left}
 use Rattle.laws.proofs.Places.{valid-facts}
-use Rattle.model.specs.Tables.{firstOf}
+use Rattle.model.specs.Tables.{firstOf, every}
 use Rattle.model.specs.Geometry.{geometryOf, validVolume}
-use Rattle.model.specs.Scan.{validLog, durableCount, logIndex, validNotes, noteCount, noteIndex, indexOf}
+use Rattle.model.specs.Index.{entryOf, settled}
+use Rattle.model.specs.Scan.{validLog, durableCount, firstHeld, runIndex, validNotes, noteCount, firstNote, noteIndex, indexOf}
 use Rattle.model.specs.declared.geometry.Geometry.{Geometry}
 use Rattle.model.specs.declared.state.Entry.{Entry}
-use Rattle.index.specs.Columns.{lasts, Noted, Columns}
-use Rattle.index.specs.Section.{Sized, sectionOf, logSection, noteSection}
-use Rattle.index.specs.Scanned.{scanRows, scanRefusal, scannedIndex, countsOf, scannedOf}
-use Rattle.index.specs.declared.section.Section.{Section}
+use Rattle.index.specs.Columns.{lasts, Noted, Columns, columnRow, columnsOrdered}
+use Rattle.index.specs.Section.{Sized, logRun, noteRun, notedIndex, notesKept}
+use Rattle.index.specs.Scanned.{scanRows, scanRefusal, columnIndex, scannedIndex, countsOf, foundOf, scannedOf}
+use Rattle.index.specs.declared.section.Run.{Run}
 use Rattle.index.specs.declared.Counts.{Counts}
+use Rattle.index.specs.declared.Found.{Found}
 use Rattle.index.specs.declared.Scanned.{Scanned}
-use Rattle.index.proofs.ColumnLaws.{log-durable, note-last, note-durable}
-
--- a section that was found valid or not
-section-valid : (t : Bool) (n : ℕ) → sectionOf t n .valid ≡ t
-section-valid true n = refl
-section-valid false n = refl
-
-section-count : (t : Bool) (n : ℕ) → t ≡ true → sectionOf t n .count ≡ n
-section-count t n h = ap (λ (s : Section). s .count) (when-true _ _ h)
+use Rattle.index.proofs.ColumnLaws.{log-durable, note-last, note-durable, settled-row, ordered-is}
+use Rattle.index.proofs.NotePass.{notes-valid}
 
 -- the scan's number, by the tests that were made
 scan-from : (v : List ℕ) (a b c : Bool) → validVolume v ≡ a → validLog (geometryOf v) v ≡ b → validNotes (geometryOf v) v ≡ c
@@ -51,61 +46,56 @@ gives v r index e i =
     ap (λ (k : Counts). record { refusal = k .refusal; durable = k .durable; notes = k .notes; index = index }) e
     ∙ ap (λ (l : List Entry). record { refusal = 0; durable = durableCount (geometryOf v) v; notes = noteCount (geometryOf v) v; index = l }) i
 
+-- and with one page's entry
+pub finds : (v : List ℕ) (r : Counts) (page : ℕ) (e : Entry) (last written slots backup : List ℕ) → r ≡ countsOf v
+    → Columns (columnIndex v) last written slots backup → e ≡ columnRow last written slots backup (page - 1)
+    → _≡_ {A = Found} (record { refusal = r .refusal; first = r .first; entry = e }) (foundOf v page)
+finds v r page e last written slots backup er c ee =
+    ap (λ (k : Counts). record { refusal = k .refusal; first = k .first; entry = e }) er
+    ∙ ap (λ (x : Entry). record { refusal = 0; first = countsOf v .first; entry = x }) (ee ∙ settled-row (columnIndex v) last written slots backup c (page - 1))
+
 module _ (v : List ℕ) (ok : validVolume v ≡ true) (g : Geometry) (eg : g ≡ geometryOf v) where
   pub sized : Sized g v
   sized =
       rw eg (let f = valid-facts v ok in
-      record { pages = f .p-high; slots = f .b-high; records = f .l-high; notes = f .n-high; size = f .size })
+      record { pages = f .p-high; slots = f .b-high; some = f .l-low; records = f .l-high; notes = f .n-high; size = f .size })
 
-  module _ (s : Section) (es : s ≡ logSection g v) where
-    log-valid : s .valid ≡ validLog (geometryOf v) v
-    unfolding logSection
-    log-valid =
-        ap (λ (x : Section). x .valid) es ∙ section-valid (validLog g v) (durableCount g v) ∙ ap (λ (x : Geometry). validLog x v) eg
+  module _ (s : Bool) (es : s ≡ validLog g v) where
+    log-valid : s ≡ validLog (geometryOf v) v
+    log-valid = es ∙ ap (λ (x : Geometry). validLog x v) eg
 
-    pub log-refused : s .valid ≡ false → scanRefusal v ≡ 17
+    pub log-refused : s ≡ false → scanRefusal v ≡ 17
     log-refused h = scan-from v true false _ ok (sym log-valid ∙ h) refl
 
-    module _ (h : s .valid ≡ true) where
-      pub log-count : s .count ≡ durableCount g v
-      unfolding logSection
-      log-count =
-          ap (λ (x : Section). x .count) es
-          ∙ section-count (validLog g v) (durableCount g v) (ap (λ (x : Geometry). validLog x v) eg ∙ sym log-valid ∙ h)
+    module _ (h : s ≡ true) (last written slots backup : List ℕ) (l : s ≡ true → last ≡ lasts (runIndex g v)) (k : Bool) (ek : k ≡ notesKept g v)
+        (n : k ≡ true → Noted (notedIndex g v) written slots backup) (o : Bool) (eo : o ≡ columnsOrdered last written slots backup) where
+      columns-are : k ≡ true → Columns (notedIndex g v) last written slots backup
+      columns-are t =
+          let f = firstNote g v (noteCount g v) in
+          let c = suc (noteCount g v) - f in
+          let d = firstHeld g v (durableCount g v) in
+          record {
+            last-is = note-last g v f c ∙ sym (l h);
+            durable-is = note-durable g v f c ∙ log-durable g v d (suc (durableCount g v) - d) ∙ sym (l h);
+            noted = n t;
+          }
 
-      module _ (k : Section) (ek : k ≡ noteSection g v) where
-        notes-valid : k .valid ≡ validNotes (geometryOf v) v
-        unfolding noteSection
-        notes-valid =
-            ap (λ (x : Section). x .valid) ek ∙ section-valid (validNotes g v) (noteCount g v) ∙ ap (λ (x : Geometry). validNotes x v) eg
+      notes-are : (t : Bool) → k ≡ t → (t && o) ≡ validNotes (geometryOf v) v
+      notes-are false e = sym (ap (λ (x : Geometry). validNotes x v) (sym eg) ∙ notes-valid g v ∙ rw (← ek, e))
+      notes-are true e =
+          let q = eo ∙ ordered-is (notedIndex g v) last written slots backup (columns-are e) in
+          sym (ap (λ (x : Geometry). validNotes x v) (sym eg) ∙ notes-valid g v ∙ rw (← ek, e) (sym q))
 
-        pub notes-refused : k .valid ≡ false → scanRefusal v ≡ 18
-        notes-refused f = scan-from v true true false ok (sym log-valid ∙ h) (sym notes-valid ∙ f)
+      decided : (k && o) ≡ validNotes (geometryOf v) v
+      decided = notes-are k refl
 
-        module _ (t : k .valid ≡ true) where
-          notes-count : k .count ≡ noteCount g v
-          unfolding noteSection
-          notes-count =
-              ap (λ (x : Section). x .count) ek
-              ∙ section-count (validNotes g v) (noteCount g v) (ap (λ (x : Geometry). validNotes x v) eg ∙ sym notes-valid ∙ t)
+      pub notes-refused : (k && o) ≡ false → scanRefusal v ≡ 18
+      notes-refused f = scan-from v true true false ok (sym log-valid ∙ h) (sym decided ∙ f)
 
-          columns-are : (last written slots backup : List ℕ) → last ≡ lasts (logIndex g v (s .count)) → Noted (noteIndex g v (k .count)) written slots backup
-              → Columns (scannedIndex v) last written slots backup
-          columns-are last written slots backup l n =
-              let e : last ≡ lasts (logIndex g v (durableCount g v)) = l ∙ ap (λ (i : ℕ). lasts (logIndex g v i)) log-count in
-              rw (← eg)
-              (record {
-                last-is = note-last g v (noteCount g v) ∙ sym e;
-                durable-is = note-durable g v (noteCount g v) ∙ log-durable g v (durableCount g v) ∙ sym e;
-                noted = rw (← notes-count) n;
-              })
-
-          pub scan-clean : (last written slots backup : List ℕ)
-              → (s .valid ≡ true → last ≡ lasts (logIndex g v (s .count)))
-              → (k .valid ≡ true → Noted (noteIndex g v (k .count)) written slots backup)
-              → let r : Counts = record { refusal = 0; durable = s .count; notes = k .count } in
-              (r .refusal ≡ scanRefusal v) × ((r .refusal ≡ 0 → r ≡ countsOf v) × (r .refusal ≡ 0 → Columns (scannedIndex v) last written slots backup))
-          scan-clean last written slots backup l n = (
-            sym (clean v ok (sym log-valid ∙ h) (sym notes-valid ∙ t)),
-            (λ z. rw (log-count, notes-count, eg), λ z. columns-are last written slots backup (l h) (n t)),
-          )
+      pub scan-clean : (k && o) ≡ true → (a b : Run) → a ≡ logRun g v → b ≡ noteRun g v
+          → let r : Counts = record { refusal = 0; first = a .first; durable = a .count; notes = b .count } in
+          (r .refusal ≡ scanRefusal v) × ((r .refusal ≡ 0 → r ≡ countsOf v) × (r .refusal ≡ 0 → Columns (columnIndex v) last written slots backup))
+      scan-clean t a b ea eb = (
+        sym (clean v ok (sym log-valid ∙ h) (sym decided ∙ t)),
+        (λ z. rw (ea, eb, eg), λ z. rw (← eg) (columns-are (and-left k o t))),
+      )

@@ -1,11 +1,12 @@
--- The index by columns: a list for each field of its entries, as a scan fills them. A scan finds no pending record, so that
--- one column holds the last and the durable numbers.
+-- The index by columns: a list for each field of its entries, as a scan fills them. A scan finds no pending record, so that one column holds
+-- the last and the durable numbers. The columns are those before a restart's last step, which is made with a row.
 use Prim.Native.Nat.{ℕ, _-_}
 use mathlib.Core.Path.{_≡_}
-use mathlib.Core.Bool.{Bool, false, _||_}
+use mathlib.Core.Bool.{Bool, false, cond, _||_}
 use mathlib.Core.List.{List, [], _∷_, map}
-use lib.Dec.{eqb}
+use lib.Dec.{eqb, leb}
 use lib.ListN.{length, getD, replicate}
+use Rattle.model.specs.Tables.{every}
 use Rattle.model.specs.declared.state.Entry.{Entry}
 
 abbrev pub lasts : List Entry → List ℕ
@@ -45,10 +46,16 @@ pub record Blank (written slots backup : List ℕ) : Type 0 where
 abbrev pub earlierEntry : ℕ → ℕ → ℕ → Entry
 earlierEntry written slot backup = record { last = 0; durable = 0; written = written; slot = slot; backup = backup }
 
--- row i of columns, counted from 0
+-- row i of columns, counted from 0: a page with no record in the run stands at its last noted backup
 abbrev pub columnRow : List ℕ → List ℕ → List ℕ → List ℕ → ℕ → Entry
 columnRow last written slots backup i =
-    record { last = getD last i 0; durable = getD last i 0; written = getD written i 0; slot = getD slots i 0; backup = getD backup i 0 }
+    let n = cond (eqb (getD last i 0) 0) (getD backup i 0) (getD last i 0) in
+    record { last = n; durable = n; written = getD written i 0; slot = getD slots i 0; backup = getD backup i 0 }
+
+-- no written number is above its page's last
+unfoldable pub columnsOrdered : List ℕ → List ℕ → List ℕ → List ℕ → Bool
+columnsOrdered last written slots backup =
+    every 64 (λ i. leb (columnRow last written slots backup i .written) (columnRow last written slots backup i .last))
 
 -- the slot is in the column of slots
 unfoldable pub slotIn : ℕ → List ℕ → Bool

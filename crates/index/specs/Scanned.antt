@@ -4,10 +4,13 @@ use mathlib.Core.Bool.{not}
 use mathlib.Core.List.{List, [], _∷_}
 use Rattle.model.specs.Tables.{Row, firstOf}
 use Rattle.model.specs.Geometry.{geometryOf, validVolume}
-use Rattle.model.specs.Scan.{validLog, durableCount, validNotes, noteCount, indexOf}
+use Rattle.model.specs.Index.{entryOf}
+use Rattle.model.specs.Scan.{validLog, durableCount, firstHeld, validNotes, noteCount, indexOf}
 use Rattle.model.specs.declared.state.Entry.{Entry}
 use Rattle.index.specs.declared.Counts.{Counts}
 use Rattle.index.specs.declared.Scanned.{Scanned}
+use Rattle.index.specs.declared.Found.{Found}
+use Rattle.index.specs.Section.{notedIndex}
 
 unfoldable pub scanRows : List ℕ → List Row
 scanRows v =
@@ -17,14 +20,22 @@ scanRows v =
 abbrev pub scanRefusal : List ℕ → ℕ
 scanRefusal v = firstOf (scanRows v)
 
--- the index that a clean scan gives
+-- the index whose columns a clean scan fills, before a restart's last step, and the one that it gives
+abbrev pub columnIndex : List ℕ → List Entry
+columnIndex v = notedIndex (geometryOf v) v
+
 abbrev pub scannedIndex : List ℕ → List Entry
 scannedIndex v = indexOf (geometryOf v) v
 
 -- what a clean scan counts, and what it gives
 abbrev pub countsOf : List ℕ → Counts
-countsOf v = record { refusal = 0; durable = durableCount (geometryOf v) v; notes = noteCount (geometryOf v) v }
+countsOf v =
+    let g = geometryOf v in
+    record { refusal = 0; first = firstHeld g v (durableCount g v); durable = durableCount g v; notes = noteCount g v }
 
 abbrev pub scannedOf : List ℕ → Scanned
 scannedOf v =
     record { refusal = 0; durable = durableCount (geometryOf v) v; notes = noteCount (geometryOf v) v; index = scannedIndex v }
+
+abbrev pub foundOf : List ℕ → ℕ → Found
+foundOf v page = record { refusal = 0; first = countsOf v .first; entry = entryOf (scannedIndex v) page }

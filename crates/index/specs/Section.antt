@@ -1,57 +1,102 @@
 -- What the scan of one section of a volume, its log or its notes, gives.
-use Prim.Native.Nat.{ℕ, _≤_}
+use Prim.Native.Nat.{ℕ, suc, _+_, _-_, _*_, _%_, _≤_}
 use mathlib.Core.Path.{_≡_}
-use mathlib.Core.Bool.{Bool, true, false, cond, _&&_, not}
+use mathlib.Core.Bool.{Bool, cond, _&&_, _||_, not}
 use mathlib.Core.List.{List, [], _∷_}
 use lib.Dec.{eqb, leb}
 use lib.ListN.{length}
-use Rattle.model.specs.Tables.{all, within}
-use Rattle.model.specs.Geometry.{lengthFor}
+use Rattle.model.specs.Tables.{all, every, within}
+use Rattle.model.specs.Bytes.{part}
+use Rattle.model.specs.Checksum.{sealed, sealedRun}
+use Rattle.model.specs.Geometry.{lengthFor, recordAt, noteAt, start, ring, noteRing}
 use Rattle.model.specs.Item.{firstIsFormat, noteLayout, isWritten}
-use Rattle.model.specs.Scan.{validLog, durableCount, validNotes, noteCount}
+use Rattle.model.specs.Scan.{highest, restZero, endsAt, durableCount, firstHeld, noteCount, firstNote, noteIndex, noteFits}
 use Rattle.model.specs.declared.geometry.Geometry.{Geometry}
 use Rattle.model.specs.declared.item.LogRecord.{LogRecord}
 use Rattle.model.specs.declared.item.Note.{Note}
 use Rattle.model.specs.declared.state.Entry.{Entry}
 use Rattle.index.specs.declared.section.Section.{Section}
+use Rattle.index.specs.declared.section.Run.{Run}
 
 -- what a valid volume tells of its counts and its length
 pub record Sized (g : Geometry) (v : List ℕ) : Type 0 where
   pub pages : g .pages ≤ 64
   pub slots : g .slots ≤ 128
+  pub some : 1 ≤ g .records
   pub records : g .records ≤ 1024
   pub notes : g .notes ≤ 1024
   pub size : length v ≡ lengthFor (g .pages) (g .slots) (g .records) (g .notes)
 
+-- ---- any section
+
+-- a section lies within the volume; one without slots lies at its end
+pub record Placed (v : List ℕ) (s : Section) : Type 0 where
+  pub room : s .at + (s .size + 4) * s .slots ≤ length v
+  pub short : s .size ≤ 252
+  pub few : s .slots ≤ 1024
+  pub none : s .slots ≡ 0 → length v ≤ s .at
+
+-- slot i of a section, counted from 0
+abbrev pub slotBytes : List ℕ → Section → ℕ → List ℕ
+slotBytes v s i = part v (s .at + (s .size + 4) * i) (s .size + 4)
+
+-- the model's `highest`, by places
+abbrev pub highestAt : ℕ → List ℕ → ℕ → ℕ → ℕ
+highestAt c v at count = highest c (λ i. part v (at + (c + 4) * (i - 1)) (c + 4)) count
+
+-- how many numbers were given, the run start for n of them, and what follows the run
+unfoldable pub countIn : List ℕ → Section → ℕ
+countIn v s = cond (s .ring) (highestAt (s .size) v (s .at) (s .slots)) (sealedRun (s .size) (s .slots) v (s .at))
+
+unfoldable pub firstIn : List ℕ → Section → ℕ → ℕ
+firstIn v s n =
+    let below = n - s .slots in
+    cond (s .ring) (cond (sealed (s .size) (slotBytes v s (below % s .slots))) (suc below) (suc (suc below))) 1
+
+unfoldable pub endsIn : List ℕ → Section → ℕ → ℕ → Bool
+endsIn v s f n = endsAt (s .slots) n f (sealed (s .size) (slotBytes v s n)) && restZero (s .size + 4) (s .slots) v (s .at) n
+
+-- ---- the log and the notes
+
+abbrev pub logSection : Geometry → Section
+logSection g = record { ring = ring g; at = start g (recordAt 1); size = 60; slots = g .records }
+
+abbrev pub noteSection : Geometry → Section
+noteSection g = record { ring = noteRing g; at = start g (noteAt 1); size = 12; slots = g .notes }
+
+abbrev pub logRun : Geometry → List ℕ → Run
+logRun g v = record { first = firstHeld g v (durableCount g v); count = durableCount g v }
+
+abbrev pub noteRun : Geometry → List ℕ → Run
+noteRun g v = record { first = firstNote g v (noteCount g v); count = noteCount g v }
+
+-- the index that the log and the notes give, before a restart's last step
+abbrev pub notedIndex : Geometry → List ℕ → List Entry
+notedIndex g v = let k = noteCount g v in let f = firstNote g v k in noteIndex g v f (suc k - f)
+
+-- the notes keep the restart rule, but for what is judged at the end
+unfoldable pub notesKept : Geometry → List ℕ → Bool
+notesKept g v =
+    let k = noteCount g v in
+    let f = firstNote g v k in
+    every (suc k - f) (λ i. noteFits g v (noteIndex g v f i) (f + i)) && endsIn v (noteSection g) f k
+
 -- ---- an item's test and its entry, of what was read for them
 
--- recordFits, of a record's fields and its page's last earlier record
-abbrev pub recordFollows : Bool → LogRecord → ℕ → ℕ → ℕ → Bool
-recordFollows layout e pages last n =
-    all (layout ∷ eqb (e .lsn) n ∷ within pages (e .page) ∷ eqb (e .prev) last ∷ firstIsFormat e ∷ [])
+-- recordFits, of a record's fields and its page's last earlier record; numbers up to `below` are below the run
+abbrev pub recordFollows : Bool → Bool → LogRecord → ℕ → ℕ → ℕ → ℕ → Bool
+recordFollows whole layout e pages below last n =
+    all
+    (whole ∷ layout ∷ eqb (e .lsn) n ∷ within pages (e .page)
+    ∷ ((eqb (e .prev) last || (eqb last 0 && within below (e .prev))) && firstIsFormat e) ∷ [])
 
 -- noteFollows, of its page's entry and whether its slot is in the index
 abbrev pub noteAfter : Entry → Note → ℕ → Bool → Bool
 noteAfter e n slots used =
     cond (isWritten n) (leb (e .written) (n .lsn)) (all (leb (e .backup) (n .lsn) ∷ within slots (n .slot) ∷ not used ∷ []))
 
--- noteFits, of a note's fields and the page of the record that it names
-abbrev pub noteAgrees : Note → ℕ → ℕ → ℕ → ℕ → Bool → Bool
-noteAgrees n k pages durable page follows =
+-- noteFits, of a note's fields and whether it may name its record
+abbrev pub noteAgrees : Bool → Note → ℕ → ℕ → ℕ → Bool → Bool → Bool
+noteAgrees whole n k pages durable named follows =
     all
-    (noteLayout n ∷ eqb (n .number) k ∷ within pages (n .page) ∷ within durable (n .lsn) ∷ eqb page (n .page) ∷ follows ∷ [])
-
--- ---- a section
-
-abbrev pub brokenSection : Section
-brokenSection = record { valid = false; count = 0 }
-
--- the section keeps the rule, and the count of its items
-abbrev pub sectionOf : Bool → ℕ → Section
-sectionOf keeps n = cond keeps (record { valid = true; count = n }) brokenSection
-
-unfoldable pub logSection : Geometry → List ℕ → Section
-logSection g v = sectionOf (validLog g v) (durableCount g v)
-
-unfoldable pub noteSection : Geometry → List ℕ → Section
-noteSection g v = sectionOf (validNotes g v) (noteCount g v)
+    (whole ∷ noteLayout n ∷ eqb (n .number) k ∷ within pages (n .page) ∷ within durable (n .lsn) ∷ named ∷ follows ∷ [])

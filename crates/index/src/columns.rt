@@ -1,10 +1,14 @@
-// The index by columns: searched for a backup slot, one entry made from it, and all of them.
+// The index by columns: searched for a backup slot, one entry made from it, and all of them. An entry is made with a restart's last step: a page
+// with no record in the run stands at its last noted backup.
 ghost use mathlib.Core.Path.{_≡_};
-ghost use mathlib.Core.List.{List};
+ghost use mathlib.Core.Bool.{cond};
+ghost use mathlib.Core.List.{List, map};
 ghost use Prim.Native.Nat.{_-_, _<_};
+ghost use lib.Dec.{eqb};
 ghost use lib.ListN.{length};
+ghost use Rattle.model.specs.Index.{settled};
 ghost use Rattle.model.specs.declared.state.Entry as entries;
-ghost use Rattle.index.specs.Columns.{Columns, Wide, columnRow, slotIn};
+ghost use Rattle.index.specs.Columns.{Columns, Wide, columnRow, columnsOrdered, slotIn};
 use crate::rows;
 use model::state::Entry;
 
@@ -29,6 +33,13 @@ pub fn used(slots: &[u8], slot: u32) -> bool
     false
 }
 
+// The last number of a page, of its last record in the run (0: none) and its noted backup.
+fn standing(last: u32, backup: u32) -> u32
+    ensures { λ r. ⌜ r ≡ cond (eqb last 0) backup last ⌝ }
+{
+    if last == 0 { backup } else { last }
+}
+
 // Row i.
 fn row(last: &[u32], written: &[u32], slots: &[u8], backup: &[u32], i: usize) -> Entry
     requires { ⌜ Wide (now last) (now written) (now slots) (now backup) ⌝ }
@@ -36,7 +47,7 @@ fn row(last: &[u32], written: &[u32], slots: &[u8], backup: &[u32], i: usize) ->
     ensures { λ r. ⌜ r
         ≡ columnRow (now (last .entry)) (now (written .entry)) (now (slots .entry)) (now (backup .entry)) i ⌝ }
 {
-    let n = last[i];
+    let n = standing(last[i], backup[i]);
     Entry {
         last: n,
         durable: n,
@@ -59,11 +70,28 @@ pub fn entry(last: &[u32], written: &[u32], slots: &[u8], backup: &[u32], page: 
     }
 }
 
+// No page's written number is above its last.
+pub fn ordered(last: &[u32], written: &[u32], slots: &[u8], backup: &[u32]) -> bool
+    requires { ⌜ Wide (now last) (now written) (now slots) (now backup) ⌝ }
+    ensures { λ r. ⌜ r
+        ≡ columnsOrdered (now (last .entry)) (now (written .entry)) (now (slots .entry)) (now (backup .entry)) ⌝ }
+{
+    let mut i: usize = 0;
+    while i < 64 {
+        let e = row(last, written, slots, backup, i);
+        if e.last < e.written {
+            return false;
+        }
+        i += 1;
+    }
+    true
+}
+
 // All entries.
 pub fn gather(last: &[u32], written: &[u32], slots: &[u8], backup: &[u32]) -> [Entry; 64]
     requires { ⌜ Wide (now last) (now written) (now slots) (now backup) ⌝ }
     ensures { λ r. ⌜ ((x : List entries.Entry)
-        → Columns x (now (last .entry)) (now (written .entry)) (now (slots .entry)) (now (backup .entry)) → r ≡ x) ⌝ }
+        → Columns x (now (last .entry)) (now (written .entry)) (now (slots .entry)) (now (backup .entry)) → r ≡ map settled x) ⌝ }
 {
     let mut index = [rows::EMPTY; 64];
     let mut i: usize = 0;

@@ -1,9 +1,8 @@
 // The scan of a volume's log and notes into the page recovery index, for any bytes and without memory or state.
 ghost use mathlib.Core.Path.{_≡_};
 ghost use lib.ListN.{replicate};
-ghost use Rattle.model.specs.Index.{entryOf};
 ghost use Rattle.index.specs.Columns.{Blank, Columns};
-ghost use Rattle.index.specs.Scanned.{scanRefusal, scannedIndex, countsOf, scannedOf};
+ghost use Rattle.index.specs.Scanned.{scanRefusal, columnIndex, foundOf, countsOf, scannedOf};
 
 pub mod columns;
 pub mod log;
@@ -14,9 +13,10 @@ pub mod section;
 use model::state::Entry;
 use volume::heading;
 
-// What a scan counts: 0 or the refusal, and the counts of durable log records and of notes.
+// What a scan counts: 0 or the refusal, the log's run start, and the counts of durable log records and of notes.
 pub struct Counts {
     pub refusal: u32,
+    pub first: u64,
     pub durable: u32,
     pub notes: u32,
 }
@@ -29,9 +29,10 @@ pub struct Scanned {
     pub index: [Entry; 64],
 }
 
-// What a scan gives of one page.
+// What a scan gives of one page, with the log's run start.
 pub struct Found {
     pub refusal: u32,
+    pub first: u64,
     pub entry: Entry,
 }
 
@@ -40,6 +41,7 @@ fn refused(n: u32) -> Counts
 {
     Counts {
         refusal: n,
+        first: 0,
         durable: 0,
         notes: 0,
     }
@@ -58,25 +60,26 @@ fn fill(
     ensures refusal { λ r. ⌜ r .refusal ≡ scanRefusal (now (volume .entry)) ⌝ }
     ensures counts { λ r. ⌜ (r .refusal ≡ 0 → r ≡ countsOf (now (volume .entry))) ⌝ }
     ensures columns { λ r. ⌜ (r .refusal ≡ 0
-        → Columns (scannedIndex (now (volume .entry)))
-        (now (last .exit)) (now (written .exit)) (now (slots .exit)) (now (backup .exit))) ⌝ }
+        → Columns (columnIndex (now (volume .entry))) (now (last .exit)) (now (written .exit)) (now (slots .exit)) (now (backup .exit))) ⌝ }
 {
     if !heading::valid(volume) {
         return refused(1);
     }
     let g = heading::geometry(volume);
-    let logged = log::scan(volume, g, last);
-    if !logged.valid {
+    let records = log::run(volume, g);
+    if !log::scan(volume, g, records, last) {
         return refused(17);
     }
-    let noted = notes::scan(volume, g, logged.count, written, slots, backup);
-    if !noted.valid {
+    let numbers = notes::run(volume, g);
+    let kept = notes::scan(volume, g, records, numbers, written, slots, backup);
+    if !(kept & columns::ordered(last, written, slots, backup)) {
         return refused(18);
     }
     Counts {
         refusal: 0,
-        durable: logged.count,
-        notes: noted.count,
+        first: records.first,
+        durable: records.count,
+        notes: numbers.count,
     }
 }
 
@@ -102,7 +105,7 @@ pub fn scan(volume: &[u8]) -> Scanned
 // Scans a volume for one page's entry, without an array of all entries.
 pub fn find(volume: &[u8], page: u32) -> Found
     ensures refusal { λ r. ⌜ r .refusal ≡ scanRefusal (now (volume .entry)) ⌝ }
-    ensures clean { λ r. ⌜ (r .refusal ≡ 0 → r .entry ≡ entryOf (scannedIndex (now (volume .entry))) page) ⌝ }
+    ensures clean { λ r. ⌜ (r .refusal ≡ 0 → r ≡ foundOf (now (volume .entry)) page) ⌝ }
 {
     let mut last = [0u32; 64];
     let mut written = [0u32; 64];
@@ -112,6 +115,7 @@ pub fn find(volume: &[u8], page: u32) -> Found
     let entry = columns::entry(&last, &written, &slots, &backup, page);
     Found {
         refusal: counts.refusal,
+        first: counts.first,
         entry,
     }
 }

@@ -2,57 +2,99 @@
 ghost use mathlib.Core.Path.{_≡_};
 ghost use mathlib.Core.Bool.{true};
 ghost use lib.ListN.{replicate};
-ghost use Rattle.model.specs.Scan.{logIndex};
+ghost use Rattle.model.specs.Scan as scans;
 ghost use Rattle.index.specs.Columns.{lasts};
-ghost use Rattle.index.specs.Section.{Sized, recordFollows, logSection};
+ghost use Rattle.index.specs.Section.{Sized, logSection, logRun, recordFollows};
 use crate::rows;
 use crate::section;
+use crate::section::Run;
 use crate::section::Section;
 use codec::checksum;
 use item::record;
 use model::geometry::Geometry;
 use model::item::LogRecord;
 use volume::place;
+use volume::ring;
 
-// Record n of a volume with these pages, of a page whose last earlier record is `last`.
-fn fits(layout: bool, e: LogRecord, pages: u32, last: u32, n: u32) -> bool
-    ensures { λ r. ⌜ r ≡ recordFollows layout e pages last n ⌝ }
+// Where the log lies.
+fn locate(g: Geometry) -> Section
+    ensures { λ r. ⌜ r ≡ logSection g ⌝ }
 {
-    let page = e.page as u32;
-    let inside = (1 <= page) & (page <= pages);
-    layout & ((e.lsn == n) & (inside & ((e.prev == last) & ((e.kind == 1) | (1 <= e.prev)))))
+    Section {
+        ring: ring::ring(g),
+        at: place::record_at(g, 1),
+        size: 60,
+        slots: g.records,
+    }
 }
 
-// Scans the log into the column of last numbers.
-pub fn scan(volume: &[u8], g: Geometry, last: &mut [u32]) -> Section
+// The run start, with n records.
+pub fn first(volume: &[u8], g: Geometry, n: u32) -> u64
     requires { ⌜ Sized g (now volume) ⌝ }
-    requires { ⌜ now last ≡ replicate 64 0 ⌝ }
-    ensures section { λ r. ⌜ r ≡ logSection g (now (volume .entry)) ⌝ }
-    ensures last { λ r. ⌜ (r .valid ≡ true → now (last .exit) ≡ lasts (logIndex g (now (volume .entry)) (r .count))) ⌝ }
+    ensures { λ r. ⌜ r ≡ scans.firstHeld g (now (volume .entry)) n ⌝ }
 {
-    let records = g.records;
+    section::first(volume, locate(g), n)
+}
+
+// The numbers that the log holds.
+pub fn run(volume: &[u8], g: Geometry) -> Run
+    requires { ⌜ Sized g (now volume) ⌝ }
+    ensures { λ r. ⌜ r ≡ logRun g (now (volume .entry)) ⌝ }
+{
+    let count = section::count(volume, locate(g));
+    Run {
+        first: first(volume, g, count),
+        count,
+    }
+}
+
+// Record 1 has left the log.
+pub fn gone(volume: &[u8], g: Geometry) -> bool
+    requires { ⌜ Sized g (now volume) ⌝ }
+    ensures { λ r. ⌜ r ≡ scans.gone g (now (volume .entry)) ⌝ }
+{
+    let r = run(volume, g);
+    (0 < r.count) & (1 < r.first)
+}
+
+// Record n of a volume with these pages, whole and of a right layout or not, of a page whose last earlier record in the run is `last`. Numbers
+// up to `below` are below the run, and are not looked up.
+fn fits(whole: bool, layout: bool, e: LogRecord, pages: u32, below: u64, last: u32, n: u32) -> bool
+    ensures { λ r. ⌜ r ≡ recordFollows whole layout e pages below last n ⌝ }
+{
+    let page = e.page as u32;
+    let prev = e.prev as u64;
+    let inside = (1 <= page) & (page <= pages);
+    let earlier = (last == 0) & ((1 <= prev) & (prev <= below));
+    let linked = ((e.prev == last) | earlier) & ((e.kind == 1) | (1 <= e.prev));
+    whole & (layout & ((e.lsn == n) & (inside & linked)))
+}
+
+// Scans the log into the column of last numbers: whether it keeps the restart rule.
+pub fn scan(volume: &[u8], g: Geometry, run: Run, last: &mut [u32]) -> bool
+    requires { ⌜ Sized g (now volume) ⌝ }
+    requires { ⌜ run ≡ logRun g (now volume) ⌝ }
+    requires { ⌜ now last ≡ replicate 64 0 ⌝ }
+    ensures valid { λ r. ⌜ r ≡ scans.validLog g (now (volume .entry)) ⌝ }
+    ensures last { λ r. ⌜ (r ≡ true → now (last .exit) ≡ lasts (scans.runIndex g (now (volume .entry)))) ⌝ }
+{
     let pages = g.pages;
-    let mut n: u32 = 0;
-    while n < records {
-        let r = place::record(volume, g, n + 1);
-        if !checksum::holds(r, 60) {
-            break;
-        }
+    let first = run.first;
+    let below = first - 1;
+    let span = section::span(run);
+    let mut i: u32 = 0;
+    while i < span {
+        let n = section::nth(first, i);
+        let r = place::record(volume, g, n);
         let e = record::read(r);
-        let i = rows::row(e.page as u32);
-        let was = last[i];
-        if !fits(record::layout(r), e, pages, was, n + 1) {
-            return section::broken();
+        let k = rows::row(e.page as u32);
+        let was = last[k];
+        let whole = checksum::holds(r, 60);
+        if !fits(whole, record::layout(r), e, pages, below, was, n) {
+            return false;
         }
-        last[i] = n + 1;
-        n += 1;
+        last[k] = n;
+        i += 1;
     }
-    let at = place::record_at(g, 1);
-    if !section::rest(volume, at, 64, records as usize, n as usize) {
-        return section::broken();
-    }
-    Section {
-        valid: true,
-        count: n,
-    }
+    section::ends(volume, locate(g), run)
 }

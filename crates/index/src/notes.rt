@@ -1,12 +1,15 @@
 // The notes: judged one by one, and what they say of each page.
 ghost use mathlib.Core.Path.{_≡_};
-ghost use mathlib.Core.Bool.{true};
-ghost use Rattle.model.specs.Scan.{logRecord, durableCount, noteIndex};
+ghost use mathlib.Core.Bool.{true, _||_};
+ghost use Prim.Native.Nat.{_≤_};
+ghost use lib.Dec.{eqb, ltb};
+ghost use Rattle.model.specs.Scan.{logRecord};
 ghost use Rattle.index.specs.Columns.{Blank, Noted, earlierEntry};
-ghost use Rattle.index.specs.Section.{Sized, noteAfter, noteAgrees, noteSection};
+ghost use Rattle.index.specs.Section.{Sized, noteSection, logRun, noteRun, noteAfter, noteAgrees, notedIndex, notesKept};
 use crate::columns;
 use crate::rows;
 use crate::section;
+use crate::section::Run;
 use crate::section::Section;
 use codec::checksum;
 use codec::field;
@@ -15,9 +18,36 @@ use model::geometry::Geometry;
 use model::item::Note;
 use model::state::Entry;
 use volume::place;
+use volume::ring;
+
+// Where the notes lie.
+fn locate(g: Geometry) -> Section
+    ensures { λ r. ⌜ r ≡ noteSection g ⌝ }
+{
+    Section {
+        ring: ring::ring(g),
+        at: place::note_at(g, 1),
+        size: 12,
+        slots: g.notes,
+    }
+}
+
+// The numbers that the notes hold.
+pub fn run(volume: &[u8], g: Geometry) -> Run
+    requires { ⌜ Sized g (now volume) ⌝ }
+    ensures { λ r. ⌜ r ≡ noteRun g (now (volume .entry)) ⌝ }
+{
+    let s = locate(g);
+    let count = section::count(volume, s);
+    Run {
+        first: section::first(volume, s, count),
+        count,
+    }
+}
 
 // The page of record n.
 fn page(volume: &[u8], g: Geometry, n: u32) -> u16
+    requires { ⌜ 1 ≤ g .records ⌝ }
     ensures { λ r. ⌜ r ≡ logRecord g (now (volume .entry)) n .page ⌝ }
 {
     field::u16_at(volume, place::log_slot(g, n) + 8)
@@ -47,62 +77,74 @@ fn follows(e: Entry, n: Note, slots: u32, used: bool) -> bool
     (e.backup <= n.lsn) & (((1 <= slot) & (slot <= slots)) & !used)
 }
 
-// Note k of a volume with these pages and durable records; `page` is the page of the record that it names.
-fn fits(n: Note, k: u32, pages: u32, durable: u32, page: u16, follows: bool) -> bool
-    ensures { λ r. ⌜ r ≡ noteAgrees n k pages durable page follows ⌝ }
+// The note's number is below a log's run from `first` on, where it is not looked up, or that of a record of its page.
+fn agrees(volume: &[u8], g: Geometry, first: u64, n: Note) -> bool
+    requires { ⌜ 1 ≤ g .records ⌝ }
+    ensures { λ r. ⌜ r
+        ≡ (ltb (n .lsn) first || eqb (logRecord g (now (volume .entry)) (n .lsn) .page) (n .page)) ⌝ }
+{
+    ((n.lsn as u64) < first) | (page(volume, g, n.lsn) == n.page)
+}
+
+// Note k of a volume with these pages and durable records, whole or not, after earlier ones; `named`: it may name its record.
+fn fits(whole: bool, n: Note, k: u32, pages: u32, durable: u32, named: bool, follows: bool) -> bool
+    ensures { λ r. ⌜ r ≡ noteAgrees whole n k pages durable named follows ⌝ }
 {
     let own = n.page as u32;
     let inside = (1 <= own) & (own <= pages);
     let known = (1 <= n.lsn) & (n.lsn <= durable);
-    note::layout(n) & ((n.number == k) & (inside & (known & ((page == n.page) & follows))))
+    let right = note::layout(n);
+    whole & (right & ((n.number == k) & (inside & (known & (named & follows)))))
 }
 
-// Scans the notes after a log of `durable` records into the columns of written numbers, slots and backups.
+// Scans the notes after the log's run into the columns of written numbers, slots and backups: whether they keep the restart rule, but for what
+// is judged at the end.
 pub fn scan(
     volume: &[u8],
     g: Geometry,
-    durable: u32,
+    log: Run,
+    run: Run,
     written: &mut [u32],
     slots: &mut [u8],
     backup: &mut [u32],
-) -> Section
+) -> bool
     requires { ⌜ Sized g (now volume) ⌝ }
-    requires { ⌜ durable ≡ durableCount g (now volume) ⌝ }
+    requires { ⌜ (log ≡ logRun g (now volume)) × (run ≡ noteRun g (now volume)) ⌝ }
     requires { ⌜ Blank (now written) (now slots) (now backup) ⌝ }
-    ensures section { λ r. ⌜ r ≡ noteSection g (now (volume .entry)) ⌝ }
-    ensures columns { λ r. ⌜ (r .valid ≡ true
-        → Noted (noteIndex g (now (volume .entry)) (r .count))
-        (now (written .exit)) (now (slots .exit)) (now (backup .exit))) ⌝ }
+    ensures kept { λ r. ⌜ r ≡ notesKept g (now (volume .entry)) ⌝ }
+    ensures columns { λ r. ⌜ (r ≡ true
+        → Noted (notedIndex g (now (volume .entry))) (now (written .exit)) (now (slots .exit)) (now (backup .exit))) ⌝ }
 {
-    let notes = g.notes;
     let pages = g.pages;
     let count = g.slots;
-    let mut k: u32 = 0;
-    while k < notes {
-        let r = place::note(volume, g, k + 1);
-        if !checksum::holds(r, 12) {
-            break;
-        }
+    let first = run.first;
+    let span = section::span(run);
+    let mut i: u32 = 0;
+    while i < span {
+        let k = section::nth(first, i);
+        let r = place::note(volume, g, k);
         let n = note::read(r);
-        let i = rows::row(n.page as u32);
-        let was = earlier(written[i], slots[i], backup[i]);
+        let j = rows::row(n.page as u32);
+        let was = earlier(written[j], slots[j], backup[j]);
         let used = columns::used(slots, n.slot as u32);
         let follows = follows(was, n, count, used);
-        if !fits(n, k + 1, pages, durable, page(volume, g, n.lsn), follows) {
-            return section::broken();
+        let named = agrees(volume, g, log.first, n);
+        if !fits(
+            checksum::holds(r, 12),
+            n,
+            k,
+            pages,
+            log.count,
+            named,
+            follows,
+        ) {
+            return false;
         }
         let e = rows::noted(was, n);
-        written[i] = e.written;
-        slots[i] = e.slot;
-        backup[i] = e.backup;
-        k += 1;
+        written[j] = e.written;
+        slots[j] = e.slot;
+        backup[j] = e.backup;
+        i += 1;
     }
-    let at = place::note_at(g, 1);
-    if !section::rest(volume, at, 16, notes as usize, k as usize) {
-        return section::broken();
-    }
-    Section {
-        valid: true,
-        count: k,
-    }
+    section::ends(volume, locate(g), run)
 }

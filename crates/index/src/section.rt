@@ -1,31 +1,159 @@
-// A section of a volume as a scan finds it.
+// A section of a volume, its log or its notes: its whole slots, and the run of numbers that they hold.
 ghost use mathlib.Core.Path.{_≡_};
-ghost use Prim.Native.Nat.{_+_, _*_, _≤_};
+ghost use mathlib.Core.Bool.{cond};
+ghost use Prim.Native.Nat.{suc, _+_, _-_, _*_, _%_, _≤_};
 ghost use lib.ListN.{length};
-ghost use Rattle.model.specs.Scan.{restZero};
-ghost use Rattle.index.specs.Section.{brokenSection};
+ghost use Rattle.model.specs.Bytes as bytes;
+ghost use Rattle.model.specs.Checksum.{sealed, sealedRun};
+ghost use Rattle.model.specs.Scan as scans;
+ghost use Rattle.index.specs.Section.{Placed, highestAt, countIn, firstIn, endsIn};
+use codec::checksum;
+use codec::field;
 use codec::part;
 
-// Whether the section keeps the restart rule, and if so the count of its items.
+// Where a section lies: whether it is a ring, where its slots start, an item's bytes before its checksum, and how many slots it has.
 pub struct Section {
-    pub valid: bool,
+    pub ring: bool,
+    pub at: usize,
+    pub size: usize,
+    pub slots: u32,
+}
+
+// The numbers that a section holds: the first, and how many were ever given, which is the last; none where the first is above it.
+pub struct Run {
+    pub first: u64,
     pub count: u32,
 }
 
-// A section that breaks the rule.
-pub fn broken() -> Section
-    ensures { λ r. ⌜ r ≡ brokenSection ⌝ }
+// The number of an item whose checksum is right, else 0.
+fn number(item: &[u8], n: usize) -> u32
+    ensures { λ r. ⌜ r ≡ cond (sealed n (now (item .entry))) (bytes.field 4 0 (now (item .entry))) 0 ⌝ }
 {
-    Section {
-        valid: false,
-        count: 0,
+    if checksum::holds(item, n) {
+        field::u32_at(item, 0)
+    } else {
+        0
     }
 }
 
+// The larger of two numbers.
+fn larger(a: u32, b: u32) -> u32
+    ensures { λ r. ⌜ r ≡ scans.larger a b ⌝ }
+{
+    if a <= b { b } else { a }
+}
+
+// The highest number in a whole slot, of `most` slots of n bytes and a checksum from a place on.
+fn highest(v: &[u8], at: usize, n: usize, most: usize) -> u32
+    requires { ⌜ (at + (n + 4) * most ≤ length (now v)) × (n ≤ 252) ⌝ }
+    ensures { λ r. ⌜ r ≡ highestAt n (now (v .entry)) at most ⌝ }
+{
+    let mut k: usize = 0;
+    let mut from = at;
+    let mut top: u32 = 0;
+    while k < most {
+        let end = from + (n + 4);
+        let x = number(&v[from..end], n);
+        top = larger(top, x);
+        from = end;
+        k += 1;
+    }
+    top
+}
+
+// How many of them are whole before the first that is not.
+fn sealed(v: &[u8], at: usize, n: usize, most: usize) -> u32
+    requires { ⌜ (at + (n + 4) * most ≤ length (now v)) × (n ≤ 252) × (most ≤ 1024) ⌝ }
+    ensures { λ r. ⌜ r ≡ sealedRun n most (now (v .entry)) at ⌝ }
+{
+    let mut k: usize = 0;
+    let mut from = at;
+    while k < most {
+        let end = from + (n + 4);
+        if !checksum::holds(&v[from..end], n) {
+            break;
+        }
+        from = end;
+        k += 1;
+    }
+    k as u32
+}
+
+// How many numbers were given: in a ring the highest in a whole slot.
+pub fn count(v: &[u8], s: Section) -> u32
+    requires { ⌜ Placed (now v) s ⌝ }
+    ensures { λ r. ⌜ r ≡ countIn (now (v .entry)) s ⌝ }
+{
+    let slots = s.slots as usize;
+    if s.ring {
+        highest(v, s.at, s.size, slots)
+    } else {
+        sealed(v, s.at, s.size, slots)
+    }
+}
+
+// The slot that the number after k goes to is whole, of `slots` slots of n bytes and a checksum from a place on; of no slots none is.
+fn whole(v: &[u8], at: usize, n: usize, slots: u32, k: u32) -> bool
+    requires { ⌜ (at + (n + 4) * slots ≤ length (now v)) × (n ≤ 252) × (slots ≡ 0 → length (now v) ≤ at) ⌝ }
+    ensures { λ r. ⌜ r ≡ sealed n (bytes.part (now (v .entry)) (at + (n + 4) * (k % slots)) (n + 4)) ⌝ }
+{
+    if slots == 0 {
+        return false;
+    }
+    let place = (k % slots) as usize;
+    let from = at + (n + 4) * place;
+    let end = from + (n + 4);
+    checksum::holds(&v[from..end], n)
+}
+
+// What of a number is above another; 0 where nothing is.
+fn above(a: u32, b: u32) -> u32
+    ensures { λ r. ⌜ r ≡ a - b ⌝ }
+{
+    if b <= a { a - b } else { 0 }
+}
+
+// The run start, with n numbers given: of a ring max(1, n - slots + 1), or one later if that slot is not whole.
+pub fn first(v: &[u8], s: Section, n: u32) -> u64
+    requires { ⌜ Placed (now v) s ⌝ }
+    ensures { λ r. ⌜ r ≡ firstIn (now (v .entry)) s n ⌝ }
+{
+    if !s.ring {
+        return 1;
+    }
+    let below = above(n, s.slots);
+    if whole(v, s.at, s.size, s.slots, below) {
+        below as u64 + 1
+    } else {
+        below as u64 + 2
+    }
+}
+
+// How many numbers a run has.
+pub fn span(r: Run) -> u32
+    requires { ⌜ 1 ≤ r .first ⌝ }
+    ensures { λ n. ⌜ n ≡ suc (r .count) - r .first ⌝ }
+{
+    let count = r.count as u64;
+    if r.first <= count {
+        (count - r.first + 1) as u32
+    } else {
+        0
+    }
+}
+
+// The number at place i of a run.
+pub fn nth(first: u64, i: u32) -> u32
+    requires { ⌜ first + i ≤ 4294967295 ⌝ }
+    ensures { λ r. ⌜ r ≡ first + i ⌝ }
+{
+    (first + i as u64) as u32
+}
+
 // The slots past slot n + 1 are zero, of `count` slots of `size` bytes that start at a place.
-pub fn rest(volume: &[u8], at: usize, size: usize, count: usize, n: usize) -> bool
+fn rest(volume: &[u8], at: usize, size: usize, count: usize, n: usize) -> bool
     requires { ⌜ at + size * count ≤ length (now volume) ⌝ }
-    ensures { λ r. ⌜ r ≡ restZero size count (now (volume .entry)) at n ⌝ }
+    ensures { λ r. ⌜ r ≡ scans.restZero size count (now (volume .entry)) at n ⌝ }
 {
     if count <= n {
         return true;
@@ -33,4 +161,18 @@ pub fn rest(volume: &[u8], at: usize, size: usize, count: usize, n: usize) -> bo
     let from = at + size * (n + 1);
     let end = at + size * count;
     part::zero(&volume[from..end])
+}
+
+// What follows a run: past the turn nothing is asked; before it the next slot is not whole, the run starts at 1, and the rest is zero.
+pub fn ends(v: &[u8], s: Section, r: Run) -> bool
+    requires { ⌜ Placed (now v) s ⌝ }
+    ensures { λ b. ⌜ b ≡ endsIn (now (v .entry)) s (r .first) (r .count) ⌝ }
+{
+    let n = r.count;
+    if s.slots <= n {
+        return true;
+    }
+    let starts = (n == 0) | (r.first == 1);
+    let next = whole(v, s.at, s.size, s.slots, n);
+    (!next & starts) & rest(v, s.at, s.size + 4, s.slots as usize, n as usize)
 }

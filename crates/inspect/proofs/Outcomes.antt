@@ -7,24 +7,27 @@ use native.Mathlib.Omega.{arith}
 use lib.Dec.{eqb}
 use lib.ListN.{length}
 use borrow.Author.Tests.{eq-eqb, ne-eqb, eqb-true, eqb-false, not-false}
-use Rattle.laws.proofs.Tables.{Numbered, none-at, within-bounds}
+use Rattle.laws.proofs.Tables.{Numbered, none-at, within-bounds, when-true, when-false}
+use Rattle.repair.proofs.Rows.{first-then}
 use Rattle.repair.proofs.Scanned.{scanned-ready}
 use Rattle.model.specs.Tables.{Row, firstOf, within}
 use Rattle.model.specs.Checksum.{sealImage}
 use Rattle.model.specs.Geometry.{geometryOf, validVolume}
 use Rattle.model.specs.Index.{entryOf}
 use Rattle.model.specs.Scan.{validLog, validNotes, indexOf}
-use Rattle.model.specs.Repair.{viewOf, repairOf, rebuilt}
-use Rattle.model.specs.Refusals.{inspectRows}
+use Rattle.model.specs.Repair.{viewOf, walkOf, isBelow, repairOf, rebuilt}
+use Rattle.model.specs.Refusals.{inspectRows, foundBelow}
 use Rattle.model.specs.Calls.{Inspected, inspectOf}
 use Rattle.model.specs.declared.geometry.Geometry.{Geometry}
 use Rattle.model.specs.declared.state.Entry.{Entry}
 use Rattle.model.specs.declared.answer.Answer.{Answer}
 use Rattle.model.specs.declared.answer.Answer.the-variants.{Refused, Repaired}
 use Rattle.model.specs.declared.answer.Repair.{Repair}
-use Rattle.index.specs.Scanned.{scanRows, scanRefusal, scannedIndex}
+use Rattle.index.specs.Scanned.{scanRows, scanRefusal, foundOf}
+use Rattle.index.specs.declared.Found.{Found}
 use Rattle.index.proofs.Whole.{clean}
-use Rattle.repair.specs.Walked.{Ready}
+use Rattle.repair.specs.Walked.{Ready, walkedOf}
+use Rattle.repair.specs.declared.walk.Walked.{Walked}
 
 -- the scan's number and the call's own tests, in the table's order
 tests : (a b c t u : Bool) (d d′ : ℕ) → (a ≡ true → b ≡ true → c ≡ true → d ≡ d′)
@@ -41,53 +44,93 @@ pub chained : (t₁ t₂ t₃ t₄ t₅ : Bool) (n a b c d e : ℕ) → a ≡ co
 chained t₁ t₂ t₃ t₄ t₅ n a b c d e ea eb ec ed ee = rw (ee, ed, ec, eb, ea)
 
 module _ (v : List ℕ) (page : ℕ) (b : List ℕ) where
-  pub refusal-is : (scan : ℕ) (g : Geometry) (e : Entry) (n : ℕ) → scan ≡ scanRefusal v → g ≡ geometryOf v
-      → (scan ≡ 0 → e ≡ entryOf (scannedIndex v) page)
-      → n ≡ cond (eqb scan 1) 1 (cond (not (eqb (length b) 256)) 2 (cond (not (within (g .pages) page)) 3
-      (cond (not (eqb scan 0)) scan (cond (eqb (e .durable) 0) 7 0))))
-      → n ≡ firstOf (inspectRows v page (length b))
-  unfolding inspectRows scanRows
-  refusal-is scan g e n es eg ee en =
+  -- the rows before the walk
+  abbrev earlyRows : List Row
+  earlyRows =
+      let g = geometryOf v in
+      (not (validVolume v), 1) ∷ (not (eqb (length b) 256), 2) ∷ (not (within (g .pages) page), 3) ∷ (not (validLog g v), 17) ∷ (not (validNotes g v), 18)
+      ∷ (eqb (entryOf (indexOf g v) page .durable) 0, 7) ∷ []
+
+  -- 0, or the refusal before the walk
+  pub early : ℕ
+  early = firstOf earlyRows
+
+  early-numbered : Numbered earlyRows
+  early-numbered = (eqb-false 1 0 refl, (eqb-false 2 0 refl, (eqb-false 3 0 refl, (eqb-false 17 0 refl, (eqb-false 18 0 refl, (eqb-false 7 0 refl, tt))))))
+
+  whole : firstOf (inspectRows v page (length b)) ≡ cond (eqb early 0) (cond (foundBelow (geometryOf v) v page) 23 0) early
+  unfolding inspectRows early
+  whole = first-then earlyRows ((foundBelow (geometryOf v) v page, 23) ∷ []) early-numbered
+
+  pub refusal-is : (found : Found) (g : Geometry) (n : ℕ) → found .refusal ≡ scanRefusal v → g ≡ geometryOf v
+      → (found .refusal ≡ 0 → found ≡ foundOf v page)
+      → n ≡ cond (eqb (found .refusal) 1) 1 (cond (not (eqb (length b) 256)) 2 (cond (not (within (g .pages) page)) 3
+      (cond (not (eqb (found .refusal) 0)) (found .refusal) (cond (eqb (found .entry .durable) 0) 7 0))))
+      → n ≡ early
+  unfolding early scanRows
+  refusal-is found g n es eg ee en =
       en ∙ rw (es, eg)
-      (tests (validVolume v) (validLog (geometryOf v) v) (validNotes (geometryOf v) v) (not (eqb (length b) 256)) (not (within (geometryOf v .pages) page)) (e .durable) _
-      (λ x y z. ap (λ (q : Entry). q .durable) (ee (es ∙ clean v x y z))))
+      (tests (validVolume v) (validLog (geometryOf v) v) (validNotes (geometryOf v) v) (not (eqb (length b) 256)) (not (within (geometryOf v .pages) page)) (found .entry .durable) _
+      (λ x y z. ap (λ (q : Found). q .entry .durable) (ee (es ∙ clean v x y z))))
 
-  pub refused : (n : ℕ) → n ≡ firstOf (inspectRows v page (length b)) → (n ≡ 0 → ⊥) → (Refused n ≡ inspectOf v page b .answer) × (b ≡ inspectOf v page b .buffer)
+  refuses : (n : ℕ) → n ≡ firstOf (inspectRows v page (length b)) → (n ≡ 0 → ⊥) → (Refused n ≡ inspectOf v page b .answer) × (b ≡ inspectOf v page b .buffer)
   unfolding inspectOf
-  refused n e ne = rw (ne-eqb (firstOf (inspectRows v page (length b))) 0 (λ z. ne (e ∙ z))) (ap Refused e, refl)
+  refuses n e ne = rw (ne-eqb (firstOf (inspectRows v page (length b))) 0 (λ z. ne (e ∙ z))) (ap Refused e, refl)
 
-  -- what is known where there is no refusal
-  pub record Open (g : Geometry) (e : Entry) : Type 0 where
-    pub ready : Ready v g e page
+  pub refused : (n : ℕ) → n ≡ early → (n ≡ 0 → ⊥) → (Refused n ≡ inspectOf v page b .answer) × (b ≡ inspectOf v page b .buffer)
+  refused n e ne = refuses n (e ∙ sym (whole ∙ when-false _ _ (ne-eqb _ _ (λ z. ne (e ∙ z))))) ne
+
+  -- what is known where there is no refusal before the walk
+  pub record Open (g : Geometry) (found : Found) : Type 0 where
+    pub none : early ≡ 0
+    pub geometry : g ≡ geometryOf v
+    pub ready : Ready v g (found .first) (found .entry) page
     pub size : length b ≡ 256
-    pub entry : e ≡ entryOf (scannedIndex v) page
+    pub found-is : found ≡ foundOf v page
 
-  pub opened : (scan : ℕ) (g : Geometry) (e : Entry) → scan ≡ scanRefusal v → g ≡ geometryOf v → (scan ≡ 0 → e ≡ entryOf (scannedIndex v) page)
-      → firstOf (inspectRows v page (length b)) ≡ 0 → Open g e
-  unfolding inspectRows
-  opened scan g e es eg ee h =
-      let own : Numbered (inspectRows v page (length b)) =
-      (eqb-false 1 0 refl, (eqb-false 2 0 refl, (eqb-false 3 0 refl, (eqb-false 17 0 refl, (eqb-false 18 0 refl, (eqb-false 7 0 refl, tt)))))) in
-      let none = none-at (inspectRows v page (length b)) own h in
+  pub opened : (found : Found) (g : Geometry) → found .refusal ≡ scanRefusal v → g ≡ geometryOf v → (found .refusal ≡ 0 → found ≡ foundOf v page) → early ≡ 0 → Open g found
+  unfolding early
+  opened found g es eg ee h =
+      let none = none-at earlyRows early-numbered h in
       let valid = not-false (validVolume v) (none 0) in
       let log = not-false (validLog (geometryOf v) v) (none 3) in
       let notes = not-false (validNotes (geometryOf v) v) (none 4) in
       let w = within-bounds (geometryOf v .pages) page (not-false _ (none 2)) in
-      let i : e ≡ entryOf (scannedIndex v) page = ee (es ∙ clean v valid log notes) in
-      let same : e ≡ entryOf (indexOf g v) page = i ∙ ap (λ (k : Geometry). entryOf (indexOf k v) page) (sym eg) in
+      let i : found ≡ foundOf v page = ee (es ∙ clean v valid log notes) in
+      let r : Ready v (geometryOf v) (foundOf v page .first) (foundOf v page .entry) page = scanned-ready v (geometryOf v) valid refl log page notes (w .0) (w .1) in
       record {
-        ready = subst (λ (q : Entry). Ready v g q page) (sym same) (scanned-ready v g valid eg (rw eg log) page (rw eg notes) (w .0) (rw eg (w .1)));
+        none = h;
+        geometry = eg;
+        ready = subst (λ (k : Geometry). Ready v k (found .first) (found .entry) page) (sym eg) (subst (λ (q : Found). Ready v (geometryOf v) (q .first) (q .entry) page) (sym i) r);
         size = eqb-true _ _ (not-false _ (none 1));
-        entry = i;
+        found-is = i;
       }
 
-  pub done : (g : Geometry) (e : Entry) (r : Repair) (x y : List ℕ) → g ≡ geometryOf v → Open g e → firstOf (inspectRows v page (length b)) ≡ 0
-      → r ≡ repairOf g page (viewOf g v e page) → x ≡ rebuilt g page (viewOf g v e page) → y ≡ sealImage g x
-      → (Repaired r ≡ inspectOf v page b .answer) × (y ≡ inspectOf v page b .buffer)
-  unfolding inspectOf
-  done g e r x y eg o h er ex ey =
-      rw (eq-eqb (firstOf (inspectRows v page (length b))) 0 h)
-      (ap Repaired (er ∙ same (λ k q. repairOf k page (viewOf k v q page))), ey ∙ ap (sealImage g) ex ∙ same (λ k q. sealImage k (rebuilt k page (viewOf k v q page))))
-    where
-      same : {A : Type 0} (f : Geometry → Entry → A) → f g e ≡ f (geometryOf v) (entryOf (indexOf (geometryOf v) v) page)
-      same f = ap (λ (k : Geometry). f k e) eg ∙ ap (f (geometryOf v)) (o .entry)
+  module _ (g : Geometry) (found : Found) (o : Open g found) where
+    -- what is made of the geometry and the entry at hand is made of the volume's
+    same : {A : Type 0} (f : Geometry → Found → A) → f g found ≡ f (geometryOf v) (foundOf v page)
+    same f = ap (λ (k : Geometry). f k found) (o .geometry) ∙ ap (f (geometryOf v)) (o .found-is)
+
+    decides : (c : Walked) (t : Bool) → c ≡ walkedOf g page (viewOf g v (found .first) (found .entry) page) → t ≡ isBelow (c .stop)
+        → firstOf (inspectRows v page (length b)) ≡ cond t 23 0
+    unfolding walkedOf
+    decides c t ec et =
+        let q : t ≡ foundBelow (geometryOf v) v page =
+        et ∙ ap (λ (x : Walked). isBelow (x .stop)) ec ∙ same (λ k x. isBelow (walkOf k page (viewOf k v (x .first) (x .entry) page) .stop)) in
+        whole ∙ when-true _ _ (eq-eqb _ _ (o .none)) ∙ rw q
+
+    -- the walk goes below the run
+    pub below : (c : Walked) (t : Bool) → c ≡ walkedOf g page (viewOf g v (found .first) (found .entry) page) → t ≡ isBelow (c .stop) → t ≡ true
+        → (Refused 23 ≡ inspectOf v page b .answer) × (b ≡ inspectOf v page b .buffer)
+    below c t ec et h = refuses 23 (sym (decides c t ec et ∙ rw h)) (eqb-false 23 0 refl)
+
+    -- it does not
+    pub done : (c : Walked) (t : Bool) (r : Repair) (x y : List ℕ) → c ≡ walkedOf g page (viewOf g v (found .first) (found .entry) page) → t ≡ isBelow (c .stop) → t ≡ false
+        → r ≡ repairOf g page (viewOf g v (found .first) (found .entry) page) → x ≡ rebuilt g page (viewOf g v (found .first) (found .entry) page) → y ≡ sealImage g x
+        → (Repaired r ≡ inspectOf v page b .answer) × (y ≡ inspectOf v page b .buffer)
+    unfolding inspectOf
+    done c t r x y ec et h er ex ey =
+        rw (eq-eqb (firstOf (inspectRows v page (length b))) 0 (decides c t ec et ∙ rw h)) (
+          ap Repaired (er ∙ same (λ k q. repairOf k page (viewOf k v (q .first) (q .entry) page))),
+          ey ∙ ap (sealImage g) ex ∙ same (λ k q. sealImage k (rebuilt k page (viewOf k v (q .first) (q .entry) page))),
+        )

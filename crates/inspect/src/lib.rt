@@ -15,7 +15,7 @@ use repair::walk;
 use volume::heading;
 use volume::rows;
 
-// The refusal: rows 1, 2, 3, then the scan's 17 or 18, then 7.
+// The refusal before the walk: rows 1, 2, 3, then the scan's 17 or 18, then 7.
 fn refusal(scan: u32, pages: u32, page: u32, size: usize, durable: u32) -> u32
     ensures { λ r. ⌜ r
         ≡ cond (eqb scan 1) 1 (cond (not (eqb size 256)) 2 (cond (not (within pages page)) 3
@@ -44,10 +44,15 @@ pub fn inspect(volume: &[u8], page: u32, buffer: &mut [u8]) -> Answer
     if no != 0 {
         return Answer::Refused(no);
     }
-    let walked = walk::walk(volume, g, e, page);
-    rebuild::rebuild(volume, g, e, page, walked, buffer);
+    let first = found.first;
+    let walked = walk::walk(volume, g, first, e, page);
+    let stop = walked.stop;
+    if walk::below(stop) {
+        return Answer::Refused(23);
+    }
+    rebuild::rebuild(volume, g, first, e, page, walked, buffer);
     image::seal(buffer, g);
-    Answer::Repaired(answer::answer(volume, g, e, page, walked))
+    Answer::Repaired(answer::answer(volume, g, first, e, page, walked))
 }
 
 // The number that stands for an answer.

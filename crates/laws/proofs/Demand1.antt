@@ -4,7 +4,7 @@ use mathlib.Core.Logic.{_≢_, _⊎_, inl, inr, ⊎-elim}
 use mathlib.Core.Bool.{Bool, true, false, _&&_, not, cond}
 use mathlib.Core.List.{List, [], _∷_}
 use Prim.Native.Nat.{ℕ, zero, suc, _+_, _-_, _≤_, _<_}
-use native.Mathlib.Nat.{le-of-suc-le-suc, not-suc-le-zero}
+use native.Mathlib.Nat.{mod-lt, le-of-suc-le-suc, not-suc-le-zero}
 use native.Mathlib.Omega.{arith}
 use lib.Dec.{eqb, leb, ltb}
 use lib.ListN.{length, getD}
@@ -20,7 +20,7 @@ use Rattle.model.specs.Bytes.{splice}
 use Rattle.model.specs.Checksum.{sealImage}
 use Rattle.model.specs.Item.{noteBytes}
 use Rattle.model.specs.declared.change.Change.{Change}
-use Rattle.model.specs.Geometry.{Place, pageAt, slotAt, recordAt, noteAt, width, start, store, geometryOf, validVolume, validCounts, lengthFor}
+use Rattle.model.specs.Geometry.{Place, pageAt, slotAt, recordAt, noteAt, logSlot, noteSlot, width, start, store, geometryOf, validVolume, validCounts, lengthFor}
 use Rattle.model.specs.Change.{fits}
 use Rattle.model.specs.State.{frameCount, frameBytes, pendingBytes, holder, held, blank, notePending, notesFull, logFull, lastNote, zeroState, pendingNoteFits}
 use Rattle.model.specs.Refusals.{stateRows, pageDirty, frameBlocked, notDurable, chainBroken, makeRows, restartRows, beginRows, loadRows, changeRows, forceRows, writeRows, backupRows, noteRows, inspectRows}
@@ -160,7 +160,7 @@ load-keeps : (v m : List ℕ) (s : State) (page frame : ℕ) → KeepsBy (loadRo
 unfolding loadOf loadRows
 load-keeps v m s page frame =
     let own : Numbered (loadRows v m s page frame) =
-    (eqb-false 1 0 refl, (eqb-false 2 0 refl, (eqb-false 2 0 refl, (eqb-false 3 0 refl, (eqb-false 4 0 refl, (eqb-false 7 0 refl, (eqb-false 9 0 refl, (eqb-false 10 0 refl, (eqb-false 19 0 refl, tt))))))))) in
+    (eqb-false 1 0 refl, (eqb-false 2 0 refl, (eqb-false 2 0 refl, (eqb-false 3 0 refl, (eqb-false 4 0 refl, (eqb-false 7 0 refl, (eqb-false 9 0 refl, (eqb-false 10 0 refl, (eqb-false 19 0 refl, (eqb-false 23 0 refl, tt)))))))))) in
     keeps-by _ v m s _ own refl (λ _. tt)
 
 change-keeps : (v m : List ℕ) (s : State) (page : ℕ) (c : Change) (payload : List ℕ) → KeepsBy (changeRows v m s page c) v m s (changeCall v m s page c payload)
@@ -188,7 +188,7 @@ force-keeps v m s =
     either (eqb (s .pending) 0) _ _ (λ o. StoresItem v (o .stored)) (λ _. tt)
     (λ f.
     let ne : s .pending ≢ 0 = eqb-false _ _ f in
-    stored-within v (r .volume) (recordAt (s .durable + 1)) (pendingBytes m (s .durable + 1)) (omega arith, omega (arith, w .room))
+    stored-within v (r .volume) (logSlot (geometryOf v) (s .durable + 1)) (pendingBytes m (s .durable + 1)) (omega arith, mod-lt (s .durable + 1 - 1) (valid-facts v (r .volume) .l-low))
     (pending-length m (r .memory) (s .durable + 1))))
 
 -- page p's frame, as Write and Backup store it
@@ -204,7 +204,7 @@ unfolding writeOf writeRows
 write-keeps v m s page a =
     let g = geometryOf v in
     let d = pageDirty s page in
-    let rest : List Row = (not (within (g .pages) page), 3) ∷ (not (held s page), 8) ∷ (d && notePending (s .note), 13) ∷ (d && notesFull g s, 14)
+    let rest : List Row = (not (within (g .pages) page), 3) ∷ (not (held s page), 8) ∷ (d && notePending (s .note), 13) ∷ (d && notesFull g v s, 14)
     ∷ (d && notDurable m s page, 15) ∷ [] in
     let own : Numbered rest = (eqb-false 3 0 refl, (eqb-false 8 0 refl, (eqb-false 13 0 refl, (eqb-false 14 0 refl, (eqb-false 15 0 refl, tt))))) in
     keeps-by _ v m s _ (numbered-state v m s rest own)
@@ -222,7 +222,7 @@ unfolding backupOf backupRows
 backup-keeps v m s page slot a =
     let g = geometryOf v in
     let rest : List Row = (not (within (g .pages) page), 3) ∷ (not (within (g .slots) slot), 5) ∷ (not (held s page), 8) ∷ (notePending (s .note), 13)
-    ∷ (notesFull g s, 14) ∷ (notDurable m s page, 15) ∷ (slotUsed slot (s .index), 16) ∷ [] in
+    ∷ (notesFull g v s, 14) ∷ (notDurable m s page, 15) ∷ (slotUsed slot (s .index), 16) ∷ [] in
     let own : Numbered rest =
     (eqb-false 3 0 refl, (eqb-false 5 0 refl, (eqb-false 8 0 refl, (eqb-false 13 0 refl, (eqb-false 14 0 refl, (eqb-false 15 0 refl, (eqb-false 16 0 refl, tt))))))) in
     keeps-by _ v m s _ (numbered-state v m s rest own) refl
@@ -243,7 +243,7 @@ note-stored-one : (v m : List ℕ) (s : State) → validVolume v ≡ true → (n
 note-stored-one v m s ok Absent h = tt
 note-stored-one v m s ok (Present n) h =
     let f = formed-note (geometryOf v) (s .notes) (s .durable) n h in
-    stored-within v ok (noteAt (s .notes + 1)) (noteBytes n) (omega arith, omega (arith, f .room)) (note-length n)
+    stored-within v ok (noteSlot (geometryOf v) (s .notes + 1)) (noteBytes n) (omega arith, mod-lt (s .notes + 1 - 1) (f .slots)) (note-length n)
 
 note-keeps : (v m : List ℕ) (s : State) → KeepsBy (noteRows v m s) v m s (noteCall v m s)
 unfolding noteCall noteRows
@@ -288,7 +288,7 @@ restart-keeps v m =
 numbered-inspect : (v : List ℕ) (page size : ℕ) → Numbered (inspectRows v page size)
 unfolding inspectRows
 numbered-inspect v page size =
-    (eqb-false 1 0 refl, (eqb-false 2 0 refl, (eqb-false 3 0 refl, (eqb-false 17 0 refl, (eqb-false 18 0 refl, (eqb-false 7 0 refl, tt))))))
+    (eqb-false 1 0 refl, (eqb-false 2 0 refl, (eqb-false 3 0 refl, (eqb-false 17 0 refl, (eqb-false 18 0 refl, (eqb-false 7 0 refl, (eqb-false 23 0 refl, tt)))))))
 
 inspect-keeps : (v : List ℕ) (page : ℕ) (buffer : List ℕ)
     → ByTable (inspectRows v page (length buffer)) (refusalOf (inspectOf v page buffer .answer))

@@ -7,8 +7,9 @@ use native.Mathlib.Omega.{arith}
 use lib.Dec.{eqb}
 use lib.ListN.{length, take, drop, replicate, length-append, length-replicate}
 use lib.Seq.{drop-append-add, drop-append-le, take-append-le}
-use borrow.Author.Tests.{eq-eqb}
-use Rattle.laws.proofs.Tables.{all-holds}
+use borrow.Author.Tests.{eq-eqb, eqb-true}
+use mathlib.Core.Logic.{⊎-elim}
+use Rattle.laws.proofs.Tables.{all-holds, or-cases}
 use Rattle.laws.proofs.Fields.{bytesOf-length, field-back}
 use Rattle.laws.proofs.Zeros.{zeros, drop-zeros, take-zeros}
 use Rattle.laws.proofs.Places.{In, Counts, counts-bounds}

@@ -15,10 +15,10 @@ use Rattle.model.specs.Tables.{Row, firstOf, within}
 use Rattle.model.specs.Geometry.{geometryOf}
 use Rattle.model.specs.Item.{imageLsn, validImage, isFormat, recordOf}
 use Rattle.model.specs.Index.{entryRow, entryOf}
-use Rattle.model.specs.Scan.{indexOf}
+use Rattle.model.specs.Scan.{durableCount, firstHeld, indexOf}
 use Rattle.model.specs.Repair.{View, Walk, stopAt, behind, walkOf, walkFrom, startOf, classOf, classIn, ownStart, backupStart, chainRecord, viewOf, repairOf}
 use Rattle.model.specs.State.{frameCount, held, blank, lastNumber, entryFits, pageFits}
-use Rattle.model.specs.Refusals.{loadRows, inspectRows, frameBlocked, chainBroken}
+use Rattle.model.specs.Refusals.{loadRows, inspectRows, frameBlocked, chainBroken, chainBelow}
 use Rattle.model.specs.Calls.{loadOf, inspectOf}
 use Rattle.model.specs.Health.{Untouched, Health}
 use Rattle.model.specs.declared.geometry.Geometry.{Geometry}
@@ -27,7 +27,7 @@ use Rattle.model.specs.declared.state.Entry.{Entry}
 use Rattle.model.specs.declared.answer.Class.{Class}
 use Rattle.model.specs.declared.answer.Class.the-variants.{Good, Behind, Stale, Failed, Ahead}
 use Rattle.model.specs.declared.answer.Start.the-variants as start
-use Rattle.model.specs.declared.answer.Stop.the-variants.{Own, Backup, Format, Broken}
+use Rattle.model.specs.declared.answer.Stop.the-variants.{Own, Backup, Format, Broken, Below}
 use Rattle.model.specs.declared.answer.Repair.{Repair}
 use Rattle.model.specs.declared.answer.Answer.{Answer}
 use Rattle.model.specs.declared.answer.Answer.the-variants.{Refused, Repaired}
@@ -52,15 +52,20 @@ failed-test false b c d e = refl
 -- ---- the walk's first step
 
 -- a walk that stops at the own image and has passed no record stopped there at once
-first-step : (a b c f : Bool) (n : ℕ) (rest : Walk)
-    → startOf (cond a (stopAt Own []) (cond b (stopAt Backup []) (cond c (cond f (stopAt Format (n ∷ [])) (behind (n ∷ []) rest)) (stopAt Broken []))) .stop) ≡ start.Own
-    → length (cond a (stopAt Own []) (cond b (stopAt Backup []) (cond c (cond f (stopAt Format (n ∷ [])) (behind (n ∷ []) rest)) (stopAt Broken []))) .chain) ≡ 0
-    → a ≡ true
-first-step true b c f n rest e z = refl
-first-step false true c f n rest e z = let q : _≡_ {A = ℕ} 0 1 = cc in absurd (omega arith)
-first-step false false true true n rest e z = absurd (omega arith)
-first-step false false true false n rest e z = absurd (omega arith)
-first-step false false false f n rest e z = let q : _≡_ {A = ℕ} 0 1 = cc in absurd (omega arith)
+abbrev stepped : Bool → Bool → Bool → Bool → Bool → ℕ → Walk → Walk
+stepped a b l c f n rest =
+    cond a (stopAt Own [])
+    (cond b (stopAt Backup [])
+    (cond l (stopAt Below []) (cond c (cond f (stopAt Format (n ∷ [])) (behind (n ∷ []) rest)) (stopAt Broken []))))
+
+first-step : (a b l c f : Bool) (n : ℕ) (rest : Walk) → startOf (stepped a b l c f n rest .stop) ≡ start.Own
+    → length (stepped a b l c f n rest .chain) ≡ 0 → a ≡ true
+first-step true b l c f n rest e z = refl
+first-step false true l c f n rest e z = let q : _≡_ {A = ℕ} 0 1 = cc in absurd (omega arith)
+first-step false false true c f n rest e z = let q : _≡_ {A = ℕ} 0 1 = cc in absurd (omega arith)
+first-step false false false true true n rest e z = absurd (omega arith)
+first-step false false false true false n rest e z = absurd (omega arith)
+first-step false false false false f n rest e z = let q : _≡_ {A = ℕ} 0 1 = cc in absurd (omega arith)
 
 -- a number of 1 or more that is the own start is a valid image's
 own-number : (t : Bool) (n d : ℕ) → 1 ≤ d → cond t n 0 ≡ d → (t ≡ true) × (n ≡ d)
@@ -85,8 +90,8 @@ module _ (g : Geometry) (p : ℕ) (w : View) where
   untouched-good : (n : ℕ) → w .durable ≡ suc n → Untouched (repairOf g p w) → repairOf g p w .class ≡ Good
   unfolding repairOf classOf walkOf walkFrom
   untouched-good n d u =
-      let a = first-step (eqb (ownStart g p w) (suc n)) (eqb (backupStart g p w) (suc n)) (chainRecord p (suc n) (w .log (suc n))) (isFormat (recordOf (w .log (suc n)))) (suc n)
-      (walkFrom n (w .log) p (ownStart g p w) (backupStart g p w) (recordOf (w .log (suc n)) .prev)) (rw d at (u .start)) (rw d at (u .count)) in
+      let a = first-step (eqb (ownStart g p w) (suc n)) (eqb (backupStart g p w) (suc n)) (ltb (suc n) (w .first)) (chainRecord p (suc n) (w .log (suc n))) (isFormat (recordOf (w .log (suc n)))) (suc n)
+      (walkFrom n (w .log) (w .first) p (ownStart g p w) (backupStart g p w) (recordOf (w .log (suc n)) .prev)) (rw d at (u .start)) (rw d at (u .count)) in
       let o = own-number (validImage g p (w .own)) (imageLsn (w .own)) (suc n) (omega arith) (eqb-true _ _ a) in
       rw (o .0, eq-eqb (imageLsn (w .own)) (w .durable) (o .1 ∙ sym d))
 
@@ -115,7 +120,7 @@ entry-durable g s p e t h nz =
 
 module _ (v m : List ℕ) (s : State) (p f : ℕ) where
   abbrev view : View
-  view = viewOf (geometryOf v) v (entryOf (s .index) p) p
+  view = viewOf (geometryOf v) v (firstHeld (geometryOf v) v (s .durable)) (entryOf (s .index) p) p
 
   pub load-repairs : (r : Repair) → loadOf v m s p f .answer ≡ Repaired r → (firstOf (loadRows v m s p f) ≡ 0) × (repairOf (geometryOf v) p view ≡ r)
   unfolding loadOf
@@ -129,7 +134,7 @@ module _ (v m : List ℕ) (s : State) (p f : ℕ) where
   load-durable e =
       let g = geometryOf v in
       let rows : List Row = (not (within (g .pages) p), 3) ∷ (not (within (frameCount (length m)) f), 4) ∷ (blank s p, 7) ∷ (held s p, 9)
-      ∷ (frameBlocked s f, 10) ∷ (chainBroken g v s p, 19) ∷ [] in
+      ∷ (frameBlocked s f, 10) ∷ (chainBroken g v s p, 19) ∷ (chainBelow g v s p, 23) ∷ [] in
       let k = ready v m s rows e in
       let none = none-at rows (omega arith) (k .rest) in
       let b = within-bounds (g .pages) p (not-false _ (none 0)) in
@@ -146,7 +151,7 @@ module _ (v m : List ℕ) (s : State) (p f : ℕ) where
 
 module _ (v : List ℕ) (p : ℕ) (buffer : List ℕ) where
   abbrev seen : View
-  seen = viewOf (geometryOf v) v (entryOf (indexOf (geometryOf v) v) p) p
+  seen = viewOf (geometryOf v) v (firstHeld (geometryOf v) v (durableCount (geometryOf v) v)) (entryOf (indexOf (geometryOf v) v) p) p
 
   pub inspect-repairs : (r : Repair) → inspectOf v p buffer .answer ≡ Repaired r
       → (firstOf (inspectRows v p (length buffer)) ≡ 0) × (repairOf (geometryOf v) p seen ≡ r)

@@ -1,4 +1,6 @@
 pub mod Tables
+pub mod Ring
+pub mod Chain
 pub mod Parts
 pub mod Fields
 pub mod Checksums

@@ -13,7 +13,7 @@ use Rattle.laws.proofs.Tables.{all-at, none-at, Numbered, every-at, or-
 use Rattle.laws.proofs.Parts.{part-length}
 use Rattle.model.specs.Tables.{all, Row, firstOf, every, within}
 use Rattle.model.specs.Bytes.{part}
-use Rattle.model.specs.Geometry.{geometryOf, validVolume}
+use Rattle.model.specs.Geometry.{most, mostNotes, geometryOf, validVolume}
 use Rattle.model.specs.Item.{noteLayout, isWritten}
 use Rattle.model.specs.Index.{entryRow}
 use Rattle.model.specs.State.{frameCount, validMemory, pendingAt, pendingBytes, frameAt, frameBytes, emptyFrame, frameRow, frameOf, holderFrom, holder, held, blank, pendingNoteFits, firstHolder, frameFits, pageFits, wellFormed}
@@ -28,9 +28,9 @@ use Rattle.model.specs.declared.state.PendingNote.the-variants.{Absent, Present
 -- ---- the clauses
 
 pub record Formed (g : Geometry) (frames : ℕ) (s : State) : Type 0 where
-  pub room : s .durable + s .pending ≤ g .records
+  pub room : s .durable + s .pending ≤ most g
   pub few : s .pending ≤ 16
-  pub notes : s .notes ≤ g .notes
+  pub notes : s .notes ≤ mostNotes g
   pub note : pendingNoteFits g (s .notes) (s .durable) (s .note) ≡ true
   pub table : (i : ℕ) → i < 16 → frameFits g frames s i ≡ true
   pub pages : (i : ℕ) → i < 64 → pageFits g s i ≡ true
@@ -38,7 +38,7 @@ pub record Formed (g : Geometry) (frames : ℕ) (s : State) : Type 0 where
 pub formed : (g : Geometry) (frames : ℕ) (s : State) → wellFormed g frames s ≡ true → Formed g frames s
 unfolding wellFormed
 formed g frames s h =
-    let tests = leb (s .durable + s .pending) (g .records) ∷ leb (s .pending) 16 ∷ leb (s .notes) (g .notes) ∷ pendingNoteFits g (s .notes) (s .durable) (s .note)
+    let tests = leb (s .durable + s .pending) (most g) ∷ leb (s .pending) 16 ∷ leb (s .notes) (mostNotes g) ∷ pendingNoteFits g (s .notes) (s .durable) (s .note)
     ∷ every 16 (frameFits g frames s) ∷ every 64 (pageFits g s) ∷ [] in
     record {
       room = leb-true _ _ (all-at tests 0 h);
@@ -50,7 +50,8 @@ formed g frames s h =
     }
 
 pub record FormedNote (g : Geometry) (notes durable : ℕ) (n : Note) : Type 0 where
-  pub room : notes < g .notes
+  pub room : notes < mostNotes g
+  pub slots : 0 < g .notes
   pub layout : noteLayout n ≡ true
   pub number : n .number ≡ notes + 1
   pub low : 1 ≤ n .page
@@ -60,16 +61,17 @@ pub record FormedNote (g : Geometry) (notes durable : ℕ) (n : Note) : Type 0 w
 pub formed-note : (g : Geometry) (notes durable : ℕ) (n : Note) → pendingNoteFits g notes durable (Present n) ≡ true → FormedNote g notes durable n
 unfolding pendingNoteFits
 formed-note g notes durable n h =
-    let tests = ltb notes (g .notes) ∷ noteLayout n ∷ eqb (n .number) (notes + 1) ∷ within (g .pages) (n .page)
+    let tests = ltb notes (mostNotes g) ∷ ltb 0 (g .notes) ∷ noteLayout n ∷ eqb (n .number) (notes + 1) ∷ within (g .pages) (n .page)
     ∷ (isWritten n || within (g .slots) (n .slot)) ∷ leb (n .lsn) durable ∷ [] in
-    let w = within-bounds (g .pages) (n .page) (all-at tests 3 h) in
+    let w = within-bounds (g .pages) (n .page) (all-at tests 4 h) in
     record {
       room = ltb-true _ _ (all-at tests 0 h);
-      layout = all-at tests 1 h;
-      number = eqb-true _ _ (all-at tests 2 h);
+      slots = ltb-true _ _ (all-at tests 1 h);
+      layout = all-at tests 2 h;
+      number = eqb-true _ _ (all-at tests 3 h);
       low = w .0;
       high = w .1;
-      lsn = leb-true _ _ (all-at tests 5 h);
+      lsn = leb-true _ _ (all-at tests 6 h);
     }
 
 -- ---- the frame that holds a page

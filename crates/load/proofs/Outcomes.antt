@@ -1,8 +1,8 @@
 -- What the definition of Load says in each of its cases, and what the code needs to know once it walks.
 use mathlib.Core.Path.{_≡_, refl, sym, ap, _∙_}
-use mathlib.Core.Bool.{Bool, true, false, not, cond}
+use mathlib.Core.Bool.{Bool, true, false, not}
 use mathlib.Core.List.{List}
-use Prim.Native.Nat.{ℕ, _+_, _-_, _≤_}
+use Prim.Native.Nat.{ℕ, suc, _+_, _-_, _≤_}
 use native.Mathlib.Omega.{arith}
 use lib.ListN.{length, take, drop, getD}
 use borrow.Author.Tests.{eq-eqb, ne-eqb, eqb-false, not-false}
@@ -10,17 +10,21 @@ use borrow.Rule.Slice.PartMut.{putMid}
 use Rattle.laws.proofs.Tables.{none-at, within-bounds}
 use Rattle.laws.proofs.Parts.{put-splice, part-lent, part-length}
 use Rattle.laws.proofs.Places.{valid-facts}
+use Rattle.laws.proofs.Chain.{run-few}
+use Rattle.index.specs.Section.{Sized}
+use Rattle.index.proofs.Whole.{sized}
 use Rattle.laws.proofs.WellFormed.{ready, frame-within}
 use Rattle.state.proofs.Facts.{formed-page}
-use Rattle.load.specs.Rows.{loadTail, earlyRows}
+use Rattle.load.specs.Rows.{loadTail, earlyRows, walkTail}
 use Rattle.load.proofs.Rows.{early-refuses, walk-decides}
 use Rattle.model.specs.Tables.{firstOf}
 use Rattle.model.specs.Bytes.{splice}
-use Rattle.model.specs.Geometry.{geometryOf}
+use Rattle.model.specs.Geometry.{geometryOf, most}
 use Rattle.model.specs.Index.{entryOf}
-use Rattle.model.specs.Repair.{viewOf, walkOf, isBroken, classIn, repairOf, rebuilt}
+use Rattle.model.specs.Scan.{firstHeld}
+use Rattle.model.specs.Repair.{viewOf, walkOf, classIn, repairOf, rebuilt}
 use Rattle.model.specs.State.{frameCount, frameAt}
-use Rattle.model.specs.Refusals.{chainBroken, loadRows}
+use Rattle.model.specs.Refusals.{loadRows}
 use Rattle.model.specs.Calls.{withFrame, withFrames, isGood, loadOf, replyOf}
 use Rattle.model.specs.declared.geometry.Geometry.{Geometry}
 use Rattle.model.specs.declared.state.Entry.{Entry}
@@ -58,7 +62,8 @@ module _ (v m : List ℕ) (s : State) (page frame : ℕ) where
     pub none : firstOf (earlyRows v m s page frame) ≡ 0
     pub geometry : g ≡ geometryOf v
     pub entry : e ≡ entryOf (s .index) page
-    pub ready : Ready v g e page
+    pub sized : Sized g v
+    pub ready : (f : ℕ) → f ≡ firstHeld g v (s .durable) → Ready v g f e page
     pub page-high : page ≤ 64
     pub frame-low : 1 ≤ frame
     pub frame-high : frame ≤ 16
@@ -76,16 +81,19 @@ module _ (v m : List ℕ) (s : State) (page frame : ℕ) where
       let w = within-bounds (frameCount (length m)) frame (not-false _ (at 1)) in
       let high : page ≤ 64 = omega (arith, p .1, f .p-high) in
       let q = formed-page (geometryOf v) (frameCount (length m)) s (k .state) page (p .0) (p .1) high in
+      let few : s .durable ≤ most (geometryOf v) = omega (arith, k .state .room) in
+      let run : suc (s .durable) - firstHeld (geometryOf v) v (s .durable) ≤ geometryOf v .records = run-few (geometryOf v) v (s .durable) few in
       record {
         none = h;
         geometry = eg;
         entry = ee;
-        ready = record {
+        sized = sized v (k .volume) g eg;
+        ready = λ i ei. record {
           valid = k .volume;
           geometry = eg;
           low = p .0;
           high = rw eg (p .1);
-          durable = rw (ee, eg) (omega (arith, q .counted, k .state .room));
+          durable = rw (ee, ei, eg) (omega (arith, q .counted));
           slot = rw (ee, eg) (q .slot);
         };
         page-high = high;
@@ -94,40 +102,41 @@ module _ (v m : List ℕ) (s : State) (page frame : ℕ) where
         room = frame-within m (k .memory) frame (w .0) (w .1);
       }
 
-  module _ (g : Geometry) (e : Entry) (o : Open g e) where
-    -- what is made of the geometry and the entry at hand is made of the volume's and the state's
-    same : {A : Type 0} (f : Geometry → Entry → A) → f g e ≡ f (geometryOf v) (entryOf (s .index) page)
-    same f = ap (λ (k : Geometry). f k e) (o .geometry) ∙ ap (f (geometryOf v)) (o .entry)
+  module _ (g : Geometry) (e : Entry) (o : Open g e) (f : ℕ) (ef : f ≡ firstHeld g v (s .durable)) where
+    -- what is made of the geometry, the run start and the entry at hand is made of the volume's and the state's
+    same : {A : Type 0} (h : Geometry → ℕ → Entry → A) → h g f e ≡ h (geometryOf v) (firstHeld (geometryOf v) v (s .durable)) (entryOf (s .index) page)
+    same h =
+        ap (λ (x : ℕ). h g x e) ef ∙ ap (λ (k : Geometry). h k (firstHeld k v (s .durable)) e) (o .geometry)
+        ∙ ap (h (geometryOf v) (firstHeld (geometryOf v) v (s .durable))) (o .entry)
 
-    decides : (c : Walked) (b : Bool) → c ≡ walkedOf g page (viewOf g v e page) → b ≡ isBroken (c .stop) → firstOf (loadRows v m s page frame) ≡ cond b 19 0
+    decides : (c : Walked) (n : ℕ) → c ≡ walkedOf g page (viewOf g v f e page) → n ≡ firstOf (walkTail (c .stop)) → firstOf (loadRows v m s page frame) ≡ n
     unfolding walkedOf
-    decides c b ec eb =
-        let q : b ≡ chainBroken (geometryOf v) v s page =
-        eb ∙ ap (λ (x : Walked). isBroken (x .stop)) ec ∙ same (λ k x. isBroken (walkOf k page (viewOf k v x page) .stop)) in
-        walk-decides v m s page frame (o .none) ∙ rw q
+    decides c n ec en =
+        walk-decides v m s page frame (o .none)
+        ∙ sym (en ∙ ap (λ (x : Walked). firstOf (walkTail (x .stop))) ec ∙ same (λ k x y. firstOf (walkTail (walkOf k page (viewOf k v x y page) .stop))))
 
-    -- the walk breaks
-    pub broken : (c : Walked) (b : Bool) → c ≡ walkedOf g page (viewOf g v e page) → b ≡ isBroken (c .stop) → b ≡ true
-        → (_≡_ {A = Reply} (record { answer = Refused 19; state = s }) (replyOf (loadOf v m s page frame))) × (m ≡ loadOf v m s page frame .memory)
-    broken c b ec eb t = refuses 19 (sym (decides c b ec eb ∙ rw t)) (eqb-false 19 0 refl)
+    -- the walk refuses
+    pub stopped : (c : Walked) (n : ℕ) → c ≡ walkedOf g page (viewOf g v f e page) → n ≡ firstOf (walkTail (c .stop)) → (n ≡ 0 → ⊥)
+        → (_≡_ {A = Reply} (record { answer = Refused n; state = s }) (replyOf (loadOf v m s page frame))) × (m ≡ loadOf v m s page frame .memory)
+    stopped c n ec en ne = refuses n (sym (decides c n ec en)) ne
 
     -- it does not
-    pub done : (c : Walked) (b clean : Bool) (r : Repair) (w : List ℕ) (t : State) → c ≡ walkedOf g page (viewOf g v e page)
-        → b ≡ isBroken (c .stop)
-        → b ≡ false
-        → r ≡ repairOf g page (viewOf g v e page)
-        → w ≡ splice m (frameAt frame) (rebuilt g page (viewOf g v e page))
+    pub done : (c : Walked) (n : ℕ) (clean : Bool) (r : Repair) (w : List ℕ) (t : State) → c ≡ walkedOf g page (viewOf g v f e page)
+        → n ≡ firstOf (walkTail (c .stop))
+        → n ≡ 0
+        → r ≡ repairOf g page (viewOf g v f e page)
+        → w ≡ splice m (frameAt frame) (rebuilt g page (viewOf g v f e page))
         → clean ≡ isGood (r .class)
         → t ≡ withFrames s (withFrame s frame page (not clean)) (s .note)
         → (_≡_ {A = Reply} (record { answer = Repaired r; state = t }) (replyOf (loadOf v m s page frame))) × (w ≡ loadOf v m s page frame .memory)
     unfolding loadOf repairOf
-    done c b clean r w t ec eb f er ew eq et =
-        let z : firstOf (loadRows v m s page frame) ≡ 0 = decides c b ec eb ∙ rw f in
-        let r′ : r ≡ repairOf (geometryOf v) page (viewOf (geometryOf v) v (entryOf (s .index) page) page) = er ∙ same (λ k x. repairOf k page (viewOf k v x page)) in
-        let q : clean ≡ isGood (classIn (geometryOf v) page (viewOf (geometryOf v) v (entryOf (s .index) page) page)) = eq ∙ ap (λ (x : Repair). isGood (x .class)) r′ in
-        rw (eq-eqb (firstOf (loadRows v m s page frame)) 0 z) (
+    done c n clean r w t ec en z er ew eq et =
+        let view = viewOf (geometryOf v) v (firstHeld (geometryOf v) v (s .durable)) (entryOf (s .index) page) page in
+        let r′ : r ≡ repairOf (geometryOf v) page view = er ∙ same (λ k x y. repairOf k page (viewOf k v x y page)) in
+        let q : clean ≡ isGood (classIn (geometryOf v) page view) = eq ∙ ap (λ (x : Repair). isGood (x .class)) r′ in
+        rw (eq-eqb (firstOf (loadRows v m s page frame)) 0 (decides c n ec en ∙ z)) (
           ap (λ (x : Repair). record { answer = Repaired x; state = t }) r′
-              ∙ ap (λ (x : State). record { answer = Repaired (repairOf (geometryOf v) page (viewOf (geometryOf v) v (entryOf (s .index) page) page)); state = x })
+              ∙ ap (λ (x : State). record { answer = Repaired (repairOf (geometryOf v) page view); state = x })
               (et ∙ ap (λ (x : Bool). withFrames s (withFrame s frame page (not x)) (s .note)) q),
-          ew ∙ same (λ k x. splice m (frameAt frame) (rebuilt k page (viewOf k v x page))),
+          ew ∙ same (λ k x y. splice m (frameAt frame) (rebuilt k page (viewOf k v x y page))),
         )

@@ -1,21 +1,26 @@
 -- Load's refusals: the code's tests come to the rows before the walk, and these with the walk's come to the table.
 use mathlib.Core.Path.{_≡_, refl, sym, _∙_}
 use mathlib.Core.Bool.{Bool, true, false, not, cond}
-use mathlib.Core.List.{List, [], _∷_, _++_}
+use mathlib.Core.List.{List, [], _∷_}
 use Prim.Native.Nat.{ℕ}
 use lib.Dec.{eqb}
 use lib.ListN.{length}
 use borrow.Author.Tests.{eqb-false, eq-eqb, ne-eqb}
 use Rattle.laws.proofs.Tables.{Numbered, when-true, when-false}
+use Rattle.repair.proofs.Rows.{first-then}
 use Rattle.state.proofs.Fits.{refusal-then}
-use Rattle.load.specs.Rows.{loadTail, earlyRows}
+use Rattle.load.specs.Rows.{loadTail, earlyRows, walkTail}
 use Rattle.model.specs.Tables.{Row, firstOf, within}
 use Rattle.model.specs.Geometry.{geometryOf}
+use Rattle.model.specs.Index.{entryOf}
+use Rattle.model.specs.Scan.{firstHeld}
+use Rattle.model.specs.Repair.{viewOf, walkOf, isBroken, isBelow}
 use Rattle.model.specs.State.{frameCount, frameOf, held, blank}
-use Rattle.model.specs.Refusals.{chainBroken, stateRows, loadRows}
+use Rattle.model.specs.Refusals.{stateRows, loadRows}
 use Rattle.model.specs.declared.geometry.Geometry.{Geometry}
 use Rattle.model.specs.declared.state.Frame.{Frame}
 use Rattle.model.specs.declared.state.State.{State}
+use Rattle.model.specs.declared.answer.Stop.{Stop}
 
 -- the tests of the rows of Load's own
 pub own-is : (g : Geometry) (count : ℕ) (s : State) (page frame : ℕ) (none in-frame : Bool) (f : Frame) (b c d e k : ℕ)
@@ -42,14 +47,9 @@ unfolding earlyRows
 early-is v m s n g size count page frame rest r e eg ec er ek en =
     ek ∙ refusal-then v m s (loadTail (geometryOf v) (frameCount (length m)) s page frame) n rest e (er ∙ rw (ec, eg, ← en))
 
--- one more row behind a table
-picked : (t u : Bool) (k n j r : ℕ) → (k ≡ 0 → ⊥) → j ≡ cond (eqb r 0) (cond u n 0) r → cond t k j ≡ cond (eqb (cond t k r) 0) (cond u n 0) (cond t k r)
-picked true u k n j r ne e = rw (ne-eqb k 0 ne)
-picked false u k n j r ne e = e
-
-first-last : (l : List Row) (u : Bool) (n : ℕ) → Numbered l → firstOf (l ++ (u, n) ∷ []) ≡ cond (eqb (firstOf l) 0) (cond u n 0) (firstOf l)
-first-last [] u n ne = refl
-first-last (r ∷ l) u n ne = picked (r .0) u (r .1) n _ (firstOf l) (ne .0) (first-last l u n (ne .1))
+-- the rows behind the walk
+pub tail-is : (stop : Stop) (broken below : Bool) (a b : ℕ) → broken ≡ isBroken stop → below ≡ isBelow stop → a ≡ cond below 23 0 → b ≡ cond broken 19 a → b ≡ firstOf (walkTail stop)
+tail-is stop broken below a b eo el ea eb = rw (eb, ea, eo, el)
 
 module _ (v m : List ℕ) (s : State) (page frame : ℕ) where
   pub early-numbered : Numbered (earlyRows v m s page frame)
@@ -57,15 +57,19 @@ module _ (v m : List ℕ) (s : State) (page frame : ℕ) where
   early-numbered =
       (eqb-false 1 0 refl, (eqb-false 2 0 refl, (eqb-false 2 0 refl, (eqb-false 3 0 refl, (eqb-false 4 0 refl, (eqb-false 7 0 refl, (eqb-false 9 0 refl, (eqb-false 10 0 refl, tt))))))))
 
+  -- where the walk for the page stops
+  abbrev pub stopOf : Stop
+  stopOf = walkOf (geometryOf v) page (viewOf (geometryOf v) v (firstHeld (geometryOf v) v (s .durable)) (entryOf (s .index) page) page) .stop
+
   whole : firstOf (loadRows v m s page frame)
-      ≡ cond (eqb (firstOf (earlyRows v m s page frame)) 0) (cond (chainBroken (geometryOf v) v s page) 19 0) (firstOf (earlyRows v m s page frame))
+      ≡ cond (eqb (firstOf (earlyRows v m s page frame)) 0) (firstOf (walkTail stopOf)) (firstOf (earlyRows v m s page frame))
   unfolding loadRows earlyRows
-  whole = first-last (earlyRows v m s page frame) (chainBroken (geometryOf v) v s page) 19 early-numbered
+  whole = first-then (earlyRows v m s page frame) (walkTail stopOf) early-numbered
 
   -- a row before the walk refuses
   pub early-refuses : (n : ℕ) → n ≡ firstOf (earlyRows v m s page frame) → (n ≡ 0 → ⊥) → n ≡ firstOf (loadRows v m s page frame)
   early-refuses n e ne = e ∙ sym (whole ∙ when-false _ _ (ne-eqb _ _ (λ z. ne (e ∙ z))))
 
   -- only the walk may refuse
-  pub walk-decides : firstOf (earlyRows v m s page frame) ≡ 0 → firstOf (loadRows v m s page frame) ≡ cond (chainBroken (geometryOf v) v s page) 19 0
+  pub walk-decides : firstOf (earlyRows v m s page frame) ≡ 0 → firstOf (loadRows v m s page frame) ≡ firstOf (walkTail stopOf)
   walk-decides e = whole ∙ when-true _ _ (eq-eqb _ _ e)

@@ -1,14 +1,16 @@
--- Load's rows before the walk: those of its own, and with those of every call on the state.
+-- Load's rows before the walk: those of its own, and with those of every call on the state. And its rows behind the walk.
 use Prim.Native.Nat.{ℕ}
 use mathlib.Core.Bool.{not}
 use mathlib.Core.List.{List, [], _∷_}
 use lib.ListN.{length}
 use Rattle.model.specs.Tables.{Row, within}
 use Rattle.model.specs.Geometry.{geometryOf}
+use Rattle.model.specs.Repair.{isBroken, isBelow}
 use Rattle.model.specs.State.{frameCount, held, blank}
 use Rattle.model.specs.Refusals.{frameBlocked, stateRows}
 use Rattle.model.specs.declared.geometry.Geometry.{Geometry}
 use Rattle.model.specs.declared.state.State.{State}
+use Rattle.model.specs.declared.answer.Stop.{Stop}
 
 -- of a geometry and a number of frames
 abbrev pub loadTail : Geometry → ℕ → State → ℕ → ℕ → List Row
@@ -17,3 +19,7 @@ loadTail g frames s page frame =
 
 unfoldable pub earlyRows : List ℕ → List ℕ → State → ℕ → ℕ → List Row
 earlyRows v m s page frame = stateRows v m s (loadTail (geometryOf v) (frameCount (length m)) s page frame)
+
+-- of where the walk stopped
+abbrev pub walkTail : Stop → List Row
+walkTail stop = (isBroken stop, 19) ∷ (isBelow stop, 23) ∷ []

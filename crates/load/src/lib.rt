@@ -3,17 +3,19 @@ ghost use mathlib.Core.Path.{_≡_};
 ghost use mathlib.Core.List.{List};
 ghost use Prim.Native.Nat.{ℕ, _+_, _≤_};
 ghost use lib.ListN.{length};
-ghost use Rattle.load.specs.Rows.{loadTail, earlyRows};
+ghost use Rattle.load.specs.Rows.{loadTail, earlyRows, walkTail};
 ghost use Rattle.model.specs.Tables.{firstOf};
 ghost use Rattle.model.specs.Bytes.{splice};
 ghost use Rattle.model.specs.Repair.{viewOf, repairOf, rebuilt};
 ghost use Rattle.model.specs.State.{frameAt};
 ghost use Rattle.model.specs.Calls.{isGood, loadOf, replyOf};
 ghost use Rattle.repair.specs.Walked.{Ready, walkedOf};
+use index::log;
 use model::answer::Answer;
 use model::answer::Class;
 use model::answer::Repair;
 use model::answer::Reply;
+use model::answer::Stop;
 use model::geometry::Geometry;
 use model::state::Entry;
 use model::state::State;
@@ -52,6 +54,17 @@ fn refusal(s: State, volume: &[u8], size: usize, page: u32, frame: u32) -> u32
     rows::first(no != 0, no, rest)
 }
 
+// The refusal behind the walk: 19 where it breaks, 23 where it goes below the run.
+fn walk_refusal(stop: Stop) -> u32
+    ensures { λ r. ⌜ r ≡ firstOf (walkTail stop) ⌝ }
+{
+    rows::first(
+        walk::broken(stop),
+        19,
+        rows::first(walk::below(stop), 23, 0),
+    )
+}
+
 // Whether a page of the class is loaded clean.
 fn clean(c: Class) -> bool
     ensures { λ r. ⌜ r ≡ isGood c ⌝ }
@@ -70,30 +83,30 @@ fn restore(
     volume: &[u8],
     memory: &mut [u8],
     g: Geometry,
+    first: u64,
     e: Entry,
     page: u32,
     frame: u32,
     w: Walked,
 ) -> Repair
-    requires { ⌜ Ready (now volume) g e page ⌝ }
-    requires { ⌜ (w ≡ walkedOf g page (viewOf g (now volume) e page)) × (frameAt frame + 256 ≤ length (now memory)) ⌝ }
-    ensures answer { λ r. ⌜ r ≡ repairOf g page (viewOf g (now (volume .entry)) e page) ⌝ }
+    requires { ⌜ Ready (now volume) g first e page ⌝ }
+    requires { ⌜ (w ≡ walkedOf g page (viewOf g (now volume) first e page)) × (frameAt frame + 256 ≤ length (now memory)) ⌝ }
+    ensures answer { λ r. ⌜ r ≡ repairOf g page (viewOf g (now (volume .entry)) first e page) ⌝ }
     ensures memory { λ _. ⌜ now (memory .exit)
-        ≡ splice (now (memory .entry)) (frameAt frame) (rebuilt g page (viewOf g (now (volume .entry)) e page)) ⌝ }
+        ≡ splice (now (memory .entry)) (frameAt frame) (rebuilt g page (viewOf g (now (volume .entry)) first e page)) ⌝ }
 {
     let at = memory::frame_at(frame);
     let end = at + 256;
-    rebuild::rebuild(volume, g, e, page, w, &mut memory[at..end]);
-    answer::answer(volume, g, e, page, w)
+    rebuild::rebuild(volume, g, first, e, page, w, &mut memory[at..end]);
+    answer::answer(volume, g, first, e, page, w)
 }
 
 // Loads a page; a clean page in the frame makes way.
-// Ruled out: a page that was repaired and is left clean (tried); the page put into another frame than the one named
-// (tried); every page blank (tried); every call refused (tried); 19 where the walk finds a start.
+// Ruled out: a page that was repaired and is left clean (tried); the page put into another frame than the one named (tried); every page
+// blank (tried); every call refused (tried); 19 or 23 where the walk finds a start.
 pub fn load(s: State, volume: &[u8], memory: &mut [u8], page: u32, frame: u32) -> Reply
     ensures reply { λ r. ⌜ r ≡ replyOf (loadOf (now (volume .entry)) (now (memory .entry)) s page frame) ⌝ }
-    ensures memory { λ _. ⌜ now (memory .exit)
-        ≡ loadOf (now (volume .entry)) (now (memory .entry)) s page frame .memory ⌝ }
+    ensures memory { λ _. ⌜ now (memory .exit) ≡ loadOf (now (volume .entry)) (now (memory .entry)) s page frame .memory ⌝ }
 {
     let no = refusal(s, volume, memory.len(), page, frame);
     if no != 0 {
@@ -104,15 +117,17 @@ pub fn load(s: State, volume: &[u8], memory: &mut [u8], page: u32, frame: u32) -
     }
     let g = heading::geometry(volume);
     let e = entries::entry(s, page);
-    let walked = walk::walk(volume, g, e, page);
+    let first = log::first(volume, g, s.durable);
+    let walked = walk::walk(volume, g, first, e, page);
     let stop = walked.stop;
-    if walk::broken(stop) {
+    let stopped = walk_refusal(stop);
+    if stopped != 0 {
         return Reply {
-            answer: Answer::Refused(19),
+            answer: Answer::Refused(stopped),
             state: s,
         };
     }
-    let repair = restore(volume, memory, g, e, page, frame, walked);
+    let repair = restore(volume, memory, g, first, e, page, frame, walked);
     let class = repair.class;
     let dirty = !clean(class);
     Reply {

@@ -12,7 +12,7 @@ use Rattle.model.specs.Geometry.{Place, pageAt, slotAt, logSlot, noteSlo
 use Rattle.model.specs.Change.{zeroBody, applyChange}
 use Rattle.model.specs.Item.{imageLsn, imageBody, frameImage, encodeChange, noteBytes}
 use Rattle.model.specs.Index.{entryOf, setEntry, withLast, withDurable, enterNote}
-use Rattle.model.specs.Scan.{durableCount, noteCount, indexOf}
+use Rattle.model.specs.Scan.{durableCount, firstHeld, noteCount, indexOf}
 use Rattle.model.specs.Repair.{viewOf, repairOf, rebuilt, classIn}
 use Rattle.model.specs.State.{pendingAt, pendingBytes, frameAt, frameBytes, zeroState, emptyFrame, lastNumber, lastNote, holder}
 use Rattle.model.specs.Refusals.{pageDirty, makeRows, restartRows, beginRows, loadRows, changeRows, forceRows, writeRows, backupRows, noteRows, inspectRows}
@@ -111,7 +111,7 @@ isGood Ahead = false
 unfoldable pub loadOf : List ℕ → List ℕ → State → ℕ → ℕ → Outcome
 loadOf v m s page frame =
     let g = geometryOf v in
-    let w = viewOf g v (entryOf (s .index) page) page in
+    let w = viewOf g v (firstHeld g v (s .durable)) (entryOf (s .index) page) page in
     decided (loadRows v m s page frame) m s
     (record {
       answer = Repaired (repairOf g page w);
@@ -244,7 +244,7 @@ pub record Inspected : Type 0 where
 unfoldable pub inspectOf : List ℕ → ℕ → List ℕ → Inspected
 inspectOf v page buffer =
     let g = geometryOf v in
-    let w = viewOf g v (entryOf (indexOf g v) page) page in
+    let w = viewOf g v (firstHeld g v (durableCount g v)) (entryOf (indexOf g v) page) page in
     let no = firstOf (inspectRows v page (length buffer)) in
     cond (eqb no 0) (record { answer = Repaired (repairOf g page w); buffer = sealImage g (rebuilt g page w) })
     (record { answer = Refused no; buffer = buffer })

@@ -5,11 +5,17 @@
 use Prim.Native.Nat.{ℕ, zero, suc, _+_, _≤_, _<_}
 use mathlib.Core.Path.{_≡_}
 use mathlib.Core.Logic.{_≢_, _⊎_, _↔_}
-use mathlib.Core.Bool.{Bool, true, false}
+use mathlib.Core.Bool.{Bool, true, false, _&&_, _||_}
 use mathlib.Core.List.{List, [], _∷_, _++_}
 use lib.ListN.{length}
+use lib.Dec.{eqb, leb}
 use Rattle.model.specs.Bytes.{bytesOf, part}
-use Rattle.model.specs.Item.{frameImage}
+use Rattle.model.specs.Geometry.{geometryOf, pageAt, slotAt, item}
+use Rattle.model.specs.Item.{imageLsn, validImage, frameImage}
+use Rattle.model.specs.Index.{entryOf}
+use Rattle.model.specs.Scan.{indexOf, gone}
+use Rattle.model.specs.declared.geometry.Geometry.{Geometry}
+use Rattle.model.specs.declared.state.Entry.{Entry}
 use Rattle.model.specs.State.{frameBytes}
 use Rattle.model.specs.Calls.{makeOf, inspectOf, loadOf, refusalOf}
 use Rattle.model.specs.AbstractLog.{Logged, AbstractLog, emptyLog, replay, lastPlace}
@@ -46,6 +52,29 @@ logOf h = logAfter (fresh h) emptyLog (h .events)
 abbrev pub durableOf : History → List Logged
 durableOf h = logOf h .durable
 
+-- ---- the proviso
+
+-- page p's start is there: no backup is noted, or the slot's image is valid as p's with the noted number, or the own image is with a number
+-- at or above it
+abbrev pub startStands : Geometry → List ℕ → Entry → ℕ → Bool
+startStands g v e p =
+    eqb (e .slot) 0
+    || ((validImage g p (item g v (slotAt (e .slot))) && eqb (imageLsn (item g v (slotAt (e .slot)))) (e .backup))
+    || (validImage g p (item g v (pageAt p)) && leb (e .backup) (imageLsn (item g v (pageAt p)))))
+
+-- record 1 has left the log of the volume that a history leaves
+abbrev pub Gone : History → Type 0
+Gone h = gone (geometryOf (reached h .volume)) (reached h .volume) ≡ true
+
+abbrev pub Proviso : History → ℕ → Type 0
+Proviso h p =
+    let v = reached h .volume in
+    let g = geometryOf v in
+    startStands g v (entryOf (indexOf g v) p) p ≡ true
+
+abbrev pub Safe : History → Type 0
+Safe h = Gone h → (p : ℕ) → 1 ≤ p → p ≤ h .pages → Proviso h p
+
 -- ---- what inspection shows
 
 abbrev pub inspection : History → ℕ → List ℕ → ℕ
@@ -55,13 +84,18 @@ inspection h p buffer = refusalOf (inspectOf (reached h .volume) p buffer .answe
 abbrev pub shown : History → ℕ → List ℕ → List ℕ
 shown h p buffer = part (inspectOf (reached h .volume) p buffer .buffer) 4 248
 
--- "For a page 1 to P and a buffer of 256 bytes it answers 7 exactly if the page is blank; otherwise it isn't refused,
--- and bytes 4 to 251 of the buffer are the replay's number and body"
+-- it is not refused, and "bytes 4 to 251 of the buffer are the replay's number and body"
+abbrev pub ShowsReplay : History → ℕ → List ℕ → Type 0
+ShowsReplay h p buffer =
+    (inspection h p buffer ≡ 0) × (shown h p buffer ≡ bytesOf 4 (lastPlace p (durableOf h)) ++ replay p (durableOf h))
+
+-- "For a page 1 to P and a buffer of 256 bytes it answers 7 exactly if the page is blank; otherwise it isn't refused",
+-- or 23 where record 1 has left and the proviso fails
 pub record Inspects (h : History) (p : ℕ) (buffer : List ℕ) : Type 0 where
   pub blank : (inspection h p buffer ≡ 7) ↔ (lastPlace p (durableOf h) ≡ 0)
-  pub durable : lastPlace p (durableOf h) ≢ 0
-      → (inspection h p buffer ≡ 0)
-      × (shown h p buffer ≡ bytesOf 4 (lastPlace p (durableOf h)) ++ replay p (durableOf h))
+  pub durable : lastPlace p (durableOf h) ≢ 0 → ShowsReplay h p buffer ⊎ (inspection h p buffer ≡ 23)
+  pub granted : lastPlace p (durableOf h) ≢ 0 → (Gone h → Proviso h p) → ShowsReplay h p buffer
+  pub below : inspection h p buffer ≡ 23 → Gone h × (Proviso h p → ⊥)
 
 -- demand 2 of a Load in a machine that a history reaches: it is never refused 19, and where it is not refused the page
 -- has a durable change and the frame holds exactly the replay of its changes, durable and pending, check bytes zero
@@ -73,6 +107,7 @@ pub record Loads (h : History) (m : List ℕ) (s : State) (p f : ℕ) : Type 0 w
       ≡ frameImage p (lastPlace p (durableOf h)) (replay p (durableOf h)))
       × (lastPlace p (durableOf h ++ logOf h .pending) ≡ lastPlace p (durableOf h))
       × (replay p (durableOf h ++ logOf h .pending) ≡ replay p (durableOf h))
+  pub below : refusalOf (loadOf (reached h .volume) m s p f .answer) ≡ 23 → Gone h × (Proviso h p → ⊥)
 
 -- ---- two histories
 
@@ -101,6 +136,7 @@ pub record Demand2 : Type 0 where
 abbrev pub Demand3 : Type 0
 Demand3 =
     (h k : History) → Legal h → Legal k → h .pages ≡ k .pages
+    → Safe h → Safe k
     → (l : List Logged) → Begins (durableOf h) l → Begins (durableOf k) l
     → (x y : List ℕ) → length x ≡ 256 → length y ≡ 256
     → ((p : ℕ) → 1 ≤ p → p ≤ h .pages → Agree h k x y p) ↔ (length (durableOf h) ≡ length (durableOf k))

@@ -1,8 +1,9 @@
 -- A volume's heading, counts and length, and the place of each item in it. States document 01, "The volume and the
 -- memory": the four bytes 43 48 50 56, then each section after its count; P 1 to 64, B 0 to 128, L 1 to 1,024, N 0 to
--- 1,024; the length. And of document 02, §3: "New volumes carry the heading 43 48 50 32".
-use Prim.Native.Nat.{ℕ, _+_, _-_, _*_}
-use mathlib.Core.Bool.{Bool, true, false, _&&_, _||_}
+-- 1,024; the length. And of document 02, §3: "New volumes carry the heading 43 48 50 32"; §7: "Number n now goes to
+-- slot ((n − 1) modulo L) + 1".
+use Prim.Native.Nat.{ℕ, suc, _+_, _-_, _*_, _%_}
+use mathlib.Core.Bool.{Bool, true, false, cond, _&&_, _||_}
 use mathlib.Core.List.{List, [], _∷_, _++_}
 use lib.Dec.{eqb, leb}
 use lib.ListN.{length, replicate}
@@ -106,9 +107,33 @@ item g v at = part v (start g at) (width at)
 unfoldable pub store : Geometry → List ℕ → Place → List ℕ → List ℕ
 store g v at xs = splice v (start g at) xs
 
--- the slots that log record n and note n go to; a ring would put other numbers here
+-- ---- rings
+
+-- the log is a ring: heading 2 and at least two slots
+abbrev pub ring : Geometry → Bool
+ring g = eqb (g .tag) 0x32 && leb 2 (g .records)
+
+-- the notes are a ring where the log is (a name of its own: the proofs of the log's half set it to false)
+abbrev pub noteRing : Geometry → Bool
+noteRing g = ring g
+
+-- the last number that a record, and a note, may have
+abbrev pub topNumber : ℕ
+topNumber = 4294967295
+
+abbrev pub most : Geometry → ℕ
+most g = cond (ring g) topNumber (g .records)
+
+abbrev pub mostNotes : Geometry → ℕ
+mostNotes g = cond (noteRing g) topNumber (g .notes)
+
+-- slot(n) of L: "((n − 1) mod L) + 1"; numbers at most L stay where they are
+abbrev pub slotOf : ℕ → ℕ → ℕ
+slotOf l n = suc ((n - 1) % l)
+
+-- the slots that log record n and note n go to
 abbrev pub logSlot : Geometry → ℕ → Place
-logSlot g n = recordAt n
+logSlot g n = recordAt (slotOf (g .records) n)
 
 abbrev pub noteSlot : Geometry → ℕ → Place
-noteSlot g n = noteAt n
+noteSlot g n = noteAt (slotOf (g .notes) n)

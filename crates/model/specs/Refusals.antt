@@ -10,8 +10,8 @@ use Rattle.model.specs.Geometry.{geometryOf, validCounts, validVolume, l
 use Rattle.model.specs.Change.{fits}
 use Rattle.model.specs.Item.{imageLsn}
 use Rattle.model.specs.Index.{entryOf, slotUsed}
-use Rattle.model.specs.Scan.{durableCount, validLog, validNotes, indexOf, logIndex}
-use Rattle.model.specs.Repair.{viewOf, walkOf, isBroken}
+use Rattle.model.specs.Scan.{durableCount, firstHeld, validLog, validNotes, indexOf}
+use Rattle.model.specs.Repair.{viewOf, walkOf, isBroken, isBelow}
 use Rattle.model.specs.State.{frameCount, validMemory, frameBytes, frameOf, logFull, notesFull, notePending, holder, held, blank, wellFormed}
 use Rattle.model.specs.declared.geometry.Geometry.{Geometry}
 use Rattle.model.specs.declared.change.Change.{Change}
@@ -33,7 +33,14 @@ notDurable m s p = ltb (s .durable) (imageLsn (frameBytes m (holder s p)))
 
 -- 19: the walk for page p breaks
 abbrev pub chainBroken : Geometry → List ℕ → State → ℕ → Bool
-chainBroken g v s p = isBroken (walkOf g p (viewOf g v (entryOf (s .index) p) p) .stop)
+chainBroken g v s p = isBroken (walkOf g p (viewOf g v (firstHeld g v (s .durable)) (entryOf (s .index) p) p) .stop)
+
+-- 23: the walk for page p goes below the run, by the live count and by the count found
+abbrev pub chainBelow : Geometry → List ℕ → State → ℕ → Bool
+chainBelow g v s p = isBelow (walkOf g p (viewOf g v (firstHeld g v (s .durable)) (entryOf (s .index) p) p) .stop)
+
+abbrev pub foundBelow : Geometry → List ℕ → ℕ → Bool
+foundBelow g v p = isBelow (walkOf g p (viewOf g v (firstHeld g v (durableCount g v)) (entryOf (indexOf g v) p) p) .stop)
 
 -- ---- the tables
 
@@ -55,20 +62,20 @@ beginRows v m s page frame =
     let g = geometryOf v in
     stateRows v m s
     ((not (within (g .pages) page), 3) ∷ (not (within (frameCount (length m)) frame), 4) ∷ (not (blank s page), 9) ∷ (frameBlocked s frame, 10)
-    ∷ (eqb (s .pending) 16, 11) ∷ (logFull g s, 12) ∷ [])
+    ∷ (eqb (s .pending) 16, 11) ∷ (logFull g v s, 12) ∷ [])
 
 unfoldable pub loadRows : List ℕ → List ℕ → State → ℕ → ℕ → List Row
 loadRows v m s page frame =
     let g = geometryOf v in
     stateRows v m s
     ((not (within (g .pages) page), 3) ∷ (not (within (frameCount (length m)) frame), 4) ∷ (blank s page, 7) ∷ (held s page, 9)
-    ∷ (frameBlocked s frame, 10) ∷ (chainBroken g v s page, 19) ∷ [])
+    ∷ (frameBlocked s frame, 10) ∷ (chainBroken g v s page, 19) ∷ (chainBelow g v s page, 23) ∷ [])
 
 unfoldable pub changeRows : List ℕ → List ℕ → State → ℕ → Change → List Row
 changeRows v m s page c =
     let g = geometryOf v in
     stateRows v m s
-    ((not (within (g .pages) page), 3) ∷ (not (fits c), 6) ∷ (not (held s page), 8) ∷ (eqb (s .pending) 16, 11) ∷ (logFull g s, 12) ∷ [])
+    ((not (within (g .pages) page), 3) ∷ (not (fits c), 6) ∷ (not (held s page), 8) ∷ (eqb (s .pending) 16, 11) ∷ (logFull g v s, 12) ∷ [])
 
 unfoldable pub forceRows : List ℕ → List ℕ → State → List Row
 forceRows v m s = stateRows v m s []
@@ -79,7 +86,7 @@ writeRows v m s page =
     let g = geometryOf v in
     let d = pageDirty s page in
     stateRows v m s
-    ((not (within (g .pages) page), 3) ∷ (not (held s page), 8) ∷ (d && notePending (s .note), 13) ∷ (d && notesFull g s, 14)
+    ((not (within (g .pages) page), 3) ∷ (not (held s page), 8) ∷ (d && notePending (s .note), 13) ∷ (d && notesFull g v s, 14)
     ∷ (d && notDurable m s page, 15) ∷ [])
 
 unfoldable pub backupRows : List ℕ → List ℕ → State → ℕ → ℕ → List Row
@@ -87,7 +94,7 @@ backupRows v m s page slot =
     let g = geometryOf v in
     stateRows v m s
     ((not (within (g .pages) page), 3) ∷ (not (within (g .slots) slot), 5) ∷ (not (held s page), 8) ∷ (notePending (s .note), 13)
-    ∷ (notesFull g s, 14) ∷ (notDurable m s page, 15) ∷ (slotUsed slot (s .index), 16) ∷ [])
+    ∷ (notesFull g v s, 14) ∷ (notDurable m s page, 15) ∷ (slotUsed slot (s .index), 16) ∷ [])
 
 unfoldable pub noteRows : List ℕ → List ℕ → State → List Row
 noteRows v m s = stateRows v m s []
@@ -97,4 +104,4 @@ unfoldable pub inspectRows : List ℕ → ℕ → ℕ → List Row
 inspectRows v page size =
     let g = geometryOf v in
     (not (validVolume v), 1) ∷ (not (eqb size 256), 2) ∷ (not (within (g .pages) page), 3) ∷ (not (validLog g v), 17) ∷ (not (validNotes g v), 18)
-    ∷ (eqb (entryOf (indexOf g v) page .durable) 0, 7) ∷ []
+    ∷ (eqb (entryOf (indexOf g v) page .durable) 0, 7) ∷ (foundBelow g v page, 23) ∷ []

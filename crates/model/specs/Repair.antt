@@ -16,7 +16,7 @@ use Rattle.model.specs.declared.answer.Class.{Class}
 use Rattle.model.specs.declared.answer.Class.the-variants.{Good, Behind, Stale, Failed, Ahead}
 use Rattle.model.specs.declared.answer.Start.{Start}
 use Rattle.model.specs.declared.answer.Stop.{Stop}
-use Rattle.model.specs.declared.answer.Stop.the-variants.{Own, Backup, Format, Broken}
+use Rattle.model.specs.declared.answer.Stop.the-variants.{Own, Backup, Format, Broken, Below}
 use Rattle.model.specs.declared.answer.Repair.{Repair}
 
 -- "Good if n is the newest durable number; Behind if below that and at least the last written number; Stale if below the last
@@ -27,7 +27,7 @@ classOf valid n durable written =
     cond valid (cond (eqb n durable) Good (cond (ltb durable n) Ahead (cond (ltb n written) Stale Behind))) Failed
 
 -- All that a page's repair depends on: its own image, its durable and written lsn, the noted backup's lsn (0: none) and image, and the
--- log's records by number.
+-- log's records by number, with the number that the run starts at.
 pub record View : Type 0 where
   pub own : List ℕ
   pub durable : ℕ
@@ -35,10 +35,11 @@ pub record View : Type 0 where
   pub backup : ℕ
   pub copy : List ℕ
   pub log : ℕ → List ℕ
+  pub first : ℕ
 
 -- page p as the volume and its entry of the index show it; slot 0 is no backup
-abbrev pub viewOf : Geometry → List ℕ → Entry → ℕ → View
-viewOf g v e p =
+abbrev pub viewOf : Geometry → List ℕ → ℕ → Entry → ℕ → View
+viewOf g v f e p =
     record {
       own = item g v (pageAt p);
       durable = e .durable;
@@ -46,6 +47,7 @@ viewOf g v e p =
       backup = cond (eqb (e .slot) 0) 0 (e .backup);
       copy = item g v (slotAt (e .slot));
       log = λ n. item g v (logSlot g n);
+      first = f;
     }
 
 abbrev pub classIn : Geometry → ℕ → View → Class
@@ -79,18 +81,19 @@ behind [] w = w
 behind (n ∷ ns) w = record { stop = behind ns w .stop; chain = n ∷ behind ns w .chain }
 
 -- the walk for page p from number n on; each previous number is below, so n steps are enough
-unfoldable pub walkFrom : ℕ → (ℕ → List ℕ) → ℕ → ℕ → ℕ → ℕ → Walk
-walkFrom zero log p own backup n = stopAt Broken []
-walkFrom (suc steps) log p own backup n =
+unfoldable pub walkFrom : ℕ → (ℕ → List ℕ) → ℕ → ℕ → ℕ → ℕ → ℕ → Walk
+walkFrom zero log first p own backup n = stopAt Broken []
+walkFrom (suc steps) log first p own backup n =
     let r = log n in
-    let rest = behind (n ∷ []) (walkFrom steps log p own backup (recordOf r .prev)) in
+    let rest = behind (n ∷ []) (walkFrom steps log first p own backup (recordOf r .prev)) in
     cond (eqb own n) (stopAt Own [])
     (cond (eqb backup n) (stopAt Backup [])
-    (cond (chainRecord p n r) (cond (isFormat (recordOf r)) (stopAt Format (n ∷ [])) rest) (stopAt Broken [])))
+    (cond (ltb n first) (stopAt Below [])
+    (cond (chainRecord p n r) (cond (isFormat (recordOf r)) (stopAt Format (n ∷ [])) rest) (stopAt Broken []))))
 
 -- "The walk begins at the newest durable number"
 unfoldable pub walkOf : Geometry → ℕ → View → Walk
-walkOf g p w = walkFrom (w .durable) (w .log) p (ownStart g p w) (backupStart g p w) (w .durable)
+walkOf g p w = walkFrom (w .durable) (w .log) (w .first) p (ownStart g p w) (backupStart g p w) (w .durable)
 
 -- a chain's records replayed on a body, "oldest first"
 unfoldable pub replayChain : (ℕ → List ℕ) → List ℕ → List ℕ → List ℕ
@@ -103,6 +106,7 @@ startBody Own w = imageBody (w .own)
 startBody Backup w = imageBody (w .copy)
 startBody Format w = zeroBody
 startBody Broken w = zeroBody
+startBody Below w = zeroBody
 
 -- the repaired page: its body, and its image as a frame holds it
 unfoldable pub rebuiltBody : Geometry → ℕ → View → List ℕ
@@ -117,12 +121,22 @@ startOf Own = Start.Own
 startOf Backup = Start.Backup
 startOf Format = Start.Format
 startOf Broken = Start.Format
+startOf Below = Start.Format
 
 abbrev pub isBroken : Stop → Bool
 isBroken Own = false
 isBroken Backup = false
 isBroken Format = false
 isBroken Broken = true
+isBroken Below = false
+
+-- 23: the walk goes below the run
+abbrev pub isBelow : Stop → Bool
+isBelow Own = false
+isBelow Backup = false
+isBelow Format = false
+isBelow Broken = false
+isBelow Below = true
 
 -- "The answer holds the class, the start and the count replayed"
 unfoldable pub repairOf : Geometry → ℕ → View → Repair

@@ -1,16 +1,16 @@
 -- The scan of a volume's log and notes, and the index that they give. States document 01, "Restart: records 1 to n have right checks, ..",
 -- for any bytes, without memory or state. Restart, Inspect and the program share it.
 use Prim.Native.Nat.{ℕ, zero, suc, _+_, _-_, _*_}
-use mathlib.Core.Bool.{Bool, true, false, cond, _&&_, not}
-use mathlib.Core.List.{List, [], _∷_}
-use lib.Dec.{eqb, leb}
+use mathlib.Core.Bool.{Bool, true, false, cond, _&&_, _||_, not}
+use mathlib.Core.List.{List, [], _∷_, map}
+use lib.Dec.{eqb, leb, ltb}
 use lib.ListN.{replicate}
 use Rattle.model.specs.Tables.{all, every, within}
-use Rattle.model.specs.Bytes.{part, allZero}
-use Rattle.model.specs.Checksum.{sealedRun}
-use Rattle.model.specs.Geometry.{Place, recordAt, noteAt, width, start, item, logSlot, noteSlot}
+use Rattle.model.specs.Bytes.{le, field, part, allZero}
+use Rattle.model.specs.Checksum.{sealed, sealedRun}
+use Rattle.model.specs.Geometry.{Place, recordAt, noteAt, width, start, item, ring, noteRing, logSlot, noteSlot}
 use Rattle.model.specs.Item.{recordOf, recordLayout, firstIsFormat, noteOf, noteLayout, isWritten}
-use Rattle.model.specs.Index.{emptyIndex, entryOf, setEntry, enterNote, slotUsed}
+use Rattle.model.specs.Index.{emptyIndex, entryRow, entryOf, setEntry, enterNote, slotUsed, settled}
 use Rattle.model.specs.declared.geometry.Geometry.{Geometry}
 use Rattle.model.specs.declared.item.LogRecord.{LogRecord}
 use Rattle.model.specs.declared.item.Note.{Note}
@@ -26,11 +26,26 @@ logRecord g v n = recordOf (item g v (logSlot g n))
 abbrev pub noteRecord : Geometry → List ℕ → ℕ → Note
 noteRecord g v n = noteOf (item g v (noteSlot g n))
 
+abbrev pub larger : ℕ → ℕ → ℕ
+larger a b = cond (leb a b) b a
+
+-- "the highest number in any whole slot (0: none)", of the first `count` slots: items of c bytes and their checksum, that start with their number
+unfoldable pub highest : ℕ → (ℕ → List ℕ) → ℕ → ℕ
+highest c slot zero = 0
+highest c slot (suc i) = let rest = highest c slot i in larger rest (cond (sealed c (slot (suc i))) (field 4 0 (slot (suc i))) 0)
+
 -- ---- the log
 
--- "records 1 to n have right checks, slot n + 1 hasn't": n
+-- no ring: "records 1 to n have right checks, slot n + 1 hasn't": n. A ring: the highest number in a whole slot
 unfoldable pub durableCount : Geometry → List ℕ → ℕ
-durableCount g v = sealedRun 60 (g .records) v (start g (recordAt 1))
+durableCount g v =
+    cond (ring g) (highest 60 (λ i. item g v (recordAt i)) (g .records)) (sealedRun 60 (g .records) v (start g (recordAt 1)))
+
+-- the run start, with n records: f = max(1, n − L + 1), or one later if slot(f) is not whole; 1 where there is no ring
+unfoldable pub firstHeld : Geometry → List ℕ → ℕ → ℕ
+firstHeld g v n =
+    let f = suc (n - g .records) in
+    cond (ring g) (cond (sealed 60 (item g v (logSlot g f))) f (suc f)) 1
 
 -- the index with record n of page p entered
 abbrev pub enterRecord : List Entry → ℕ → ℕ → List Entry
@@ -38,38 +53,61 @@ enterRecord index p n =
     let e = entryOf index p in
     setEntry index p (record { last = n; durable = n; written = e .written; slot = e .slot; backup = e .backup })
 
--- the index that records 1 to n give
-unfoldable pub logIndex : Geometry → List ℕ → ℕ → List Entry
-logIndex g v zero = emptyIndex
-logIndex g v (suc n) = enterRecord (logIndex g v n) (logRecord g v (suc n) .page) (suc n)
+-- the index that the c records from number f on give
+unfoldable pub logIndex : Geometry → List ℕ → ℕ → ℕ → List Entry
+logIndex g v f zero = emptyIndex
+logIndex g v f (suc c) = enterRecord (logIndex g v f c) (logRecord g v (f + c) .page) (f + c)
 
--- the chain rule of one page, for a record and the number of the page's last earlier one (0: none): it names that one, and only a format is first
-abbrev pub linked : ℕ → LogRecord → Bool
-linked last e = eqb (e .prev) last && firstIsFormat e
+-- the chain rule of one page, in a run from f on, for a record and the number of the page's last earlier one in the run (0: none): it names
+-- that one, or, where there is none, one below the run; and only a format names none
+abbrev pub linked : ℕ → ℕ → LogRecord → Bool
+linked f last e = (eqb (e .prev) last || (eqb last 0 && within (f - 1) (e .prev))) && firstIsFormat e
 
--- record n, after records that gave the index, "obeys the layout, has its slot's number and a page in range, and names the page's
--- last earlier record; a page's first is a format"
-unfoldable pub recordFits : Geometry → List ℕ → List Entry → ℕ → Bool
-recordFits g v index n =
+-- record n, after records that gave the index, has a right check, "obeys the layout, has its slot's number and a page in range, and names
+-- the page's last earlier record; a page's first is a format"
+unfoldable pub recordFits : Geometry → List ℕ → ℕ → List Entry → ℕ → Bool
+recordFits g v f index n =
     let e = logRecord g v n in
     all
-    (recordLayout (item g v (logSlot g n)) ∷ eqb (e .lsn) n ∷ within (g .pages) (e .page) ∷ linked (entryOf index (e .page) .last) e ∷ [])
+    (sealed 60 (item g v (logSlot g n)) ∷ recordLayout (item g v (logSlot g n)) ∷ eqb (e .lsn) n ∷ within (g .pages) (e .page)
+    ∷ linked f (entryOf index (e .page) .last) e ∷ [])
+
+-- what follows a section's last number n, of `count` slots: past the turn nothing is asked; before it slot n + 1 is not whole, and the run
+-- starts at 1
+abbrev pub endsAt : ℕ → ℕ → ℕ → Bool → Bool
+endsAt count n f next = leb count n || (not next && (eqb n 0 || eqb f 1))
 
 -- the log keeps the restart rule (refusal 17 is that it does not)
 unfoldable pub validLog : Geometry → List ℕ → Bool
 validLog g v =
     let n = durableCount g v in
-    every n (λ i. recordFits g v (logIndex g v i) (suc i)) && restZero 64 (g .records) v (start g (recordAt 1)) n
+    let f = firstHeld g v n in
+    every (suc n - f) (λ i. recordFits g v f (logIndex g v f i) (f + i))
+    && (endsAt (g .records) n f (sealed 60 (item g v (recordAt (suc n)))) && restZero 64 (g .records) v (start g (recordAt 1)) n)
+
+-- "record 1 has left": 24's condition. Not on a fresh volume, where the run start is 2
+unfoldable pub gone : Geometry → List ℕ → Bool
+gone g v = let n = durableCount g v in ltb 0 n && ltb 1 (firstHeld g v n)
 
 -- ---- the notes
 
 unfoldable pub noteCount : Geometry → List ℕ → ℕ
-noteCount g v = sealedRun 12 (g .notes) v (start g (noteAt 1))
+noteCount g v =
+    cond (noteRing g) (highest 12 (λ i. item g v (noteAt i)) (g .notes)) (sealedRun 12 (g .notes) v (start g (noteAt 1)))
 
--- the index that the log and notes 1 to k give
-unfoldable pub noteIndex : Geometry → List ℕ → ℕ → List Entry
-noteIndex g v zero = logIndex g v (durableCount g v)
-noteIndex g v (suc k) = enterNote (noteIndex g v k) (noteRecord g v (suc k))
+unfoldable pub firstNote : Geometry → List ℕ → ℕ → ℕ
+firstNote g v n =
+    let f = suc (n - g .notes) in
+    cond (noteRing g) (cond (sealed 12 (item g v (noteSlot g f))) f (suc f)) 1
+
+-- the index that the log's run gives
+abbrev pub runIndex : Geometry → List ℕ → List Entry
+runIndex g v = let n = durableCount g v in let f = firstHeld g v n in logIndex g v f (suc n - f)
+
+-- the index that the log and the c notes from number f on give
+unfoldable pub noteIndex : Geometry → List ℕ → ℕ → ℕ → List Entry
+noteIndex g v f zero = runIndex g v
+noteIndex g v f (suc c) = enterNote (noteIndex g v f c) (noteRecord g v (f + c))
 
 -- "isn't below that page's last note of its kind, and a backup's slot is in range and isn't in the index then"
 unfoldable pub noteFollows : Geometry → List Entry → Note → Bool
@@ -77,20 +115,30 @@ noteFollows g index e =
     cond (isWritten e) (leb (entryOf index (e .page) .written) (e .lsn))
     (all (leb (entryOf index (e .page) .backup) (e .lsn) ∷ within (g .slots) (e .slot) ∷ not (slotUsed (e .slot) index) ∷ []))
 
--- note k, after notes that gave the index: its layout, "its place's number and a page in range", and it "names a durable record of its page"
+-- note k, after notes that gave the index: its check and layout, "its place's number and a page in range", and it "names a durable record of
+-- its page", which is looked up only from the run's start on
 unfoldable pub noteFits : Geometry → List ℕ → List Entry → ℕ → Bool
 noteFits g v index k =
     let e = noteRecord g v k in
+    let n = durableCount g v in
     all
-    (noteLayout e ∷ eqb (e .number) k ∷ within (g .pages) (e .page) ∷ within (durableCount g v) (e .lsn)
-    ∷ eqb (logRecord g v (e .lsn) .page) (e .page) ∷ noteFollows g index e ∷ [])
+    (sealed 12 (item g v (noteSlot g k)) ∷ noteLayout e ∷ eqb (e .number) k ∷ within (g .pages) (e .page) ∷ within n (e .lsn)
+    ∷ (ltb (e .lsn) (firstHeld g v n) || eqb (logRecord g v (e .lsn) .page) (e .page)) ∷ noteFollows g index e ∷ [])
 
--- the notes keep the restart rule (refusal 18 is that they do not)
+-- the index that a volume's log and notes give: "a page with no record in the run gets last = durable = its last backup note's number"
+abbrev pub indexOf : Geometry → List ℕ → List Entry
+indexOf g v =
+    let k = noteCount g v in
+    let f = firstNote g v k in
+    map settled (noteIndex g v f (suc k - f))
+
+-- the notes keep the restart rule (refusal 18 is that they do not); the written numbers are judged at the end
 unfoldable pub validNotes : Geometry → List ℕ → Bool
 validNotes g v =
     let k = noteCount g v in
-    every k (λ i. noteFits g v (noteIndex g v i) (suc i)) && restZero 16 (g .notes) v (start g (noteAt 1)) k
-
--- the index that a volume's log and notes give
-abbrev pub indexOf : Geometry → List ℕ → List Entry
-indexOf g v = noteIndex g v (noteCount g v)
+    let f = firstNote g v k in
+    let index = indexOf g v in
+    every (suc k - f) (λ i. noteFits g v (noteIndex g v f i) (f + i))
+    && (endsAt (g .notes) k f (sealed 12 (item g v (noteAt (suc k))))
+    && (restZero 16 (g .notes) v (start g (noteAt 1)) k
+    && every 64 (λ i. leb (entryRow index i .written) (entryRow index i .last))))

@@ -7,8 +7,11 @@ use lib.Dec.{eqb, leb, ltb}
 use lib.ListN.{length, getD, replicate}
 use Rattle.model.specs.Tables.{all, every, within}
 use Rattle.model.specs.Bytes.{part}
+use Rattle.model.specs.Checksum.{sealed}
+use Rattle.model.specs.Geometry.{ring, noteRing, most, mostNotes, item, logSlot, noteSlot}
 use Rattle.model.specs.Item.{noteLayout, isWritten}
 use Rattle.model.specs.Index.{emptyEntry, emptyIndex, entryRow, entryOf}
+use Rattle.model.specs.Scan.{logRecord, noteRecord}
 use Rattle.model.specs.declared.geometry.Geometry.{Geometry}
 use Rattle.model.specs.declared.item.Note.{Note}
 use Rattle.model.specs.declared.state.Entry.{Entry}
@@ -63,12 +66,37 @@ lastNumber s = s .durable + s .pending
 abbrev pub lastNote : State → ℕ
 lastNote s = s .notes
 
--- the last number given is L; N notes are stored
-abbrev pub logFull : Geometry → State → Bool
-logFull g s = leb (g .records) (lastNumber s)
+-- record j is not known to be spare: it is pending, or stands whole in its slot and its page has no noted backup at or above it
+unfoldable pub recordNeeded : Geometry → List ℕ → State → ℕ → Bool
+recordNeeded g v s j =
+    let r = item g v (logSlot g j) in
+    let e = logRecord g v j in
+    let x = entryOf (s .index) (e .page) in
+    ltb (s .durable) j
+    || all (sealed 60 r ∷ eqb (e .lsn) j ∷ not (within (g .pages) (e .page) && (not (eqb (x .slot) 0) && leb j (x .backup))) ∷ [])
 
-abbrev pub notesFull : Geometry → State → Bool
-notesFull g s = leb (g .notes) (lastNote s)
+-- 12: the last number is given; or, in a ring, the record that the next one would displace is needed
+unfoldable pub logFull : Geometry → List ℕ → State → Bool
+logFull g v s =
+    let n = lastNumber s in
+    leb (most g) n || (ring g && (leb (g .records) n && recordNeeded g v s (suc n - g .records)))
+
+-- note j stands whole in its slot
+abbrev pub noteWhole : Geometry → List ℕ → ℕ → Bool
+noteWhole g v j = sealed 12 (item g v (noteSlot g j)) && eqb (noteRecord g v j .number) j
+
+abbrev pub noteLike : Geometry → List ℕ → ℕ → ℕ → Bool
+noteLike g v j i = eqb (noteRecord g v i .page) (noteRecord g v j .page) && eqb (noteRecord g v i .kind) (noteRecord g v j .kind)
+
+-- note j, of k, is not known to be spare: it stands whole, and no later one of its page and kind does
+unfoldable pub noteNeeded : Geometry → List ℕ → ℕ → ℕ → Bool
+noteNeeded g v k j = noteWhole g v j && every (k - j) (λ i. not (noteWhole g v (suc (j + i)) && noteLike g v j (suc (j + i))))
+
+-- 14: there is no note slot; or the last number is given; or, in a ring, the note that the next one would displace is needed
+unfoldable pub notesFull : Geometry → List ℕ → State → Bool
+notesFull g v s =
+    let k = lastNote s in
+    eqb (g .notes) 0 || (leb (mostNotes g) k || (noteRing g && (leb (g .notes) k && noteNeeded g v k (suc k - g .notes))))
 
 abbrev pub notePending : PendingNote → Bool
 notePending Absent = false
@@ -98,7 +126,7 @@ unfoldable pub pendingNoteFits : Geometry → ℕ → ℕ → PendingNote → Bo
 pendingNoteFits g notes durable Absent = true
 pendingNoteFits g notes durable (Present n) =
     all
-    (ltb notes (g .notes) ∷ noteLayout n ∷ eqb (n .number) (notes + 1) ∷ within (g .pages) (n .page) ∷ (isWritten n || within (g .slots) (n .slot))
+    (ltb notes (mostNotes g) ∷ ltb 0 (g .notes) ∷ noteLayout n ∷ eqb (n .number) (notes + 1) ∷ within (g .pages) (n .page) ∷ (isWritten n || within (g .slots) (n .slot))
     ∷ leb (n .lsn) durable ∷ [])
 
 -- no frame before frame i, counted from 0, holds its page
@@ -135,5 +163,5 @@ pageFits g s i = let e = entryRow (s .index) i in cond (ltb i (g .pages)) (entry
 unfoldable pub wellFormed : Geometry → ℕ → State → Bool
 wellFormed g frames s =
     all
-    (leb (s .durable + s .pending) (g .records) ∷ leb (s .pending) 16 ∷ leb (s .notes) (g .notes) ∷ pendingNoteFits g (s .notes) (s .durable) (s .note)
+    (leb (s .durable + s .pending) (most g) ∷ leb (s .pending) 16 ∷ leb (s .notes) (mostNotes g) ∷ pendingNoteFits g (s .notes) (s .durable) (s .note)
     ∷ every 16 (frameFits g frames s) ∷ every 64 (pageFits g s) ∷ [])

@@ -16,12 +16,13 @@ pub enum Start {
     Format,
 }
 
-// Where the chain walk stops: at a start, or at a record that breaks the chain.
+// Where the chain walk stops: at a start, at a record that breaks the chain, or below the run.
 pub enum Stop {
     Own,
     Backup,
     Format,
     Broken,
+    Below,
 }
 
 // How a page was found and repaired: its image's class, the replay's start and the count of records replayed.

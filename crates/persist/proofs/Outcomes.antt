@@ -114,4 +114,5 @@ module _ (v m : List ℕ) (s : State) where
   unfolding noteCall noteRows
   note-done n g k t w e d eg ek et ew =
       gives-is v Done t w _ _ (sym (ap (noteStored v m s) d) ∙ passed v m s (stateRows v m s []) _ e)
-      (stored v m t _ g k w (noteBytes n) _ (noteSlot (geometryOf v) (s .notes + 1)) et refl eg ek ew)
+      (stored v m t _ g k w (noteBytes n) _ (noteSlot (geometryOf v) (s .notes + 1)) et refl eg
+      (ek ∙ ap (λ (h : Geometry). start g (noteSlot h (s .notes + 1))) eg) ew)

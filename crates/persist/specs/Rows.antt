@@ -11,15 +11,15 @@ use Rattle.model.specs.declared.geometry.Geometry.{Geometry}
 use Rattle.model.specs.declared.state.State.{State}
 
 -- those that both have, where t holds
-abbrev pub noteTail : Geometry → State → Bool → ℕ → List Row → List Row
-noteTail g s t lsn rest = (t && notePending (s .note), 13) ∷ (t && notesFull g s, 14) ∷ (t && ltb (s .durable) lsn, 15)
+abbrev pub noteTail : Geometry → List ℕ → State → Bool → ℕ → List Row → List Row
+noteTail g v s t lsn rest = (t && notePending (s .note), 13) ∷ (t && notesFull g v s, 14) ∷ (t && ltb (s .durable) lsn, 15)
     ∷ rest
 
-abbrev pub writeTail : Geometry → State → ℕ → ℕ → ℕ → List Row
-writeTail g s page f lsn = (not (within (g .pages) page), 3) ∷ (not (ltb 0 f), 8) ∷ noteTail g s
+abbrev pub writeTail : Geometry → List ℕ → State → ℕ → ℕ → ℕ → List Row
+writeTail g v s page f lsn = (not (within (g .pages) page), 3) ∷ (not (ltb 0 f), 8) ∷ noteTail g v s
     (frameOf s f .dirty) lsn []
 
-abbrev pub backupTail : Geometry → State → ℕ → ℕ → ℕ → ℕ → List Row
-backupTail g s page slot f lsn =
-    (not (within (g .pages) page), 3) ∷ (not (within (g .slots) slot), 5) ∷ (not (ltb 0 f), 8) ∷ noteTail g s true lsn
+abbrev pub backupTail : Geometry → List ℕ → State → ℕ → ℕ → ℕ → ℕ → List Row
+backupTail g v s page slot f lsn =
+    (not (within (g .pages) page), 3) ∷ (not (within (g .slots) slot), 5) ∷ (not (ltb 0 f), 8) ∷ noteTail g v s true lsn
     ((slotUsed slot (s .index), 16) ∷ [])

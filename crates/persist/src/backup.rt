@@ -1,7 +1,9 @@
 // Backup: stores a page's image in a backup slot and leaves a note of it pending.
 ghost use mathlib.Core.Path.{_≡_};
+ghost use mathlib.Core.Bool.{true};
 ghost use Rattle.persist.specs.Rows.{backupTail};
 ghost use Rattle.model.specs.Tables.{firstOf};
+ghost use Rattle.model.specs.Geometry.{geometryOf, validVolume};
 ghost use Rattle.model.specs.Refusals.{backupRows};
 ghost use Rattle.model.specs.Calls.{backupOf, replyOf, volumeAfter};
 use crate::image;
@@ -17,14 +19,15 @@ use volume::place;
 use volume::rows;
 
 // The rows of Backup's own, for the frame that holds the page, or 0, and the page lsn in it.
-fn own(s: State, g: Geometry, page: u32, slot: u32, f: u32, lsn: u32) -> u32
-    ensures { λ r. ⌜ r ≡ firstOf (backupTail g s page slot f lsn) ⌝ }
+fn own(s: State, volume: &[u8], g: Geometry, page: u32, slot: u32, f: u32, lsn: u32) -> u32
+    requires { ⌜ (validVolume (now volume) ≡ true) × (g ≡ geometryOf (now volume)) ⌝ }
+    ensures { λ r. ⌜ r ≡ firstOf (backupTail g (now (volume .entry)) s page slot f lsn) ⌝ }
 {
     let outside = !((1 <= page) & (page <= g.pages));
     let no_slot = !((1 <= slot) & (slot <= g.slots));
     let index = s.index;
     let used = index::rows::used(index, slot);
-    let rest = noting::refusal(s, g, true, lsn, rows::first(used, 16, 0));
+    let rest = noting::refusal(s, volume, g, true, lsn, rows::first(used, 16, 0));
     rows::first(
         outside,
         3,
@@ -37,11 +40,13 @@ fn refusal(s: State, volume: &[u8], memory: &[u8], page: u32, slot: u32) -> u32
     ensures { λ r. ⌜ r ≡ firstOf (backupRows (now (volume .entry)) (now (memory .entry)) s page slot) ⌝ }
 {
     let no = state::rows::refusal(s, volume, memory.len());
+    if no != 0 {
+        return no;
+    }
     let g = heading::geometry(volume);
     let f = frames::holder(s, page);
     let lsn = image::lsn(memory, f);
-    let rest = own(s, g, page, slot, f, lsn);
-    rows::first(no != 0, no, rest)
+    own(s, volume, g, page, slot, f, lsn)
 }
 
 // Stores the image of a page that a frame holds in the slot; a note of it is pending.

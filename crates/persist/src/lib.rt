@@ -2,5 +2,6 @@
 pub mod backup;
 mod image;
 pub mod note;
+mod notes;
 mod noting;
 pub mod write;

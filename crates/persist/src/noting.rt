@@ -1,8 +1,10 @@
 // The rows 13 to 15, which Write and Backup share: whether a note of an image may be left pending.
 ghost use mathlib.Core.Path.{_≡_};
-ghost use mathlib.Core.Bool.{_&&_, cond};
+ghost use mathlib.Core.Bool.{true, _&&_, cond};
 ghost use lib.Dec.{ltb};
+ghost use Rattle.model.specs.Geometry.{geometryOf, validVolume};
 ghost use Rattle.model.specs.State.{notePending, notesFull};
+use crate::notes;
 use model::geometry::Geometry;
 use model::state::PendingNote;
 use model::state::State;
@@ -19,19 +21,23 @@ fn present(p: PendingNote) -> bool
 }
 
 // The first of the rows that holds, where t does, for an image of this page lsn; else rest.
-pub fn refusal(s: State, g: Geometry, t: bool, lsn: u32, rest: u32) -> u32
+pub fn refusal(s: State, volume: &[u8], g: Geometry, t: bool, lsn: u32, rest: u32) -> u32
+    requires { ⌜ (validVolume (now volume) ≡ true) × (g ≡ geometryOf (now volume)) ⌝ }
     ensures { λ r.
         ⌜ r
-        ≡ cond (t && notePending (s .note)) 13 (cond (t && notesFull g s) 14
+        ≡ cond (t && notePending (s .note)) 13 (cond (t && notesFull g (now (volume .entry)) s) 14
         (cond (t && ltb (s .durable) lsn) 15 rest)) ⌝ }
 {
+    if !t {
+        return rest;
+    }
     let p = s.note;
     let pending = present(p);
-    let full = g.notes <= s.notes;
+    let full = notes::full(s, volume, g);
     let ahead = s.durable < lsn;
     rows::first(
-        t & pending,
+        pending,
         13,
-        rows::first(t & full, 14, rows::first(t & ahead, 15, rest)),
+        rows::first(full, 14, rows::first(ahead, 15, rest)),
     )
 }

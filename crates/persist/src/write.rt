@@ -1,7 +1,9 @@
 // Write: stores a dirty page's image and leaves a note of it pending.
 ghost use mathlib.Core.Path.{_≡_};
+ghost use mathlib.Core.Bool.{true};
 ghost use Rattle.persist.specs.Rows.{writeTail};
 ghost use Rattle.model.specs.Tables.{firstOf};
+ghost use Rattle.model.specs.Geometry.{geometryOf, validVolume};
 ghost use Rattle.model.specs.Refusals.{writeRows};
 ghost use Rattle.model.specs.Calls.{writeOf, replyOf, volumeAfter};
 use crate::image;
@@ -17,12 +19,13 @@ use volume::place;
 use volume::rows;
 
 // The rows of Write's own, for the frame that holds the page, or 0, and the page lsn in it.
-fn own(s: State, g: Geometry, page: u32, f: u32, lsn: u32) -> u32
-    ensures { λ r. ⌜ r ≡ firstOf (writeTail g s page f lsn) ⌝ }
+fn own(s: State, volume: &[u8], g: Geometry, page: u32, f: u32, lsn: u32) -> u32
+    requires { ⌜ (validVolume (now volume) ≡ true) × (g ≡ geometryOf (now volume)) ⌝ }
+    ensures { λ r. ⌜ r ≡ firstOf (writeTail g (now (volume .entry)) s page f lsn) ⌝ }
 {
     let outside = !((1 <= page) & (page <= g.pages));
     let dirty = frames::frame(s, f).dirty;
-    let rest = noting::refusal(s, g, dirty, lsn, 0);
+    let rest = noting::refusal(s, volume, g, dirty, lsn, 0);
     rows::first(outside, 3, rows::first(!(0 < f), 8, rest))
 }
 
@@ -31,11 +34,13 @@ fn refusal(s: State, volume: &[u8], memory: &[u8], page: u32) -> u32
     ensures { λ r. ⌜ r ≡ firstOf (writeRows (now (volume .entry)) (now (memory .entry)) s page) ⌝ }
 {
     let no = state::rows::refusal(s, volume, memory.len());
+    if no != 0 {
+        return no;
+    }
     let g = heading::geometry(volume);
     let f = frames::holder(s, page);
     let lsn = image::lsn(memory, f);
-    let rest = own(s, g, page, f, lsn);
-    rows::first(no != 0, no, rest)
+    own(s, volume, g, page, f, lsn)
 }
 
 // Stores a dirty page's image; the page is clean, a note of it is pending. Nothing on a clean page.

@@ -1,4 +1,5 @@
 -- Laws that belong to no one function.
+pub mod Rows
 pub mod Links
 pub mod Walks
 pub mod Starts

@@ -6,12 +6,12 @@ use mathlib.Core.List.{List, [], _∷_}
 use native.Mathlib.Omega.{arith}
 use lib.Dec.{eqb, ltb, leb}
 use lib.ListN.{length, getD}
-use borrow.Author.Tests.{eqb-true, eq-eqb, ne-eqb, ltb-true, leb-true}
+use borrow.Author.Tests.{eqb-true, eq-eqb, ne-eqb, ltb-true, lt-ltb, le-ltb, leb-true}
 use Rattle.laws.proofs.Tables.{all-at, byCases}
 use Rattle.model.specs.Checksum.{sealed}
 use Rattle.model.specs.Item.{recordOf, recordLayout, isFormat, firstIsFormat}
 use Rattle.model.specs.Repair.{Walk, stopAt, behind, chainRecord, walkFrom}
-use Rattle.model.specs.declared.answer.Stop.the-variants.{Own, Backup, Format, Broken}
+use Rattle.model.specs.declared.answer.Stop.the-variants.{Own, Backup, Format, Broken, Below}
 use Rattle.model.specs.declared.item.LogRecord.{LogRecord}
 use Rattle.repair.specs.Walked.{stepOf}
 use Rattle.repair.specs.declared.walk.Step.{Step}
@@ -44,22 +44,24 @@ follow (Halt s) n k = stopAt s []
 follow (Read prev true) n k = stopAt Format (n ∷ [])
 follow (Read prev false) n k = behind (n ∷ []) (k prev)
 
-pick-read : (z a b o : Bool) (q p : ℕ) (f t : Bool)
-    → cond z (Halt Broken) (cond a (Halt Own) (cond b (Halt Backup) (cond o (Read q f) (Halt Broken)))) ≡ Read p t
-    → (z ≡ false) × (o ≡ true) × (q ≡ p) × (f ≡ t)
-pick-read true a b o q p f t h = (cc, cc, cc, cc)
-pick-read false true b o q p f t h = (cc, cc, cc, cc)
-pick-read false false true o q p f t h = (cc, cc, cc, cc)
-pick-read false false false true q p f t h = (refl, refl, cc, cc)
-pick-read false false false false q p f t h = (cc, cc, cc, cc)
+pick-read : (z a b w o : Bool) (q p : ℕ) (f t : Bool)
+    → cond z (Halt Broken) (cond a (Halt Own) (cond b (Halt Backup) (cond w (Halt Below) (cond o (Read q f) (Halt Broken))))) ≡ Read p t
+    → (w ≡ false) × (o ≡ true) × (q ≡ p) × (f ≡ t)
+pick-read true a b w o q p f t h = (cc, cc, cc, cc)
+pick-read false true b w o q p f t h = (cc, cc, cc, cc)
+pick-read false false true w o q p f t h = (cc, cc, cc, cc)
+pick-read false false false true o q p f t h = (cc, cc, cc, cc)
+pick-read false false false false true q p f t h = (refl, refl, cc, cc)
+pick-read false false false false false q p f t h = (cc, cc, cc, cc)
 
-pick-backup : (z a b o : Bool) (q : ℕ) (f : Bool)
-    → cond z (Halt Broken) (cond a (Halt Own) (cond b (Halt Backup) (cond o (Read q f) (Halt Broken)))) ≡ Halt Backup → b ≡ true
-pick-backup true a b o q f h = cc
-pick-backup false true b o q f h = cc
-pick-backup false false true o q f h = refl
-pick-backup false false false true q f h = cc
-pick-backup false false false false q f h = cc
+pick-backup : (z a b w o : Bool) (q : ℕ) (f : Bool)
+    → cond z (Halt Broken) (cond a (Halt Own) (cond b (Halt Backup) (cond w (Halt Below) (cond o (Read q f) (Halt Broken))))) ≡ Halt Backup → b ≡ true
+pick-backup true a b w o q f h = cc
+pick-backup false true b w o q f h = cc
+pick-backup false false true w o q f h = refl
+pick-backup false false false true o q f h = cc
+pick-backup false false false false true q f h = cc
+pick-backup false false false false false q f h = cc
 
 module _ (log : ℕ → List ℕ) (p : ℕ) where
   -- every number of a chain is that of a link, and is 1 to top
@@ -73,57 +75,62 @@ module _ (log : ℕ → List ℕ) (p : ℕ) where
   linked-at top (n ∷ ns) k zero h = (k .0, k .1, k .2)
   linked-at top (n ∷ ns) k (suc j) h = linked-at top ns (k .3) j (omega arith)
 
-module _ (log : ℕ → List ℕ) (p own backup : ℕ) where
+module _ (log : ℕ → List ℕ) (first p own backup : ℕ) where
   -- a step that reads, reads a link
   pub record Reads (n prev : ℕ) (format : Bool) : Type 0 where
     pub link-is : chainRecord p n (log n) ≡ true
     pub prev-is : recordOf (log n) .prev ≡ prev
     pub format-is : isFormat (recordOf (log n)) ≡ format
 
-  pub step-reads : (n prev : ℕ) (format : Bool) → stepOf log p own backup n ≡ Read prev format → Reads n prev format
+  pub step-reads : (n prev : ℕ) (format : Bool) → stepOf log first p own backup n ≡ Read prev format → Reads n prev format
   unfolding stepOf
   step-reads n prev format h =
-      let k = pick-read (eqb n 0) (eqb own n) (eqb backup n) (chainRecord p n (log n)) (recordOf (log n) .prev) prev (isFormat (recordOf (log n))) format h in
+      let k = pick-read (eqb n 0) (eqb own n) (eqb backup n) (ltb n first) (chainRecord p n (log n)) (recordOf (log n) .prev) prev (isFormat (recordOf (log n))) format h in
       record { link-is = k .1; prev-is = k .2; format-is = k .3 }
 
-  pub step-zero : stepOf log p own backup 0 ≡ Halt Broken
+  pub step-zero : stepOf log first p own backup 0 ≡ Halt Broken
   unfolding stepOf
   step-zero = refl
 
-  pub step-none : (n : ℕ) → n ≡ 0 → Halt Broken ≡ stepOf log p own backup n
+  pub step-none : (n : ℕ) → n ≡ 0 → Halt Broken ≡ stepOf log first p own backup n
   unfolding stepOf
   step-none n e = rw (eq-eqb n 0 e)
 
   module _ (n : ℕ) (some : n ≡ 0 → ⊥) where
-    pub step-own : own ≡ n → Halt Own ≡ stepOf log p own backup n
+    pub step-own : own ≡ n → Halt Own ≡ stepOf log first p own backup n
     unfolding stepOf
     step-own e = rw (ne-eqb n 0 some, eq-eqb own n e)
 
     module _ (not-own : own ≡ n → ⊥) where
-      pub step-copy : backup ≡ n → Halt Backup ≡ stepOf log p own backup n
+      pub step-copy : backup ≡ n → Halt Backup ≡ stepOf log first p own backup n
       unfolding stepOf
       step-copy e = rw (ne-eqb n 0 some, ne-eqb own n not-own, eq-eqb backup n e)
 
-      module _ (not-backup : backup ≡ n → ⊥) (r : List ℕ) (r-is : r ≡ log n) (b : Bool) (b-is : b ≡ chainRecord p n r) where
-        pub step-broken : b ≡ false → Halt Broken ≡ stepOf log p own backup n
+      module _ (not-backup : backup ≡ n → ⊥) where
+        pub step-below : n < first → Halt Below ≡ stepOf log first p own backup n
         unfolding stepOf
-        step-broken t =
-            let z : chainRecord p n r ≡ false = sym b-is ∙ t in
-            rw (ne-eqb n 0 some, ne-eqb own n not-own, ne-eqb backup n not-backup, ← r-is, z)
+        step-below l = rw (ne-eqb n 0 some, ne-eqb own n not-own, ne-eqb backup n not-backup, lt-ltb n first l)
 
-        pub step-read : (e : LogRecord) → e ≡ recordOf r → b ≡ true → Read (e .prev) (eqb (e .kind) 1) ≡ stepOf log p own backup n
-        unfolding stepOf
-        step-read e e-is t =
-            let z : chainRecord p n r ≡ true = sym b-is ∙ t in
-            rw (ne-eqb n 0 some, ne-eqb own n not-own, ne-eqb backup n not-backup, ← r-is, z, ← e-is)
+        module _ (held : first ≤ n) (r : List ℕ) (r-is : r ≡ log n) (b : Bool) (b-is : b ≡ chainRecord p n r) where
+          pub step-broken : b ≡ false → Halt Broken ≡ stepOf log first p own backup n
+          unfolding stepOf
+          step-broken t =
+              let z : chainRecord p n r ≡ false = sym b-is ∙ t in
+              rw (ne-eqb n 0 some, ne-eqb own n not-own, ne-eqb backup n not-backup, le-ltb n first held, ← r-is, z)
 
-  pub step-falls : (n prev : ℕ) (format : Bool) → stepOf log p own backup n ≡ Read prev format → prev < n
+          pub step-read : (e : LogRecord) → e ≡ recordOf r → b ≡ true → Read (e .prev) (eqb (e .kind) 1) ≡ stepOf log first p own backup n
+          unfolding stepOf
+          step-read e e-is t =
+              let z : chainRecord p n r ≡ true = sym b-is ∙ t in
+              rw (ne-eqb n 0 some, ne-eqb own n not-own, ne-eqb backup n not-backup, le-ltb n first held, ← r-is, z, ← e-is)
+
+  pub step-falls : (n prev : ℕ) (format : Bool) → stepOf log first p own backup n ≡ Read prev format → prev < n
   step-falls n prev format h =
       let r = step-reads n prev format h in
       let k = link p n (log n) (r .link-is) in
       omega (arith, r .prev-is, k .falls)
 
-  pub step-back : (n prev : ℕ) → stepOf log p own backup n ≡ Read prev false → 1 ≤ prev
+  pub step-back : (n prev : ℕ) → stepOf log first p own backup n ≡ Read prev false → 1 ≤ prev
   step-back n prev h =
       let r = step-reads n prev false h in
       let k = link-back p n (log n) (link p n (log n) (r .link-is)) (r .format-is) in
@@ -134,46 +141,47 @@ module _ (log : ℕ → List ℕ) (p own backup : ℕ) where
   format-follows true prev n k = refl
   format-follows false prev n k = refl
 
-  pub walk-none : (n : ℕ) → walkFrom 0 log p own backup n ≡ stopAt Broken []
+  pub walk-none : (n : ℕ) → walkFrom 0 log first p own backup n ≡ stopAt Broken []
   unfolding walkFrom
   walk-none n = refl
 
   -- the walk by its step
   pub walk-follows : (f n : ℕ) → 1 ≤ n
-      → walkFrom (suc f) log p own backup n ≡ follow (stepOf log p own backup n) n (λ q. walkFrom f log p own backup q)
+      → walkFrom (suc f) log first p own backup n ≡ follow (stepOf log first p own backup n) n (λ q. walkFrom f log first p own backup q)
   unfolding walkFrom stepOf
   walk-follows f n h =
       let z : eqb n 0 ≡ false = ne-eqb n 0 (λ e. omega arith) in
       rw z
       (byCases (eqb own n) (λ a. rw a)
       (λ a. rw a (byCases (eqb backup n) (λ b. rw b)
-      (λ b. rw b (byCases (chainRecord p n (log n))
-      (λ o. rw o (format-follows (isFormat (recordOf (log n))) (recordOf (log n) .prev) n (λ q. walkFrom f log p own backup q)))
-      (λ o. rw o))))))
+      (λ b. rw b (byCases (ltb n first) (λ w. rw w)
+      (λ w. rw w (byCases (chainRecord p n (log n))
+      (λ o. rw o (format-follows (isFormat (recordOf (log n))) (recordOf (log n) .prev) n (λ q. walkFrom f log first p own backup q)))
+      (λ o. rw o))))))))
 
-  pub walk-linked : (top f n : ℕ) → 1 ≤ n → n ≤ top → Linked log p top (walkFrom f log p own backup n .chain)
+  pub walk-linked : (top f n : ℕ) → 1 ≤ n → n ≤ top → Linked log p top (walkFrom f log first p own backup n .chain)
   walk-linked top zero n h l = rw (walk-none n) tt
-  walk-linked top (suc f) n h l = rw (walk-follows f n h) (go (λ q. walk-linked top f q) (stepOf log p own backup n) refl)
+  walk-linked top (suc f) n h l = rw (walk-follows f n h) (go (λ q. walk-linked top f q) (stepOf log first p own backup n) refl)
     where
-      go : ((q : ℕ) → 1 ≤ q → q ≤ top → Linked log p top (walkFrom f log p own backup q .chain))
-          → (s : Step) → stepOf log p own backup n ≡ s → Linked log p top (follow s n (λ q. walkFrom f log p own backup q) .chain)
+      go : ((q : ℕ) → 1 ≤ q → q ≤ top → Linked log p top (walkFrom f log first p own backup q .chain))
+          → (s : Step) → stepOf log first p own backup n ≡ s → Linked log p top (follow s n (λ q. walkFrom f log first p own backup q) .chain)
       go ih (Halt s) e = tt
       go ih (Read prev true) e = (step-reads n prev true e .link-is, h, l, tt)
       go ih (Read prev false) e =
           (step-reads n prev false e .link-is, h, l, ih prev (step-back n prev e) (omega (arith, step-falls n prev false e)))
 
   -- where the walk stops at the backup, there is one
-  step-backup : (n : ℕ) → stepOf log p own backup n ≡ Halt Backup → backup ≡ n
+  step-backup : (n : ℕ) → stepOf log first p own backup n ≡ Halt Backup → backup ≡ n
   unfolding stepOf
   step-backup n h =
-      eqb-true backup n (pick-backup (eqb n 0) (eqb own n) (eqb backup n) (chainRecord p n (log n)) (recordOf (log n) .prev) (isFormat (recordOf (log n))) h)
+      eqb-true backup n (pick-backup (eqb n 0) (eqb own n) (eqb backup n) (ltb n first) (chainRecord p n (log n)) (recordOf (log n) .prev) (isFormat (recordOf (log n))) h)
 
-  pub walk-backup : (f n : ℕ) → 1 ≤ n → walkFrom f log p own backup n .stop ≡ Backup → 1 ≤ backup
+  pub walk-backup : (f n : ℕ) → 1 ≤ n → walkFrom f log first p own backup n .stop ≡ Backup → 1 ≤ backup
   walk-backup zero n h e = absurd (let z : Broken ≡ Backup = rw (walk-none n) at e in let q : _≡_ {A = ℕ} 0 1 = cc in omega arith)
-  walk-backup (suc f) n h e = go (λ q. walk-backup f q) (stepOf log p own backup n) refl (rw (walk-follows f n h) at e)
+  walk-backup (suc f) n h e = go (λ q. walk-backup f q) (stepOf log first p own backup n) refl (rw (walk-follows f n h) at e)
     where
-      go : ((q : ℕ) → 1 ≤ q → walkFrom f log p own backup q .stop ≡ Backup → 1 ≤ backup)
-          → (s : Step) → stepOf log p own backup n ≡ s → follow s n (λ q. walkFrom f log p own backup q) .stop ≡ Backup → 1 ≤ backup
+      go : ((q : ℕ) → 1 ≤ q → walkFrom f log first p own backup q .stop ≡ Backup → 1 ≤ backup)
+          → (s : Step) → stepOf log first p own backup n ≡ s → follow s n (λ q. walkFrom f log first p own backup q) .stop ≡ Backup → 1 ≤ backup
       go ih (Halt s) q t = let b : backup ≡ n = step-backup n (q ∙ ap Halt t) in omega arith
       go ih (Read prev true) q t = let z : _≡_ {A = ℕ} 0 1 = cc in absurd (omega arith)
       go ih (Read prev false) q t = ih prev (step-back n prev q) t

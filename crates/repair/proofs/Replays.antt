@@ -8,6 +8,7 @@ use native.Mathlib.Numerals.{add-one}
 use lib.ListN.{length, getD, take, drop, length-take, length-drop}
 use lib.Seq.{drop-cons, drop-length, getD-take, length-take-le}
 use borrow.Rule.Slice.PartMut.{putMid}
+use Rattle.laws.proofs.Chain.{chain-few}
 use Rattle.laws.proofs.Zeros.{zeros}
 use Rattle.laws.proofs.Parts.{splice-length, part-splice, put-splice}
 use Rattle.model.specs.Bytes.{part, splice}
@@ -15,7 +16,7 @@ use Rattle.model.specs.Geometry.{pageAt, slotAt, item}
 use Rattle.model.specs.Item.{imageLsn, imageBody, validImage, frameImage, recordLayout, applyRecord}
 use Rattle.model.specs.Repair.{classOf, View, viewOf, walkFrom, walkOf, ownStart, backupStart, replayChain, startBody, rebuiltBody, rebuilt, startOf, repairOf}
 use Rattle.model.specs.declared.answer.Stop.{Stop}
-use Rattle.model.specs.declared.answer.Stop.the-variants.{Own, Backup, Format, Broken}
+use Rattle.model.specs.declared.answer.Stop.the-variants.{Own, Backup, Format, Broken, Below}
 use Rattle.model.specs.declared.answer.Class.{Class}
 use Rattle.model.specs.declared.answer.Start.{Start}
 use Rattle.model.specs.declared.answer.Repair.{Repair}
@@ -24,7 +25,7 @@ use Rattle.model.specs.declared.geometry.Geometry.{Geometry}
 use Rattle.repair.specs.Walked.{walkedOf, chainFrom}
 use Rattle.repair.specs.declared.walk.Walked.{Walked}
 use Rattle.repair.proofs.Links.{link, Linked, linked-at, walk-none, walk-linked, walk-backup}
-use Rattle.repair.proofs.Walks.{walk-chain, walk-most}
+use Rattle.repair.proofs.Walks.{walk-chain}
 
 -- ---- a whole walk
 
@@ -34,39 +35,36 @@ module _ (g : Geometry) (p : ℕ) (w : View) where
   unfolding walkOf
   chain-linked = go (w .durable)
     where
-      go : (n : ℕ) → Linked (w .log) p n (walkFrom n (w .log) p (ownStart g p w) (backupStart g p w) n .chain)
-      go zero = rw (walk-none (w .log) p (ownStart g p w) (backupStart g p w) 0) tt
-      go (suc n) = walk-linked (w .log) p (ownStart g p w) (backupStart g p w) (suc n) (suc n) (suc n) (omega arith) (omega arith)
+      go : (n : ℕ) → Linked (w .log) p n (walkFrom n (w .log) (w .first) p (ownStart g p w) (backupStart g p w) n .chain)
+      go zero = rw (walk-none (w .log) (w .first) p (ownStart g p w) (backupStart g p w) 0) tt
+      go (suc n) = walk-linked (w .log) (w .first) p (ownStart g p w) (backupStart g p w) (suc n) (suc n) (suc n) (omega arith) (omega arith)
 
   -- where it stops at the backup, there is one
   pub stop-backup : walkOf g p w .stop ≡ Backup → 1 ≤ backupStart g p w
   unfolding walkOf
   stop-backup e = go (w .durable) e
     where
-      go : (n : ℕ) → walkFrom n (w .log) p (ownStart g p w) (backupStart g p w) n .stop ≡ Backup → 1 ≤ backupStart g p w
+      go : (n : ℕ) → walkFrom n (w .log) (w .first) p (ownStart g p w) (backupStart g p w) n .stop ≡ Backup → 1 ≤ backupStart g p w
       go zero q =
-          let z : Broken ≡ Backup = rw (walk-none (w .log) p (ownStart g p w) (backupStart g p w) 0) at q in
+          let z : Broken ≡ Backup = rw (walk-none (w .log) (w .first) p (ownStart g p w) (backupStart g p w) 0) at q in
           let f : _≡_ {A = ℕ} 0 1 = cc in
           absurd (omega arith)
-      go (suc n) q = walk-backup (w .log) p (ownStart g p w) (backupStart g p w) (suc n) (suc n) (omega arith) q
+      go (suc n) q = walk-backup (w .log) (w .first) p (ownStart g p w) (backupStart g p w) (suc n) (suc n) (omega arith) q
 
-  -- it is followed from number to number, and has no more of them than the newest
+  -- it is followed from number to number
   pub chain-is : walkOf g p w .chain ≡ chainFrom (length (walkOf g p w .chain)) (w .log) (w .durable)
   unfolding walkOf chainFrom
   chain-is = go (w .durable)
     where
-      go : (n : ℕ) → walkFrom n (w .log) p (ownStart g p w) (backupStart g p w) n .chain
-          ≡ chainFrom (length (walkFrom n (w .log) p (ownStart g p w) (backupStart g p w) n .chain)) (w .log) n
-      go zero = rw (walk-none (w .log) p (ownStart g p w) (backupStart g p w) 0)
-      go (suc n) = walk-chain (w .log) p (ownStart g p w) (backupStart g p w) (suc n) (suc n) (omega arith)
+      go : (n : ℕ) → walkFrom n (w .log) (w .first) p (ownStart g p w) (backupStart g p w) n .chain
+          ≡ chainFrom (length (walkFrom n (w .log) (w .first) p (ownStart g p w) (backupStart g p w) n .chain)) (w .log) n
+      go zero = rw (walk-none (w .log) (w .first) p (ownStart g p w) (backupStart g p w) 0)
+      go (suc n) = walk-chain (w .log) (w .first) p (ownStart g p w) (backupStart g p w) (suc n) (suc n) (omega arith)
 
-  pub chain-most : length (walkOf g p w .chain) ≤ w .durable
+  -- and has no more of them than the run, and the log
+  pub chain-most : w .durable < w .first + g .records → length (walkOf g p w .chain) ≤ g .records
   unfolding walkOf
-  chain-most = go (w .durable)
-    where
-      go : (n : ℕ) → length (walkFrom n (w .log) p (ownStart g p w) (backupStart g p w) n .chain) ≤ n
-      go zero = rw (walk-none (w .log) p (ownStart g p w) (backupStart g p w) 0) (omega arith)
-      go (suc n) = walk-most (w .log) p (ownStart g p w) (backupStart g p w) (suc n) (suc n) (omega arith)
+  chain-most h = omega (arith, chain-few (w .durable) (w .log) (w .first) p (ownStart g p w) (backupStart g p w) (w .durable))
 
   -- the struct that holds its two numbers
   module _ (c : Walked) (c-is : c ≡ walkedOf g p w) where
@@ -174,23 +172,26 @@ built g p w c c-is dst first last out size len f l o =
 
 -- ---- the start and the answer
 
-module _ (g : Geometry) (v : List ℕ) (e : Entry) (p : ℕ) (stop : Stop) (b : List ℕ) where
-  pub begun-own : (x : List ℕ) → stop ≡ Own → x ≡ item g v (pageAt p) → b ≡ imageBody x → b ≡ startBody stop (viewOf g v e p)
+module _ (g : Geometry) (v : List ℕ) (f : ℕ) (e : Entry) (p : ℕ) (stop : Stop) (b : List ℕ) where
+  pub begun-own : (x : List ℕ) → stop ≡ Own → x ≡ item g v (pageAt p) → b ≡ imageBody x → b ≡ startBody stop (viewOf g v f e p)
   begun-own x s x-is b-is = rw s (b-is ∙ ap imageBody x-is)
 
-  pub begun-backup : (x : List ℕ) → stop ≡ Backup → x ≡ item g v (slotAt (e .slot)) → b ≡ imageBody x → b ≡ startBody stop (viewOf g v e p)
+  pub begun-backup : (x : List ℕ) → stop ≡ Backup → x ≡ item g v (slotAt (e .slot)) → b ≡ imageBody x → b ≡ startBody stop (viewOf g v f e p)
   begun-backup x s x-is b-is = rw s (b-is ∙ ap imageBody x-is)
 
   module _ (n : ℕ) (len : n ≡ 244) (b-is : b ≡ zeros n) where
-    pub begun-format : stop ≡ Format → b ≡ startBody stop (viewOf g v e p)
+    pub begun-format : stop ≡ Format → b ≡ startBody stop (viewOf g v f e p)
     begun-format s = rw s (b-is ∙ ap zeros len)
 
-    pub begun-broken : stop ≡ Broken → b ≡ startBody stop (viewOf g v e p)
+    pub begun-broken : stop ≡ Broken → b ≡ startBody stop (viewOf g v f e p)
     begun-broken s = rw s (b-is ∙ ap zeros len)
 
-pub answered : (g : Geometry) (v : List ℕ) (e : Entry) (p : ℕ) (c : Walked) → c ≡ walkedOf g p (viewOf g v e p) → (x : List ℕ) (valid : Bool) (n : ℕ) (k : Class) (s : Start)
+    pub begun-below : stop ≡ Below → b ≡ startBody stop (viewOf g v f e p)
+    begun-below s = rw s (b-is ∙ ap zeros len)
+
+pub answered : (g : Geometry) (v : List ℕ) (f : ℕ) (e : Entry) (p : ℕ) (c : Walked) → c ≡ walkedOf g p (viewOf g v f e p) → (x : List ℕ) (valid : Bool) (n : ℕ) (k : Class) (s : Start)
     → x ≡ item g v (pageAt p) → valid ≡ validImage g p x → n ≡ imageLsn x → k ≡ classOf valid n (e .durable) (e .written) → s ≡ startOf (c .stop)
-    → _≡_ {A = Repair} (record { class = k; start = s; count = c .count }) (repairOf g p (viewOf g v e p))
+    → _≡_ {A = Repair} (record { class = k; start = s; count = c .count }) (repairOf g p (viewOf g v f e p))
 unfolding repairOf
-answered g v e p c c-is x valid n k s x-is valid-is n-is k-is s-is =
-    rw (k-is, valid-is, n-is, x-is, s-is, stop-is g p (viewOf g v e p) c c-is, count-is g p (viewOf g v e p) c c-is)
+answered g v f e p c c-is x valid n k s x-is valid-is n-is k-is s-is =
+    rw (k-is, valid-is, n-is, x-is, s-is, stop-is g p (viewOf g v f e p) c c-is, count-is g p (viewOf g v f e p) c c-is)

@@ -1,13 +1,14 @@
 -- What a page's repair may read of its volume, and the numbers at which a walk may stop at the own image and at the backup.
-use Prim.Native.Nat.{ℕ, zero, suc, _+_, _≤_}
+use Prim.Native.Nat.{ℕ, zero, suc, _+_, _-_, _%_, _≤_, _<_}
 use mathlib.Core.Path.{_≡_, refl, sym, _∙_, subst}
 use mathlib.Core.Bool.{Bool, true, false, cond, _&&_}
 use mathlib.Core.List.{List}
+use native.Mathlib.Nat.{mod-lt}
 use native.Mathlib.Omega.{arith}
 use lib.Dec.{eqb}
 use lib.ListN.{length}
 use borrow.Author.Tests.{eq-eqb, ne-eqb}
-use Rattle.laws.proofs.Places.{total, valid-facts, place-fits, item-length}
+use Rattle.laws.proofs.Places.{total, In, valid-facts, place-fits, item-length}
 use Rattle.model.specs.Geometry.{geometryOf, validVolume, pageAt, slotAt, logSlot, start, item}
 use Rattle.model.specs.Item.{imageLsn, validImage}
 use Rattle.model.specs.Repair.{viewOf, ownStart, backupStart}
@@ -24,21 +25,26 @@ positive (suc n) f = omega arith
 pub record Sized (g : Geometry) (v : List ℕ) : Type 0 where
   pub size : length v ≡ total g
   pub pages : g .pages ≤ 64
+  pub some : 1 ≤ g .records
   pub records : g .records ≤ 1024
 
 pub sized : (v : List ℕ) (g : Geometry) → validVolume v ≡ true → g ≡ geometryOf v → Sized g v
 sized v g ok e =
     let f = valid-facts v ok in
-    subst (λ (k : Geometry). Sized k v) (sym e) (record { size = f .size; pages = f .p-high; records = f .l-high })
+    subst (λ (k : Geometry). Sized k v) (sym e) (record { size = f .size; pages = f .p-high; some = f .l-low; records = f .l-high })
 
-module _ (v : List ℕ) (g : Geometry) (ok : validVolume v ≡ true) (e : g ≡ geometryOf v) (n : ℕ) (low : 1 ≤ n) (high : n ≤ g .records) where
+-- every number has a slot
+module _ (v : List ℕ) (g : Geometry) (ok : validVolume v ≡ true) (e : g ≡ geometryOf v) (n : ℕ) where
+  in-log : In g (logSlot g n)
+  in-log = let m : (n - 1) % g .records < g .records = mod-lt (n - 1) (sized v g ok e .some) in (omega arith, omega arith)
+
   pub record-fits : start g (logSlot g n) + 64 ≤ length v
-  record-fits = place-fits g v (sized v g ok e .size) (logSlot g n) (low, high)
+  record-fits = place-fits g v (sized v g ok e .size) (logSlot g n) in-log
 
   pub record-length : length (item g v (logSlot g n)) ≡ 64
-  record-length = item-length g v (sized v g ok e .size) (logSlot g n) (low, high)
+  record-length = item-length g v (sized v g ok e .size) (logSlot g n) in-log
 
-module _ (v : List ℕ) (g : Geometry) (e : Entry) (p : ℕ) (h : Ready v g e p) where
+module _ (v : List ℕ) (g : Geometry) (f : ℕ) (e : Entry) (p : ℕ) (h : Ready v g f e p) where
   pub ready-sized : Sized g v
   ready-sized = sized v g (h .valid) (h .geometry)
 
@@ -57,18 +63,18 @@ module _ (v : List ℕ) (g : Geometry) (e : Entry) (p : ℕ) (h : Ready v g e p)
 
 -- ---- the own image's number
 
-module _ (v : List ℕ) (g : Geometry) (e : Entry) (p : ℕ) (x : List ℕ) (x-is : x ≡ item g v (pageAt p)) (b : Bool) (b-is : b ≡ validImage g p x) where
-  pub own-valid : (n : ℕ) → n ≡ imageLsn x → b ≡ true → n ≡ ownStart g p (viewOf g v e p)
+module _ (v : List ℕ) (g : Geometry) (f : ℕ) (e : Entry) (p : ℕ) (x : List ℕ) (x-is : x ≡ item g v (pageAt p)) (b : Bool) (b-is : b ≡ validImage g p x) where
+  pub own-valid : (n : ℕ) → n ≡ imageLsn x → b ≡ true → n ≡ ownStart g p (viewOf g v f e p)
   own-valid n q t = let z : validImage g p x ≡ true = sym b-is ∙ t in rw (← x-is, z) q
 
-  pub own-none : b ≡ false → 0 ≡ ownStart g p (viewOf g v e p)
+  pub own-none : b ≡ false → 0 ≡ ownStart g p (viewOf g v f e p)
   own-none t = let z : validImage g p x ≡ false = sym b-is ∙ t in rw (← x-is, z)
 
 -- ---- the backup's number
 
 -- the backup that counts, where the slot is 0 and where it is not
-pub slot-none : (v : List ℕ) (g : Geometry) (e : Entry) (p : ℕ) → e .slot ≡ 0 → 0 ≡ backupStart g p (viewOf g v e p)
-slot-none v g e p z =
+pub slot-none : (v : List ℕ) (g : Geometry) (f : ℕ) (e : Entry) (p : ℕ) → e .slot ≡ 0 → 0 ≡ backupStart g p (viewOf g v f e p)
+slot-none v g f e p z =
     let b : eqb (e .slot) 0 ≡ true = eq-eqb (e .slot) 0 z in
     rw b (same (validImage g p (item g v (slotAt (e .slot))) && eqb (imageLsn (item g v (slotAt (e .slot)))) 0))
   where
@@ -76,20 +82,20 @@ slot-none v g e p z =
     same true = refl
     same false = refl
 
-module _ (v : List ℕ) (g : Geometry) (e : Entry) (p : ℕ) (some : e .slot ≡ 0 → ⊥) (x : List ℕ) (x-is : x ≡ item g v (slotAt (e .slot)))
+module _ (v : List ℕ) (g : Geometry) (f : ℕ) (e : Entry) (p : ℕ) (some : e .slot ≡ 0 → ⊥) (x : List ℕ) (x-is : x ≡ item g v (slotAt (e .slot)))
     (b : Bool) (b-is : b ≡ validImage g p x) (n : ℕ) (n-is : n ≡ imageLsn x) where
-  noted : (t : Bool) → (b && eqb n (e .backup)) ≡ t → cond t (e .backup) 0 ≡ backupStart g p (viewOf g v e p)
+  noted : (t : Bool) → (b && eqb n (e .backup)) ≡ t → cond t (e .backup) 0 ≡ backupStart g p (viewOf g v f e p)
   noted t q =
       let f : eqb (e .slot) 0 ≡ false = ne-eqb (e .slot) 0 some in
       let z : (validImage g p x && eqb (imageLsn x) (e .backup)) ≡ t = rw (← b-is, ← n-is) q in
       rw (f, ← x-is, z)
 
-  pub backup-valid : (b && eqb n (e .backup)) ≡ true → e .backup ≡ backupStart g p (viewOf g v e p)
+  pub backup-valid : (b && eqb n (e .backup)) ≡ true → e .backup ≡ backupStart g p (viewOf g v f e p)
   backup-valid q = noted true q
 
-  pub backup-none : (b && eqb n (e .backup)) ≡ false → 0 ≡ backupStart g p (viewOf g v e p)
+  pub backup-none : (b && eqb n (e .backup)) ≡ false → 0 ≡ backupStart g p (viewOf g v f e p)
   backup-none q = noted false q
 
 -- where a walk can stop at the backup, its slot is not 0
-pub backup-some : (v : List ℕ) (g : Geometry) (e : Entry) (p : ℕ) → 1 ≤ backupStart g p (viewOf g v e p) → e .slot ≡ 0 → ⊥
-backup-some v g e p h z = let q = slot-none v g e p z in omega arith
+pub backup-some : (v : List ℕ) (g : Geometry) (f : ℕ) (e : Entry) (p : ℕ) → 1 ≤ backupStart g p (viewOf g v f e p) → e .slot ≡ 0 → ⊥
+backup-some v g f e p h z = let q = slot-none v g f e p z in omega arith

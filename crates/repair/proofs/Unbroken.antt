@@ -1,97 +1,116 @@
--- Refusal 19 never comes after a clean scan: where the log keeps the restart rule, the walk for a page from the index meets only records that it
--- may read. It holds for any bytes, whatever the images and the notes are.
-use Prim.Native.Nat.{ℕ, zero, suc, _+_, _*_, _≤_, _<_}
-use mathlib.Core.Path.{_≡_, refl, sym, ap, _∙_}
+-- Refusal 19 never comes after a clean scan: where log and notes keep the restart rule, the walk for a page from the index meets only records that it
+-- may read, or goes below the run. It holds for any bytes, whatever the images are.
+use Prim.Native.Nat.{ℕ, zero, suc, _+_, _-_, _≤_, _<_}
+use mathlib.Core.Path.{_≡_, refl, sym, ap, _∙_, subst}
+use mathlib.Core.Logic.{_⊎_, inl, inr, ⊎-elim}
 use mathlib.Core.Bool.{true, false}
 use mathlib.Core.List.{List, [], _∷_}
 use native.Mathlib.Omega.{arith}
+use native.Mathlib.Decide.{ℕ-discrete}
 use lib.Dec.{eqb, ltb}
-use borrow.Author.Tests.{eq-eqb, lt-ltb}
+use borrow.Author.Tests.{eq-eqb, lt-ltb, ltb-true, ltb-false}
 use Rattle.laws.proofs.Tables.{byCases, all-holds}
-use Rattle.model.specs.Bytes.{part}
 use Rattle.model.specs.Checksum.{sealed}
-use Rattle.model.specs.Geometry.{geometryOf, validVolume, recordAt, logSlot, start, item}
+use Rattle.model.specs.Geometry.{geometryOf, validVolume, logSlot, item}
 use Rattle.model.specs.Item.{recordLayout, isFormat, firstIsFormat}
 use Rattle.model.specs.Index.{entryOf}
-use Rattle.model.specs.Scan.{logRecord, durableCount, logIndex, validLog, indexOf}
+use Rattle.model.specs.Scan.{logRecord, durableCount, firstHeld, logIndex, validLog, validNotes, indexOf}
 use Rattle.model.specs.Repair.{viewOf, ownStart, backupStart, chainRecord, walkFrom, walkOf, isBroken}
 use Rattle.model.specs.declared.geometry.Geometry.{Geometry}
 use Rattle.repair.specs.Walked.{logOf}
 use Rattle.repair.proofs.Links.{link, link-back}
-use Rattle.repair.proofs.Scanned.{run-at, Fit, Newest, newest, log-fits, scanned-newest, scanned-durable}
+use Rattle.repair.proofs.Scanned.{first-low, Linked, Fit, Newest, newest, Held, Stands, log-fits, scanned-row}
 use Rattle.repair.proofs.Starts.{sized}
 
-module _ (g : Geometry) (v : List ℕ) (few : g .pages ≤ 64) (ok : (i : ℕ) → i < durableCount g v → Fit g v i) (p : ℕ) (low : 1 ≤ p) where
-  -- the record of page p at place i
-  module _ (i : ℕ) (b : i < durableCount g v) (page-is : logRecord g v (suc i) .page ≡ p) where
-    before : Newest g v i p (entryOf (logIndex g v i) p)
-    before = newest g v few ok i p (omega arith) low
+module _ (g : Geometry) (v : List ℕ) (few : g .pages ≤ 64)
+    (ok : let n = durableCount g v in (i : ℕ) → i < suc n - firstHeld g v n → Fit g v (firstHeld g v n) i) (p : ℕ) (low : 1 ≤ p) where
+  first : ℕ
+  first = firstHeld g v (durableCount g v)
 
-    prev-is : logRecord g v (suc i) .prev ≡ entryOf (logIndex g v i) p .last
-    prev-is = ok i b .prev-is ∙ ap (λ (q : ℕ). entryOf (logIndex g v i) q .last) page-is
+  -- the record of page p at place i of the run
+  module _ (i : ℕ) (b : i < suc (durableCount g v) - first) (page-is : logRecord g v (first + i) .page ≡ p) where
+    before : Newest g v first i p (entryOf (logIndex g v first i) p)
+    unfolding first
+    before = newest g v first (suc (durableCount g v) - first) few ok i p (omega arith) low
 
-    sealed-is : sealed 60 (item g v (logSlot g (suc i))) ≡ true
-    unfolding item durableCount
-    sealed-is =
-        let e : start g (recordAt 1) + 64 * i ≡ start g (logSlot g (suc i)) = omega arith in
-        ap (λ (k : ℕ). sealed 60 (part v k 64)) (sym e) ∙ run-at 60 v (g .records) (start g (recordAt 1)) i b
+    here : Fit g v first i
+    unfolding first
+    here = ok i b
 
-    readable : chainRecord p (suc i) (item g v (logSlot g (suc i))) ≡ true
+    prev-is : Linked first (entryOf (logIndex g v first i) p .last) (logRecord g v (first + i) .prev)
+    prev-is = subst (λ (q : ℕ). Linked first (entryOf (logIndex g v first i) q .last) (logRecord g v (first + i) .prev)) page-is (here .prev)
+
+    some : 1 ≤ first
+    unfolding first
+    some = first-low g v (durableCount g v)
+
+    -- its previous number is lower
+    falls : logRecord g v (first + i) .prev < first + i
+    falls =
+        let l = entryOf (logIndex g v first i) p .last in
+        ⊎-elim (λ e. elim (ℕ-discrete l 0) [ yes z ↦ omega (arith, some) | no z ↦ omega (arith, before .high z) ]) (λ e. omega (arith, some, e .2)) prev-is
+
+    -- and, where there is one, the walk may be there
+    stands : 1 ≤ logRecord g v (first + i) .prev → Stands g v p (logRecord g v (first + i) .prev)
+    unfolding first
+    stands h =
+        let l = entryOf (logIndex g v first i) p .last in
+        ⊎-elim
+        (λ e.
+        let z : l ≡ 0 → ⊥ = λ q. omega arith in
+        inr (record { low = omega (arith, before .low z); high = omega (arith, before .high z); page = ap (λ (n : ℕ). logRecord g v n .page) e ∙ before .page z }))
+        (λ e. inl (omega (arith, some, e .2))) prev-is
+
+    readable : chainRecord p (first + i) (item g v (logSlot g (first + i))) ≡ true
     unfolding chainRecord
     readable =
-        let f = ok i b in
-        let e = logRecord g v (suc i) in
-        let falls : e .prev < suc i = omega (arith, prev-is, before .high) in
+        let e = logRecord g v (first + i) in
         all-holds
-        (sealed 60 (item g v (logSlot g (suc i))) ∷ eqb (e .lsn) (suc i) ∷ eqb (e .page) p ∷ recordLayout (item g v (logSlot g (suc i)))
-        ∷ ltb (e .prev) (suc i) ∷ firstIsFormat e ∷ []) (
-          sealed-is,
-          (
-            eq-eqb _ _ (f .lsn-is),
-            (
-              eq-eqb _ _ page-is,
-              (
-                f .layout,
-                (lt-ltb _ _ falls, (f .first, tt)),
-              ),
-            ),
-          ),
-        )
+        (sealed 60 (item g v (logSlot g (first + i))) ∷ eqb (e .lsn) (first + i) ∷ eqb (e .page) p ∷ recordLayout (item g v (logSlot g (first + i)))
+        ∷ ltb (e .prev) (first + i) ∷ firstIsFormat e ∷ [])
+        (here .whole, (eq-eqb _ _ (here .lsn-is), (eq-eqb _ _ page-is, (here .layout, (lt-ltb _ _ falls, (here .first, tt))))))
 
-  -- the walk from a record of page p
-  unbroken-from : (own backup f i : ℕ) → i < f → i < durableCount g v → logRecord g v (suc i) .page ≡ p
-      → isBroken (walkFrom f (logOf g v) p own backup (suc i) .stop) ≡ false
-  unfolding walkFrom
-  unbroken-from own backup zero i h b q = absurd (omega arith)
-  unbroken-from own backup (suc f) i h b q =
-      byCases (eqb own (suc i)) (λ t. rw t refl)
-      (λ t. rw t (byCases (eqb backup (suc i)) (λ u. rw u refl)
-      (λ u. rw (u, readable i b q) (byCases (isFormat (logRecord g v (suc i))) (λ m. rw m refl)
-      (λ m. rw m (go m (logRecord g v (suc i) .prev) refl (λ k. unbroken-from own backup f k)))))))
+  -- a number in the run, by its place
+  record At (n : ℕ) : Type 0 where
+    readable-is : chainRecord p n (item g v (logSlot g n)) ≡ true
+    stands-next : 1 ≤ logRecord g v n .prev → Stands g v p (logRecord g v n .prev)
+
+  at : (n : ℕ) → Held g v p n → At n
+  unfolding first
+  at n h =
+      let e : first + (n - first) ≡ n = omega (arith, h .low) in
+      let b : n - first < suc (durableCount g v) - first = omega (arith, h .low, h .high) in
+      let q : logRecord g v (first + (n - first)) .page ≡ p = ap (λ (k : ℕ). logRecord g v k .page) e ∙ h .page in
+      subst At e (record { readable-is = readable (n - first) b q; stands-next = stands (n - first) b q })
+
+  -- the walk from a number at which it may be
+  unbroken-from : (own backup steps n : ℕ) → n ≤ steps → 1 ≤ n → Stands g v p n → isBroken (walkFrom steps (logOf g v) first p own backup n .stop) ≡ false
+  unfolding walkFrom first
+  unbroken-from own backup zero n h l s = absurd (omega arith)
+  unbroken-from own backup (suc steps) n h l s =
+      byCases (eqb own n) (λ t. rw t refl)
+      (λ t. rw t (byCases (eqb backup n) (λ u. rw u refl)
+      (λ u. rw u (byCases (ltb n first) (λ w. rw w refl)
+      (λ w. rw (w, at n (held w) .readable-is) (byCases (isFormat (logRecord g v n)) (λ m. rw m refl) (λ m. rw m (go w m (λ q. unbroken-from own backup steps q)))))))))
     where
-      go : isFormat (logRecord g v (suc i)) ≡ false → (n : ℕ) → logRecord g v (suc i) .prev ≡ n
-          → ((k : ℕ) → k < f → k < durableCount g v → logRecord g v (suc k) .page ≡ p
-          → isBroken (walkFrom f (logOf g v) p own backup (suc k) .stop) ≡ false)
-          → isBroken (walkFrom f (logOf g v) p own backup n .stop) ≡ false
-      go m zero e ih = absurd (omega (arith, link-back p (suc i) (item g v (logSlot g (suc i))) (link p (suc i) (item g v (logSlot g (suc i))) (readable i b q)) m))
-      go m (suc k) e ih =
-          let s : entryOf (logIndex g v i) p .last ≡ suc k = sym (prev-is i b q) ∙ e in
-          let w = before i b q in
-          ih k (omega (arith, w .high)) (omega (arith, w .high))
-          (ap (λ (n : ℕ). logRecord g v n .page) (sym s) ∙ w .page (λ z. omega arith))
+      held : ltb n first ≡ false → Held g v p n
+      held w = let o : first ≤ n = ltb-false n first w in ⊎-elim (λ b. absurd (omega arith)) (λ k. k) s
 
-pub unbroken : (v : List ℕ) (g : Geometry) (p : ℕ) → validVolume v ≡ true → g ≡ geometryOf v → validLog g v ≡ true → 1 ≤ p
+      go : ltb n first ≡ false → isFormat (logRecord g v n) ≡ false
+          → ((q : ℕ) → q ≤ steps → 1 ≤ q → Stands g v p q → isBroken (walkFrom steps (logOf g v) first p own backup q .stop) ≡ false)
+          → isBroken (walkFrom steps (logOf g v) first p own backup (logRecord g v n .prev) .stop) ≡ false
+      go w m ih =
+          let a = at n (held w) in
+          let k = link p n (item g v (logSlot g n)) (a .readable-is) in
+          let l : 1 ≤ logRecord g v n .prev = link-back p n (item g v (logSlot g n)) k m in
+          ih (logRecord g v n .prev) (omega (arith, k .falls)) l (a .stands-next l)
+
+pub unbroken : (v : List ℕ) (g : Geometry) (p : ℕ) → validVolume v ≡ true → g ≡ geometryOf v → validLog g v ≡ true → validNotes g v ≡ true → 1 ≤ p
     → (entryOf (indexOf g v) p .durable ≡ 0 → ⊥)
-    → isBroken (walkOf g p (viewOf g v (entryOf (indexOf g v) p) p) .stop) ≡ false
-unfolding walkOf
-unbroken v g p valid g-is log low some = go (entryOf (indexOf g v) p .durable) refl
-  where
-    go : (d : ℕ) → entryOf (indexOf g v) p .durable ≡ d
-        → isBroken (walkFrom d (logOf g v) p (ownStart g p (viewOf g v (entryOf (indexOf g v) p) p))
-        (backupStart g p (viewOf g v (entryOf (indexOf g v) p) p)) d .stop) ≡ false
-    go zero e = absurd (some e)
-    go (suc i) e =
-        let w = scanned-newest v g valid g-is log p low in
-        let s : entryOf (logIndex g v (durableCount g v)) p .last ≡ suc i = sym (w .same) ∙ sym (scanned-durable v g valid g-is log p) ∙ e in
-        unbroken-from g v (sized v g valid g-is .pages) (log-fits v g valid g-is log) p low _ _ (suc i) i (omega arith) (omega (arith, w .high))
-        (ap (λ (n : ℕ). logRecord g v n .page) (sym s) ∙ w .page (λ z. omega arith))
+    → isBroken (walkOf g p (viewOf g v (firstHeld g v (durableCount g v)) (entryOf (indexOf g v) p) p) .stop) ≡ false
+unfolding walkOf first
+unbroken v g p valid g-is log notes low some =
+    let e = entryOf (indexOf g v) p in
+    let r = scanned-row v g valid g-is log p notes low in
+    let s : Stands g v p (e .durable) = subst (Stands g v p) (sym (r .same)) (r .last-stands (λ z. some (r .same ∙ z))) in
+    unbroken-from g v (sized v g valid g-is .pages) (log-fits v g valid g-is log) p low _ _ (e .durable) (e .durable) (omega arith) (omega (arith, some)) s

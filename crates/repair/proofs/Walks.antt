@@ -25,12 +25,12 @@ passed k w = record { stop = w .stop; count = k + length (w .chain) }
 
 -- ---- the loop
 
-module _ (log : ℕ → List ℕ) (p own backup from : ℕ) where
+module _ (log : ℕ → List ℕ) (first p own backup from : ℕ) where
   -- count records are passed, and the walk is at n
   pub record Down (n count : ℕ) : Type 0 where
     pub room : count + n ≤ from
     pub low : n ≡ 0 → from ≡ 0
-    pub same : counted (walkFrom from log p own backup from) ≡ passed count (walkFrom (from - count) log p own backup n)
+    pub same : counted (walkFrom from log first p own backup from) ≡ passed count (walkFrom (from - count) log first p own backup n)
 
   pub down-start : Down from 0
   down-start =
@@ -42,22 +42,22 @@ module _ (log : ℕ → List ℕ) (p own backup from : ℕ) where
 
   module _ (n count : ℕ) (d : Down n count) where
     -- the walk that is left, by its step
-    left-is : (s : Step) → 1 ≤ n → stepOf log p own backup n ≡ s
-        → counted (walkFrom from log p own backup from) ≡ passed count (follow s n (λ q. walkFrom (from - (count + 1)) log p own backup q))
+    left-is : (s : Step) → 1 ≤ n → stepOf log first p own backup n ≡ s
+        → counted (walkFrom from log first p own backup from) ≡ passed count (follow s n (λ q. walkFrom (from - (count + 1)) log first p own backup q))
     left-is s h e =
         let k : from - count ≡ suc (from - (count + 1)) = omega (arith, d .room) in
         d .same
-        ∙ ap (λ (f : ℕ). passed count (walkFrom f log p own backup n)) k
-        ∙ ap (passed count) (walk-follows log p own backup (from - (count + 1)) n h)
-        ∙ ap (λ (t : Step). passed count (follow t n (λ q. walkFrom (from - (count + 1)) log p own backup q))) e
+        ∙ ap (λ (f : ℕ). passed count (walkFrom f log first p own backup n)) k
+        ∙ ap (passed count) (walk-follows log first p own backup (from - (count + 1)) n h)
+        ∙ ap (λ (t : Step). passed count (follow t n (λ q. walkFrom (from - (count + 1)) log first p own backup q))) e
 
     -- a record that is read, and the walk goes on
-    pub down-on : (prev : ℕ) (format : Bool) → stepOf log p own backup n ≡ Read prev format → format ≡ false → Down prev (count + 1)
+    pub down-on : (prev : ℕ) (format : Bool) → stepOf log first p own backup n ≡ Read prev format → format ≡ false → Down prev (count + 1)
     down-on prev format q t =
-        let e : stepOf log p own backup n ≡ Read prev false = q ∙ ap (Read prev) t in
-        let f : prev < n = step-falls log p own backup n prev false e in
-        let b : 1 ≤ prev = step-back log p own backup n prev e in
-        let w = walkFrom (from - (count + 1)) log p own backup prev in
+        let e : stepOf log first p own backup n ≡ Read prev false = q ∙ ap (Read prev) t in
+        let f : prev < n = step-falls log first p own backup n prev false e in
+        let b : 1 ≤ prev = step-back log first p own backup n prev e in
+        let w = walkFrom (from - (count + 1)) log first p own backup prev in
         let l : count + suc (length (w .chain)) ≡ count + 1 + length (w .chain) = omega arith in
         record {
           room = omega (arith, d .room);
@@ -66,59 +66,48 @@ module _ (log : ℕ → List ℕ) (p own backup from : ℕ) where
         }
 
     -- a format: the walk's end
-    pub down-format : (prev : ℕ) (format : Bool) → stepOf log p own backup n ≡ Read prev format → format ≡ true
-        → _≡_ {A = Walked} (record { stop = Format; count = count + 1 }) (counted (walkFrom from log p own backup from))
+    pub down-format : (prev : ℕ) (format : Bool) → stepOf log first p own backup n ≡ Read prev format → format ≡ true
+        → _≡_ {A = Walked} (record { stop = Format; count = count + 1 }) (counted (walkFrom from log first p own backup from))
     down-format prev format q t =
-        let e : stepOf log p own backup n ≡ Read prev true = q ∙ ap (Read prev) t in
-        let f : prev < n = step-falls log p own backup n prev true e in
+        let e : stepOf log first p own backup n ≡ Read prev true = q ∙ ap (Read prev) t in
+        let f : prev < n = step-falls log first p own backup n prev true e in
         sym (left-is (Read prev true) (omega arith) e)
 
     -- the walk halts
-    pub down-halt : (s : Stop) → stepOf log p own backup n ≡ Halt s
-        → _≡_ {A = Walked} (record { stop = s; count = count }) (counted (walkFrom from log p own backup from))
+    pub down-halt : (s : Stop) → stepOf log first p own backup n ≡ Halt s
+        → _≡_ {A = Walked} (record { stop = s; count = count }) (counted (walkFrom from log first p own backup from))
     down-halt s e = ap (λ (k : ℕ). record { stop = s; count = k }) (sym (add-zero count)) ∙ sym (go n refl)
       where
-        go : (m : ℕ) → n ≡ m → counted (walkFrom from log p own backup from) ≡ passed count (stopAt s [])
+        go : (m : ℕ) → n ≡ m → counted (walkFrom from log first p own backup from) ≡ passed count (stopAt s [])
         go zero z =
             let f : from ≡ 0 = d .low z in
             let b : from - count ≡ 0 = omega arith in
-            let t : Halt Broken ≡ Halt s = sym (step-zero log p own backup) ∙ ap (stepOf log p own backup) (sym z) ∙ e in
+            let t : Halt Broken ≡ Halt s = sym (step-zero log first p own backup) ∙ ap (stepOf log first p own backup) (sym z) ∙ e in
             let q : Broken ≡ s = cc in
             d .same
-            ∙ ap (λ (k : ℕ). passed count (walkFrom k log p own backup n)) b
-            ∙ ap (passed count) (walk-none log p own backup n)
+            ∙ ap (λ (k : ℕ). passed count (walkFrom k log first p own backup n)) b
+            ∙ ap (passed count) (walk-none log first p own backup n)
             ∙ ap (λ (k : Stop). passed count (stopAt k [])) q
         go (suc m) z = left-is (Halt s) (omega arith) e
 
 -- ---- the chain
 
 -- a walk's chain is followed from number to number
-pub walk-chain : (log : ℕ → List ℕ) (p own backup f n : ℕ) → 1 ≤ n
-    → walkFrom f log p own backup n .chain ≡ chainFrom (length (walkFrom f log p own backup n .chain)) log n
+pub walk-chain : (log : ℕ → List ℕ) (first p own backup f n : ℕ) → 1 ≤ n
+    → walkFrom f log first p own backup n .chain ≡ chainFrom (length (walkFrom f log first p own backup n .chain)) log n
 unfolding chainFrom
-walk-chain log p own backup zero n h = rw (walk-none log p own backup n)
-walk-chain log p own backup (suc f) n h = rw (walk-follows log p own backup f n h) (go (λ q. walk-chain log p own backup f q) (stepOf log p own backup n) refl)
+walk-chain log first p own backup zero n h = rw (walk-none log first p own backup n)
+walk-chain log first p own backup (suc f) n h = rw (walk-follows log first p own backup f n h) (go (λ q. walk-chain log first p own backup f q) (stepOf log first p own backup n) refl)
   where
-    go : ((q : ℕ) → 1 ≤ q → walkFrom f log p own backup q .chain ≡ chainFrom (length (walkFrom f log p own backup q .chain)) log q)
-        → (s : Step) → stepOf log p own backup n ≡ s
-        → follow s n (λ q. walkFrom f log p own backup q) .chain ≡ chainFrom (length (follow s n (λ q. walkFrom f log p own backup q) .chain)) log n
+    go : ((q : ℕ) → 1 ≤ q → walkFrom f log first p own backup q .chain ≡ chainFrom (length (walkFrom f log first p own backup q .chain)) log q)
+        → (s : Step) → stepOf log first p own backup n ≡ s
+        → follow s n (λ q. walkFrom f log first p own backup q) .chain ≡ chainFrom (length (follow s n (λ q. walkFrom f log first p own backup q) .chain)) log n
     go ih (Halt s) e = refl
     go ih (Read prev true) e = refl
     go ih (Read prev false) e =
-        let r = step-reads log p own backup n prev false e in
-        ap (λ (l : List ℕ). n ∷ l) (ih prev (step-back log p own backup n prev e)
-        ∙ ap (chainFrom (length (walkFrom f log p own backup prev .chain)) log) (sym (r .prev-is)))
-
--- no longer than its fuel
-pub walk-most : (log : ℕ → List ℕ) (p own backup f n : ℕ) → 1 ≤ n → length (walkFrom f log p own backup n .chain) ≤ f
-walk-most log p own backup zero n h = rw (walk-none log p own backup n) (omega arith)
-walk-most log p own backup (suc f) n h = rw (walk-follows log p own backup f n h) (go (λ q. walk-most log p own backup f q) (stepOf log p own backup n) refl)
-  where
-    go : ((q : ℕ) → 1 ≤ q → length (walkFrom f log p own backup q .chain) ≤ f)
-        → (s : Step) → stepOf log p own backup n ≡ s → length (follow s n (λ q. walkFrom f log p own backup q) .chain) ≤ suc f
-    go ih (Halt s) e = omega arith
-    go ih (Read prev true) e = omega arith
-    go ih (Read prev false) e = omega (arith, ih prev (step-back log p own backup n prev e))
+        let r = step-reads log first p own backup n prev false e in
+        ap (λ (l : List ℕ). n ∷ l) (ih prev (step-back log first p own backup n prev e)
+        ∙ ap (chainFrom (length (walkFrom f log first p own backup prev .chain)) log) (sym (r .prev-is)))
 
 -- the numbers of a chain as a loop collects them: i stand in the front of lsns, and the next is n
 pub record Collected (log : ℕ → List ℕ) (top count : ℕ) (lsns : List ℕ) (n i : ℕ) : Type 0 where

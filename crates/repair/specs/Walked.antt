@@ -1,29 +1,28 @@
--- The walk as the code makes it: what it asks of its arguments, its step at one number, its result as two numbers, and the
--- chain that is followed once more for the replay.
-use Prim.Native.Nat.{ℕ, zero, suc, _≤_}
+-- The walk as the code makes it: what it asks of its arguments, its step at one number, its result as two numbers, and the chain that is
+-- followed once more for the replay.
+use Prim.Native.Nat.{ℕ, zero, suc, _+_, _≤_, _<_}
 use mathlib.Core.Path.{_≡_}
 use mathlib.Core.Bool.{true, cond}
 use mathlib.Core.List.{List, [], _∷_}
-use lib.Dec.{eqb}
+use lib.Dec.{eqb, ltb}
 use lib.ListN.{length}
 use Rattle.model.specs.Geometry.{geometryOf, validVolume, logSlot, item}
 use Rattle.model.specs.Item.{recordOf, isFormat}
 use Rattle.model.specs.Repair.{View, Walk, chainRecord, walkOf}
 use Rattle.model.specs.declared.geometry.Geometry.{Geometry}
 use Rattle.model.specs.declared.state.Entry.{Entry}
-use Rattle.model.specs.declared.answer.Stop.the-variants.{Own, Backup, Broken}
+use Rattle.model.specs.declared.answer.Stop.the-variants.{Own, Backup, Broken, Below}
 use Rattle.repair.specs.declared.walk.Walked.{Walked}
 use Rattle.repair.specs.declared.walk.Step.{Step}
 use Rattle.repair.specs.declared.walk.Step.the-variants.{Halt, Read}
 
--- what each function of a page's repair is handed: a valid volume with its geometry, a page of it, and an entry within its
--- counts
-pub record Ready (v : List ℕ) (g : Geometry) (e : Entry) (page : ℕ) : Type 0 where
+-- what each function of a page's repair is handed: a valid volume with its geometry and a run start, a page of it, and an entry within its counts
+pub record Ready (v : List ℕ) (g : Geometry) (first : ℕ) (e : Entry) (page : ℕ) : Type 0 where
   pub valid : validVolume v ≡ true
   pub geometry : g ≡ geometryOf v
   pub low : 1 ≤ page
   pub high : page ≤ g .pages
-  pub durable : e .durable ≤ g .records
+  pub durable : e .durable < first + g .records
   pub slot : e .slot ≤ g .slots
 
 -- the log's records by number
@@ -37,13 +36,14 @@ counted w = record { stop = w .stop; count = length (w .chain) }
 unfoldable pub walkedOf : Geometry → ℕ → View → Walked
 walkedOf g p w = counted (walkOf g p w)
 
--- the walk for page p at number n: own image, else the backup, else the record
-unfoldable pub stepOf : (ℕ → List ℕ) → ℕ → ℕ → ℕ → ℕ → Step
-stepOf log p own backup n =
+-- the walk for page p at number n: own image, else the backup, else the record, where the run holds it
+unfoldable pub stepOf : (ℕ → List ℕ) → ℕ → ℕ → ℕ → ℕ → ℕ → Step
+stepOf log first p own backup n =
     cond (eqb n 0) (Halt Broken)
     (cond (eqb own n) (Halt Own)
     (cond (eqb backup n) (Halt Backup)
-    (cond (chainRecord p n (log n)) (Read (recordOf (log n) .prev) (isFormat (recordOf (log n)))) (Halt Broken))))
+    (cond (ltb n first) (Halt Below)
+    (cond (chainRecord p n (log n)) (Read (recordOf (log n) .prev) (isFormat (recordOf (log n)))) (Halt Broken)))))
 
 -- n and the k - 1 numbers behind it, each named by the record before it
 unfoldable pub chainFrom : ℕ → (ℕ → List ℕ) → ℕ → List ℕ

@@ -21,15 +21,16 @@ fn start(stop: Stop) -> Start
         Stop::Backup => Start::Backup,
         Stop::Format => Start::Format,
         Stop::Broken => Start::Format,
+        Stop::Below => Start::Format,
     }
 }
 
 // The class, the start and the count replayed.
 // Ruled out: a made-up count (tried); start Own for an image that is not valid.
-pub fn answer(volume: &[u8], g: Geometry, e: Entry, page: u32, w: Walked) -> Repair
-    requires { ⌜ Ready (now volume) g e page ⌝ }
-    requires { ⌜ w ≡ walkedOf g page (viewOf g (now volume) e page) ⌝ }
-    ensures { λ r. ⌜ r ≡ repairOf g page (viewOf g (now (volume .entry)) e page) ⌝ }
+pub fn answer(volume: &[u8], g: Geometry, first: u64, e: Entry, page: u32, w: Walked) -> Repair
+    requires { ⌜ Ready (now volume) g first e page ⌝ }
+    requires { ⌜ w ≡ walkedOf g page (viewOf g (now volume) first e page) ⌝ }
+    ensures { λ r. ⌜ r ≡ repairOf g page (viewOf g (now (volume .entry)) first e page) ⌝ }
 {
     let x = place::page(volume, g, page);
     let class = class::class(

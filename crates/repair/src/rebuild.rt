@@ -1,4 +1,4 @@
-// The rebuilt page: the body at which the walk stopped, the chain's records replayed on it, and the image around it.
+// The rebuilt page: the body at which the walk stopped, the records of the chain replayed on it, and the image around it.
 ghost use mathlib.Core.Path.{_≡_};
 ghost use Prim.Native.Nat.{_≤_};
 ghost use lib.ListN.{length, take};
@@ -24,21 +24,23 @@ fn copy_body(x: &[u8], body: &mut [u8])
 }
 
 // Sets the body on which a replay starts; a format replaces all of it.
-fn begin(volume: &[u8], g: Geometry, e: Entry, page: u32, stop: Stop, body: &mut [u8])
-    requires { ⌜ Ready (now volume) g e page ⌝ }
-    requires { ⌜ (stop ≡ walkOf g page (viewOf g (now volume) e page) .stop) × (length (now body) ≡ 244) ⌝ }
-    ensures { λ _. ⌜ now (body .exit) ≡ startBody stop (viewOf g (now (volume .entry)) e page) ⌝ }
+fn begin(volume: &[u8], g: Geometry, first: u64, e: Entry, page: u32, stop: Stop, body: &mut [u8])
+    requires { ⌜ Ready (now volume) g first e page ⌝ }
+    requires { ⌜ (stop ≡ walkOf g page (viewOf g (now volume) first e page) .stop) × (length (now body) ≡ 244) ⌝ }
+    ensures { λ _. ⌜ now (body .exit) ≡ startBody stop (viewOf g (now (volume .entry)) first e page) ⌝ }
 {
     match stop {
         Stop::Own => copy_body(place::page(volume, g, page), body),
         Stop::Backup => copy_body(place::slot(volume, g, e.slot as u32), body),
         Stop::Format => part::fill(body, 0),
         Stop::Broken => part::fill(body, 0),
+        Stop::Below => part::fill(body, 0),
     }
 }
 
 // The number that log record n names as its page's previous one.
 fn previous(volume: &[u8], g: Geometry, n: u32) -> u32
+    requires { ⌜ 1 ≤ g .records ⌝ }
     ensures { λ r. ⌜ r ≡ recordOf (logOf g (now (volume .entry)) n) .prev ⌝ }
 {
     field::u32_at(volume, place::log_slot(g, n) + 4)
@@ -46,7 +48,7 @@ fn previous(volume: &[u8], g: Geometry, n: u32) -> u32
 
 // The first `count` numbers of the chain from `top` down.
 fn collect(volume: &[u8], g: Geometry, top: u32, count: u32, lsns: &mut [u32])
-    requires { ⌜ count ≤ length (now lsns) ⌝ }
+    requires { ⌜ (1 ≤ g .records) × (count ≤ length (now lsns)) ⌝ }
     ensures { λ _. ⌜ take count (now (lsns .exit)) ≡ chainFrom count (logOf g (now (volume .entry))) top ⌝ }
 {
     let end = count as usize;
@@ -60,12 +62,20 @@ fn collect(volume: &[u8], g: Geometry, top: u32, count: u32, lsns: &mut [u32])
 }
 
 // Makes the changes of the first `count` records, oldest first.
-fn apply(volume: &[u8], g: Geometry, e: Entry, page: u32, lsns: &[u32], count: u32, body: &mut [u8])
-    requires { ⌜ Ready (now volume) g e page ⌝ }
-    requires { ⌜ take count (now lsns) ≡ walkOf g page (viewOf g (now volume) e page) .chain ⌝ }
+fn apply(
+    volume: &[u8],
+    g: Geometry,
+    first: u64,
+    e: Entry,
+    page: u32,
+    lsns: &[u32],
+    count: u32,
+    body: &mut [u8],
+)
+    requires { ⌜ Ready (now volume) g first e page ⌝ }
+    requires { ⌜ take count (now lsns) ≡ walkOf g page (viewOf g (now volume) first e page) .chain ⌝ }
     requires { ⌜ (count ≤ length (now lsns)) × (length (now body) ≡ 244) ⌝ }
-    ensures { λ _. ⌜ now (body .exit)
-        ≡ replayChain (logOf g (now (volume .entry))) (take count (now (lsns .entry))) (now (body .entry)) ⌝ }
+    ensures { λ _. ⌜ now (body .exit) ≡ replayChain (logOf g (now (volume .entry))) (take count (now (lsns .entry))) (now (body .entry)) ⌝ }
 {
     let mut i = count as usize;
     while 0 < i {
@@ -75,31 +85,37 @@ fn apply(volume: &[u8], g: Geometry, e: Entry, page: u32, lsns: &[u32], count: u
     }
 }
 
-// Replays a chain of `count` records on a body. A chain has no more records than a log.
-fn replay(volume: &[u8], g: Geometry, e: Entry, page: u32, count: u32, body: &mut [u8])
-    requires { ⌜ Ready (now volume) g e page ⌝ }
-    requires { ⌜ count ≡ length (walkOf g page (viewOf g (now volume) e page) .chain) ⌝ }
+// Replays a chain of `count` records on a body. A chain has no more records than a log has slots.
+fn replay(volume: &[u8], g: Geometry, first: u64, e: Entry, page: u32, count: u32, body: &mut [u8])
+    requires { ⌜ Ready (now volume) g first e page ⌝ }
+    requires { ⌜ count ≡ length (walkOf g page (viewOf g (now volume) first e page) .chain) ⌝ }
     requires { ⌜ length (now body) ≡ 244 ⌝ }
-    ensures { λ _. ⌜ now (body .exit)
-        ≡ replayChain (logOf g (now (volume .entry))) (walkOf g page (viewOf g (now (volume .entry)) e page) .chain)
-        (now (body .entry)) ⌝ }
+    ensures { λ _. ⌜ now (body .exit) ≡ replayChain (logOf g (now (volume .entry))) (walkOf g page (viewOf g (now (volume .entry)) first e page) .chain) (now (body .entry)) ⌝ }
 {
     let mut lsns = [0u32; 1024];
     collect(volume, g, e.durable, count, &mut lsns);
-    apply(volume, g, e, page, &lsns, count, body);
+    apply(volume, g, first, e, page, &lsns, count, body);
 }
 
 // The page's image as a frame holds it, from the start that the walk found and the records behind it.
 // Ruled out: the disk's image handed over as it is, and a replay that leaves a record out (both tried).
-pub fn rebuild(volume: &[u8], g: Geometry, e: Entry, page: u32, w: Walked, dst: &mut [u8])
-    requires { ⌜ Ready (now volume) g e page ⌝ }
-    requires { ⌜ (w ≡ walkedOf g page (viewOf g (now volume) e page)) × (length (now dst) ≡ 256) ⌝ }
-    ensures { λ _. ⌜ now (dst .exit) ≡ rebuilt g page (viewOf g (now (volume .entry)) e page) ⌝ }
+pub fn rebuild(
+    volume: &[u8],
+    g: Geometry,
+    first: u64,
+    e: Entry,
+    page: u32,
+    w: Walked,
+    dst: &mut [u8],
+)
+    requires { ⌜ Ready (now volume) g first e page ⌝ }
+    requires { ⌜ (w ≡ walkedOf g page (viewOf g (now volume) first e page)) × (length (now dst) ≡ 256) ⌝ }
+    ensures { λ _. ⌜ now (dst .exit) ≡ rebuilt g page (viewOf g (now (volume .entry)) first e page) ⌝ }
 {
     let stop = w.stop;
     let count = w.count;
     let body = &mut dst[8..252];
-    begin(volume, g, e, page, stop, body);
-    replay(volume, g, e, page, count, body);
+    begin(volume, g, first, e, page, stop, body);
+    replay(volume, g, first, e, page, count, body);
     image::build(dst, page, e.durable);
 }

@@ -1,10 +1,10 @@
-// The chain walk: from the newest durable number down, to the page's own image, the noted backup or a format.
+// The chain walk: from the newest durable number down, to the page's own image, the noted backup or a format; or below the run.
 ghost use mathlib.Core.Path.{_≡_};
 ghost use mathlib.Core.Bool.{true};
 ghost use Prim.Native.Nat.{_≤_};
 ghost use lib.ListN.{length};
 ghost use Rattle.model.specs.Geometry.{geometryOf, validVolume};
-ghost use Rattle.model.specs.Repair.{viewOf, ownStart, backupStart, chainRecord, isBroken};
+ghost use Rattle.model.specs.Repair.{viewOf, ownStart, backupStart, chainRecord, isBroken, isBelow};
 ghost use Rattle.repair.specs.Walked.{Ready, logOf, walkedOf, stepOf};
 use codec::checksum;
 use item::image;
@@ -27,9 +27,9 @@ pub struct Walked {
 }
 
 // The number at which the walk may stop at the page's own image; 0 is none.
-fn own_number(volume: &[u8], g: Geometry, e: Entry, page: u32) -> u32
-    requires { ⌜ Ready (now volume) g e page ⌝ }
-    ensures { λ r. ⌜ r ≡ ownStart g page (viewOf g (now (volume .entry)) e page) ⌝ }
+fn own_number(volume: &[u8], g: Geometry, first: u64, e: Entry, page: u32) -> u32
+    requires { ⌜ Ready (now volume) g first e page ⌝ }
+    ensures { λ r. ⌜ r ≡ ownStart g page (viewOf g (now (volume .entry)) first e page) ⌝ }
 {
     let x = place::page(volume, g, page);
     if image::valid(g, page, x) {
@@ -40,9 +40,9 @@ fn own_number(volume: &[u8], g: Geometry, e: Entry, page: u32) -> u32
 }
 
 // The number at which the walk may stop at the noted backup; 0 is none, and slot 0 is no backup.
-fn backup_number(volume: &[u8], g: Geometry, e: Entry, page: u32) -> u32
-    requires { ⌜ Ready (now volume) g e page ⌝ }
-    ensures { λ r. ⌜ r ≡ backupStart g page (viewOf g (now (volume .entry)) e page) ⌝ }
+fn backup_number(volume: &[u8], g: Geometry, first: u64, e: Entry, page: u32) -> u32
+    requires { ⌜ Ready (now volume) g first e page ⌝ }
+    ensures { λ r. ⌜ r ≡ backupStart g page (viewOf g (now (volume .entry)) first e page) ⌝ }
 {
     let slot = e.slot as u32;
     if slot == 0 {
@@ -64,10 +64,10 @@ fn readable(page: u32, n: u32, r: &[u8]) -> bool
     checksum::holds(r, 60) & ((e.lsn == n) & ((owner == page) & (record::layout(r) & linked)))
 }
 
-// The walk's step at number n: own image, else the backup, else the record.
-fn look(volume: &[u8], g: Geometry, page: u32, own: u32, backup: u32, n: u32) -> Step
-    requires { ⌜ (validVolume (now volume) ≡ true) × (g ≡ geometryOf (now volume)) × (n ≤ g .records) ⌝ }
-    ensures { λ r. ⌜ r ≡ stepOf (logOf g (now (volume .entry))) page own backup n ⌝ }
+// The walk's step at number n: own image, else the backup, else the record, where the run holds it.
+fn look(volume: &[u8], g: Geometry, first: u64, page: u32, own: u32, backup: u32, n: u32) -> Step
+    requires { ⌜ (validVolume (now volume) ≡ true) × (g ≡ geometryOf (now volume)) ⌝ }
+    ensures { λ r. ⌜ r ≡ stepOf (logOf g (now (volume .entry))) first page own backup n ⌝ }
 {
     if n == 0 {
         return Step::Halt(Stop::Broken);
@@ -77,6 +77,9 @@ fn look(volume: &[u8], g: Geometry, page: u32, own: u32, backup: u32, n: u32) ->
     }
     if backup == n {
         return Step::Halt(Stop::Backup);
+    }
+    if (n as u64) < first {
+        return Step::Halt(Stop::Below);
     }
     let r = place::record(volume, g, n);
     if !readable(page, n, r) {
@@ -90,18 +93,17 @@ fn look(volume: &[u8], g: Geometry, page: u32, own: u32, backup: u32, n: u32) ->
 }
 
 // The chain walk, from the newest durable number down.
-// Ruled out: an older own image, or the backup, taken at a number that is not its own (both tried); a format left out of
-// the count.
-pub fn walk(volume: &[u8], g: Geometry, e: Entry, page: u32) -> Walked
-    requires { ⌜ Ready (now volume) g e page ⌝ }
-    ensures { λ r. ⌜ r ≡ walkedOf g page (viewOf g (now (volume .entry)) e page) ⌝ }
+// Ruled out: an older own image, or the backup, taken at a number that is not its own (both tried); a format left out of the count.
+pub fn walk(volume: &[u8], g: Geometry, first: u64, e: Entry, page: u32) -> Walked
+    requires { ⌜ Ready (now volume) g first e page ⌝ }
+    ensures { λ r. ⌜ r ≡ walkedOf g page (viewOf g (now (volume .entry)) first e page) ⌝ }
 {
-    let own = own_number(volume, g, e, page);
-    let backup = backup_number(volume, g, e, page);
+    let own = own_number(volume, g, first, e, page);
+    let backup = backup_number(volume, g, first, e, page);
     let mut n = e.durable;
     let mut count: u32 = 0;
     let stop = loop {
-        match look(volume, g, page, own, backup, n) {
+        match look(volume, g, first, page, own, backup, n) {
             Step::Halt(s) => break s,
             Step::Read { prev, format } => {
                 count += 1;
@@ -125,5 +127,20 @@ pub fn broken(stop: Stop) -> bool
         Stop::Backup => false,
         Stop::Format => false,
         Stop::Broken => true,
+        Stop::Below => false,
+    }
+}
+
+// The walk went below the run.
+// Ruled out: a walk that meets an image at a lower number taken as one (tried).
+pub fn below(stop: Stop) -> bool
+    ensures { λ r. ⌜ r ≡ isBelow stop ⌝ }
+{
+    match stop {
+        Stop::Own => false,
+        Stop::Backup => false,
+        Stop::Format => false,
+        Stop::Broken => false,
+        Stop::Below => true,
     }
 }

@@ -11,6 +11,7 @@ use borrow.Author.Tests.{leb-true, ltb-false, eqb-true, eqb-false, le-leb, lt-lt
 use Rattle.laws.proofs.Tables.{all-at, all-holds, every-at, every-all, not-true, when-true, when-false, within-bounds, true-not-false}
 use Rattle.laws.proofs.WellFormed.{Formed}
 use Rattle.model.specs.Tables.{every, within}
+use Rattle.model.specs.Geometry.{most, mostNotes}
 use Rattle.model.specs.Item.{noteLayout, isWritten}
 use Rattle.model.specs.Index.{emptyEntry, entryRow, entryOf}
 use Rattle.model.specs.State.{frameRow, lastNumber, held, blank, pendingNoteFits}
@@ -169,9 +170,9 @@ pub note-slot : (g : Geometry) (notes durable : ℕ) (n : Note) → pendingNoteF
     → (1 ≤ n .slot) × (n .slot ≤ g .slots)
 unfolding pendingNoteFits
 note-slot g notes durable n h f =
-    let tests = ltb notes (g .notes) ∷ noteLayout n ∷ eqb (n .number) (notes + 1) ∷ within (g .pages) (n .page)
+    let tests = ltb notes (mostNotes g) ∷ ltb 0 (g .notes) ∷ noteLayout n ∷ eqb (n .number) (notes + 1) ∷ within (g .pages) (n .page)
     ∷ (isWritten n || within (g .slots) (n .slot)) ∷ leb (n .lsn) durable ∷ [] in
-    within-bounds (g .slots) (n .slot) (other (isWritten n) _ (all-at tests 4 h) f)
+    within-bounds (g .slots) (n .slot) (other (isWritten n) _ (all-at tests 5 h) f)
 
 -- ---- back: the facts make a state well formed
 
@@ -188,7 +189,7 @@ pub formed-holds : (g : Geometry) (count : ℕ) (s : State) → Formed g count s
 unfolding wellFormed
 formed-holds g count s w =
     all-holds
-    (leb (s .durable + s .pending) (g .records) ∷ leb (s .pending) 16 ∷ leb (s .notes) (g .notes) ∷ pendingNoteFits g (s .notes)
+    (leb (s .durable + s .pending) (most g) ∷ leb (s .pending) 16 ∷ leb (s .notes) (mostNotes g) ∷ pendingNoteFits g (s .notes)
     (s .durable) (s .note)
     ∷ every 16 (frameFits g count s) ∷ every 64 (pageFits g s) ∷ []) (
       le-leb _ _ (w .room),

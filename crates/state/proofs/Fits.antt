@@ -8,10 +8,10 @@ use lib.ListN.{length, getD, List·getD-eq-default}
 use native.Mathlib.Nat.{mod-eq-of-lt}
 use native.Mathlib.Numerals.{add-one}
 use native.Mathlib.Omega.{arith}
-use borrow.Author.Tests.{ltb-true, ltb-false}
-use Rattle.laws.proofs.Tables.{byCases, every-same}
+use borrow.Author.Tests.{ltb-true, ltb-false, eq-eqb, ne-eqb}
+use Rattle.laws.proofs.Tables.{byCases, every-same, when-true, when-false}
 use Rattle.model.specs.Tables.{Row, all, every, firstOf}
-use Rattle.model.specs.Geometry.{geometryOf, validVolume}
+use Rattle.model.specs.Geometry.{geometryOf, validVolume, most, mostNotes}
 use Rattle.model.specs.Index.{emptyEntry, entryRow, entryOf}
 use Rattle.model.specs.State.{emptyFrame, holderFrom, frameCount, validMemory, pendingNoteFits, frameFits, entryFits, pageFits, wellFormed}
 use Rattle.model.specs.Refusals.{stateRows}
@@ -53,14 +53,15 @@ module _ (g : Geometry) (s : State) where
   unfolding pageFits entryFits
   pages-are = every-same (pageIn g (s .durable) (s .pending) (s .frames) (s .index)) (pageFits g s) 64 (λ i l. rw add-one)
 
-  pub formed-is : (count : ℕ) (pending frames pages : Bool) → pending ≡ pendingNoteFits g (s .notes) (s .durable) (s .note)
+  pub formed-is : (count top topNotes : ℕ) (pending frames pages : Bool) → top ≡ most g → topNotes ≡ mostNotes g
+      → pending ≡ pendingNoteFits g (s .notes) (s .durable) (s .note)
       → frames ≡ every 16 (frameIn g count (s .frames) (s .index))
       → pages ≡ every 64 (pageIn g (s .durable) (s .pending) (s .frames) (s .index))
       → all
-      (leb (s .durable + s .pending) (g .records) ∷ leb (s .pending) 16 ∷ leb (s .notes) (g .notes) ∷ pending ∷ frames ∷ pages ∷ [])
+      (leb (s .durable + s .pending) top ∷ leb (s .pending) 16 ∷ leb (s .notes) topNotes ∷ pending ∷ frames ∷ pages ∷ [])
       ≡ wellFormed g count s
   unfolding wellFormed
-  formed-is count pending frames pages ep ef ei = rw (ep, ef, ei, frames-are count, pages-are)
+  formed-is count top topNotes pending frames pages et en ep ef ei = rw (et, en, ep, ef, ei, frames-are count, pages-are)
 
 -- the code's tests, in the table's order, come to the rows 1, 2, 2
 module _ (s : State) (v m : List ℕ) where
@@ -97,3 +98,13 @@ pub refusal-then : (v m : List ℕ) (s : State) (rows : List Row) (k rest : ℕ)
 refusal-then v m s rows k rest ek er =
     rw (ek, er)
     (after (not (validVolume v)) (not (validMemory (length m))) (not (wellFormed (geometryOf v) (frameCount (length m)) s)) (firstOf rows))
+
+-- the same where the code goes on only if they refuse nothing
+pub refusal-first : (v m : List ℕ) (s : State) (rows : List Row) (k : ℕ) → k ≡ firstOf (stateRows v m s []) → (k ≡ 0 → ⊥)
+    → k ≡ firstOf (stateRows v m s rows)
+refusal-first v m s rows k ek ne =
+    sym (when-true k (firstOf rows) (ap not (ne-eqb k 0 ne))) ∙ refusal-then v m s rows k (firstOf rows) ek refl
+
+pub refusal-last : (v m : List ℕ) (s : State) (rows : List Row) (k rest : ℕ) → k ≡ firstOf (stateRows v m s []) → k ≡ 0
+    → rest ≡ firstOf rows → rest ≡ firstOf (stateRows v m s rows)
+refusal-last v m s rows k rest ek z er = sym (when-false k rest (ap not (eq-eqb k 0 z))) ∙ refusal-then v m s rows k rest ek er

@@ -4,3 +4,4 @@ pub mod Forced
 pub mod Fits
 pub mod Facts
 pub mod Holder
+pub mod Slots

@@ -14,17 +14,19 @@ use model::state::Entry;
 use model::state::Frame;
 use model::state::PendingNote;
 use model::state::State;
+use volume::ring;
 use volume::rows;
 
 // The note may be the pending one beside these counts.
 fn note_fits(g: Geometry, notes: u32, durable: u32, n: Note) -> bool
     ensures { λ r. ⌜ r ≡ pendingNoteFits g notes durable (Present n) ⌝ }
 {
+    let most = ring::most_notes(g);
     let layout = note::layout(n);
     let number = n.number as u64 == notes as u64 + 1;
     let page = (1 <= n.page) & (n.page as u32 <= g.pages);
     let slot = (n.kind == 1) | ((1 <= n.slot) & (n.slot as u32 <= g.slots));
-    (notes < g.notes) & (layout & (number & (page & (slot & (n.lsn <= durable)))))
+    (notes < most) & ((0 < g.notes) & (layout & (number & (page & (slot & (n.lsn <= durable))))))
 }
 
 // There is no pending note, or it may be one.
@@ -140,12 +142,14 @@ fn pages_fit(
 pub fn well_formed(s: State, g: Geometry, count: usize) -> bool
     ensures { λ r. ⌜ r ≡ wellFormed g count s ⌝ }
 {
+    let most = ring::most(g);
+    let most_notes = ring::most_notes(g);
     let p = s.note;
     let table = s.frames;
     let index = s.index;
     let pending = pending_fits(g, s.notes, s.durable, p);
     let frames = frames_fit(g, count, table, index);
     let pages = pages_fit(g, s.durable, s.pending, table, index);
-    (s.durable as u64 + s.pending as u64 <= g.records as u64)
-        & ((s.pending <= 16) & ((s.notes <= g.notes) & (pending & (frames & pages))))
+    (s.durable as u64 + s.pending as u64 <= most as u64)
+        & ((s.pending <= 16) & ((s.notes <= most_notes) & (pending & (frames & pages))))
 }

@@ -94,7 +94,8 @@ impl Store {
         }
     }
 
-    // Begins a blank page in a frame. Ruled out: 12 on an empty log; a dirty frame's page that leaves it.
+    // Begins a blank page in a frame. Ruled out: 12 on an empty log; a record given that will displace one that is still
+    // needed; a dirty frame's page that leaves it.
     pub fn begin(
         self,
         volume: &[u8],
@@ -191,8 +192,8 @@ impl Store {
         wrap(persist::backup::backup(s, volume, memory, page, slot))
     }
 
-    // Stores the pending note and enters it in the index. Ruled out: Nothing with a note pending; a note stored over an
-    // earlier one.
+    // Stores the pending note and enters it in the index. Ruled out: Nothing with a note pending; a note stored in
+    // another number's slot.
     pub fn note(self, volume: &mut [u8], memory: &[u8]) -> Returned
         ensures outcome { λ r.
             ⌜ r ≡ wrapped (replyOf (noteCall (now (volume .entry)) (now (memory .entry)) (self .state))) ⌝ }

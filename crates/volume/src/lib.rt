@@ -4,4 +4,5 @@ pub mod heading;
 pub mod make;
 pub mod memory;
 pub mod place;
+pub mod ring;
 pub mod rows;

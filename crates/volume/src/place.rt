@@ -5,6 +5,7 @@ ghost use Prim.Native.Nat.{_+_, _-_, _≤_};
 ghost use lib.ListN.{length};
 ghost use Rattle.model.specs.Bytes as bytes;
 ghost use Rattle.model.specs.Geometry.{pageAt, slotAt, recordAt, noteAt, logSlot, noteSlot, start, item};
+use crate::ring;
 use model::geometry::Geometry;
 
 // How many items stand before item i.
@@ -48,16 +49,18 @@ pub fn note_at(g: Geometry, i: u32) -> usize
 
 // Where log record n is stored.
 pub fn log_slot(g: Geometry, n: u32) -> usize
+    requires { ⌜ 1 ≤ g .records ⌝ }
     ensures { λ r. ⌜ r ≡ start g (logSlot g n) ⌝ }
 {
-    record_at(g, n)
+    record_at(g, ring::slot_of(g.records, n))
 }
 
 // Where note n is stored.
 pub fn note_slot(g: Geometry, n: u32) -> usize
+    requires { ⌜ 1 ≤ g .notes ⌝ }
     ensures { λ r. ⌜ r ≡ start g (noteSlot g n) ⌝ }
 {
-    note_at(g, n)
+    note_at(g, ring::slot_of(g.notes, n))
 }
 
 // The bytes of a part.
@@ -87,7 +90,7 @@ pub fn slot(v: &[u8], g: Geometry, i: u32) -> &[u8]
 
 // The bytes of log record n.
 pub fn record(v: &[u8], g: Geometry, n: u32) -> &[u8]
-    requires { ⌜ start g (logSlot g n) + 64 ≤ length (now v) ⌝ }
+    requires { ⌜ (1 ≤ g .records) × (start g (logSlot g n) + 64 ≤ length (now v)) ⌝ }
     ensures { λ r. ⌜ now r ≡ item g (now (v .entry)) (logSlot g n) ⌝ }
 {
     part(v, log_slot(g, n), 64)
@@ -95,7 +98,7 @@ pub fn record(v: &[u8], g: Geometry, n: u32) -> &[u8]
 
 // The bytes of note n.
 pub fn note(v: &[u8], g: Geometry, n: u32) -> &[u8]
-    requires { ⌜ start g (noteSlot g n) + 16 ≤ length (now v) ⌝ }
+    requires { ⌜ (1 ≤ g .notes) × (start g (noteSlot g n) + 16 ≤ length (now v)) ⌝ }
     ensures { λ r. ⌜ now r ≡ item g (now (v .entry)) (noteSlot g n) ⌝ }
 {
     part(v, note_slot(g, n), 16)

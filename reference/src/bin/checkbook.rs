@@ -10,10 +10,7 @@ fn main() -> ExitCode {
     let mut sum = Counts::default();
     for seed in first..first.saturating_add(count) {
         match check_history(seed) {
-            Ok(counts) => {
-                sum.events += counts.events;
-                sum.kept += counts.kept;
-            }
+            Ok(counts) => sum.add(&counts),
             Err(text) => {
                 eprintln!("seed {seed}: {text}");
                 return ExitCode::FAILURE;
@@ -21,8 +18,8 @@ fn main() -> ExitCode {
         }
     }
     println!(
-        "{count} histories, {} events, {} changes kept: no contradiction",
-        sum.events, sum.kept
+        "{count} histories, {} events, {} changes kept, {} logs turned, {} pages lost: no contradiction",
+        sum.events, sum.kept, sum.turned, sum.lost
     );
     ExitCode::SUCCESS
 }

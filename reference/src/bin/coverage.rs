@@ -1,6 +1,6 @@
 //! Counts the answers in driver output on standard input. With `--script FILE`, the script
 //! behind that output, it counts them for each call and lists the answers and the causes of
-//! refusals that are not reached.
+//! refusals that are not reached: of rings, or with `--straight 1` of volumes that don't turn.
 
 use reference::args::value;
 use reference::cell::Cell;
@@ -20,11 +20,11 @@ fn main() -> io::Result<()> {
         }
         return Ok(());
     }
-    by_call(&fs::read(script)?, &output);
+    by_call(&fs::read(script)?, &output, value("--straight", 0) == 0);
     Ok(())
 }
 
-fn by_call(script: &[u8], output: &str) {
+fn by_call(script: &[u8], output: &str, ring: bool) {
     let mut counts = BTreeMap::new();
     for (cell, line) in cells(script).zip(output.lines()) {
         if let Some(name) = call_name(&cell) {
@@ -35,11 +35,11 @@ fn by_call(script: &[u8], output: &str) {
     for ((name, answer), count) in &counts {
         println!("{count:9} {name} {answer}");
     }
-    for (name, answer) in targets().iter().filter(|hit| !counts.contains_key(hit)) {
+    for (name, answer) in targets(ring).iter().filter(|hit| !counts.contains_key(hit)) {
         println!("  missing {name} {answer}");
     }
     let script: Vec<Cell> = cells(script).collect();
-    for (name, cause) in causes().difference(&hits(&script)) {
+    for (name, cause) in causes(ring).difference(&hits(&script)) {
         println!("  missing {name} {cause}");
     }
 }

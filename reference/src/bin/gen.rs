@@ -1,8 +1,8 @@
-//! Writes one script: `gen --seed N --kind history|arbitrary|mixed --cells N`.
+//! Writes one script: `gen --seed N --kind history|ring|arbitrary|mixed|turning --cells N`.
 
 use reference::arbitrary::arbitrary_script;
 use reference::args::value;
-use reference::history::history_script;
+use reference::history::{history_script, ring_script};
 use reference::mixed::mixed_script;
 use reference::rng::Rng;
 use std::io::{self, Write};
@@ -14,9 +14,10 @@ fn main() -> io::Result<ExitCode> {
     let kind: String = value("--kind", "history".into());
     let script = match kind.as_str() {
         "history" => history_script(&mut rng, cells),
+        "ring" => ring_script(&mut rng, cells),
         "arbitrary" => arbitrary_script(&mut rng, cells),
-        "mixed" => {
-            let (script, missing) = mixed_script(&mut rng, cells);
+        "mixed" | "turning" => {
+            let (script, missing) = mixed_script(&mut rng, cells, kind == "turning");
             if !missing.is_empty() {
                 eprintln!("not reached: {missing:?}");
                 return Ok(ExitCode::FAILURE);
@@ -24,7 +25,7 @@ fn main() -> io::Result<ExitCode> {
             script
         }
         _ => {
-            eprintln!("--kind is history, arbitrary or mixed");
+            eprintln!("--kind is history, ring, arbitrary, mixed or turning");
             return Ok(ExitCode::from(2));
         }
     };

@@ -69,7 +69,7 @@ u16-at-requires : tie.Need-u16-at-requires
 u16-at-requires c κs = search needs
 
 log-slot-requires : tie.Need-log-slot-requires
-log-slot-requires c κs = search needs
+log-slot-requires c κs = bounds (c .before .before .before .before) .records
 
 put-requires : tie.Need-put-requires
 put-requires c κs =

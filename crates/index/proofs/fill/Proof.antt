@@ -1,13 +1,26 @@
 -- `index::fill` meets its contract: the laws of Whole say what each case is.
-use mathlib.Core.Path.{_≡_, refl, sym, _∙_}
+use mathlib.Core.Path.{_≡_, refl, sym, ap, _∙_}
 use mathlib.Core.Bool.{true}
+use Prim.Native.Nat.{ℕ}
 use borrow.Author.Tests.{not-true, not-false, eqb-false}
 use denote.Ref.{now}
+use lib.ListN.{length, length-replicate}
 use Rattle.model.specs.Geometry.{validVolume}
-use Rattle.index.proofs.Whole.{volume-refused, refuses, sized, log-refused, log-count, notes-refused, scan-clean}
+use Rattle.index.proofs.ColumnLaws.{blank-long}
+use Rattle.index.proofs.Whole.{volume-refused, refuses, sized, log-refused, notes-refused, scan-clean}
 use borrow.Author.Needs.{needs}
 use Rattle.index.proofs.fill.Statement.{statement}
 use Rattle.index.proofs.fill.Tie as tie
+use Rattle.index.proofs.fill.Reads as reads
+use Rattle.index.proofs.fill.Lts as lts
+use Rattle.index.proofs.columns.ordered.Reads as ordered-reads
+use Rattle.index.proofs.log.run.Reads as log-run-reads
+use Rattle.index.proofs.log.scan.Reads as log-scan-reads
+use Rattle.index.proofs.notes.run.Reads as notes-run-reads
+use Rattle.index.proofs.notes.scan.Reads as notes-scan-reads
+use Rattle.index.proofs.refused.Reads as refused-reads
+use Rattle.volume.proofs.heading.geometry.Reads as geometry-reads
+use Rattle.volume.proofs.heading.valid.Reads as valid-reads
 
 -- past the first test
 opened : (c : tie.Else1) → validVolume (now (c .before .before .before .before .before .before .before .args .volume)) ≡ true
@@ -25,8 +38,11 @@ returns c = refuses _ _ _ (c .refused .ensures) (volume-refused _ (sym (c .befor
 geometry-requires : tie.Need-geometry-requires
 geometry-requires c κs = search needs
 
+run-requires : tie.Need-run-requires
+run-requires c κs = sized _ (opened (c .before)) _ (c .geometry .ensures)
+
 scan-requires : tie.Need-scan-requires
-scan-requires c κs = (sized _ (opened (c .before .before)) _ (c .before .geometry .ensures), c .before .before .before .before .before .before .before .before .before .pre .0)
+scan-requires c κs = (sized _ (opened (c .before .before .before)) _ (c .before .before .geometry .ensures), (c .before .run .ensures, c .before .before .before .before .before .before .before .before .before .before .pre .0))
 
 refused-requires-2 : tie.Need-refused-requires-2
 refused-requires-2 c κs = search needs
@@ -35,15 +51,25 @@ same-length : tie.Need-same-length
 same-length c = search needs
 
 returns-2 : tie.Need-returns-2
-returns-2 c =
-    refuses _ _ _ (c .refused2 .ensures)
-    (log-refused _ (opened (c .before .before .before .before .before .before .before .before)) _ (c .before .before .before .before .before .before .before .geometry .ensures) _ (c .before .before .before .before .before .scan .ensures .0) (not-true _ (c .before .if2 .taken))) (eqb-false 17 0 refl)
+returns-2 c = refuses _ _ _ (c .refused2 .ensures) (log-refused _ (opened (c .before .before .before .before .before .before .before .before)) _ (c .before .before .before .before .before .before .before .geometry .ensures) _ (c .before .before .before .before .scan .ensures .0) (not-true _ (c .before .if2 .taken))) (eqb-false 17 0 refl)
+
+run-requires-2 : tie.Need-run-requires-2
+run-requires-2 c κs = sized _ (opened (c .before .before .before .before .before .before .before)) _ (c .before .before .before .before .before .before .geometry .ensures)
 
 scan-requires-2 : tie.Need-scan-requires-2
-scan-requires-2 c κs =
-    let o = opened (c .before .before .before .before .before .before .before .before .before .before) in
-    let e = c .before .before .before .before .before .before .before .before .before .geometry .ensures in
-    (sized _ o _ e, (log-count _ o _ e _ (c .before .before .before .before .before .before .before .scan .ensures .0) (not-false _ (c .before .before .before .if2 .left)), c .before .before .before .before .before .before .before .before .before .before .before .before .before .before .before .before .before .pre .1))
+scan-requires-2 c κs = (sized _ (opened (c .before .before .before .before .before .before .before .before .before .before .before)) _ (c .before .before .before .before .before .before .before .before .before .before .geometry .ensures), ((c .before .before .before .before .before .before .before .before .before .run .ensures, c .before .before .before .run2 .ensures), c .before .before .before .before .before .before .before .before .before .before .before .before .before .before .before .before .before .before .pre .1))
+
+ordered-requires : tie.Need-ordered-requires
+ordered-requires c κs =
+    let s = c .before .before .before .before .before .before .before .before .before .before .before .before .before .before .before .before .before .before .before .before .before .before .before .before .before .before .before .before .before in
+    let b = blank-long _ _ _ (s .pre .1) in
+    let k = c .before .before .before .before .before .before .before .before .before .before .scan2 .kept in
+    record {
+      last-wide = c .before .before .before .before .before .before .before .before .before .before .before .before .before .before .before .before .before .before .scan .kept .1 .1 .1 .0 ∙ ap length (s .pre .0) ∙ length-replicate {A = ℕ} 64 0;
+      written-wide = k .1 .1 .1 .1 .0 ∙ b .written-long;
+      slots-wide = k .1 .1 .1 .1 .1 .0 ∙ b .slots-long;
+      backup-wide = k .1 .1 .1 .1 .1 .1 .0 ∙ b .backup-long;
+    }
 
 refused-requires-3 : tie.Need-refused-requires-3
 refused-requires-3 c κs = search needs
@@ -63,8 +89,8 @@ same-length-5 c = search needs
 returns-3 : tie.Need-returns-3
 returns-3 c =
     refuses _ _ _ (c .refused3 .ensures)
-    (notes-refused _ (opened (c .before .before .before .before .before .before .before .before .before .before .before .before .before .before .before .before .before .before .before .before)) _ (c .before .before .before .before .before .before .before .before .before .before .before .before .before .before .before .before .before .before .before .geometry .ensures) _ (c .before .before .before .before .before .before .before .before .before .before .before .before .before .before .before .before .before .scan .ensures .0) (not-false _ (c .before .before .before .before .before .before .before .before .before .before .before .before .before .if2 .left)) _ (c .before .before .before .before .before .before .before .before .before .scan2 .ensures .0)
-    (not-true _ (c .before .if3 .taken))) (eqb-false 18 0 refl)
+    (notes-refused _ (opened (c .before .before .before .before .before .before .before .before .before .before .before .before .before .before .before .before .before .before .before .before .before .before .before .before .before)) _ (c .before .before .before .before .before .before .before .before .before .before .before .before .before .before .before .before .before .before .before .before .before .before .before .before .geometry .ensures) _ (c .before .before .before .before .before .before .before .before .before .before .before .before .before .before .before .before .before .before .before .before .before .scan .ensures .0) (not-false _ (c .before .before .before .before .before .before .before .before .before .before .before .before .before .before .before .before .before .before .if2 .left)) _ _ _ _ (c .before .before .before .before .before .before .before .before .before .before .before .before .before .before .before .before .before .before .before .before .before .scan .ensures .1) _ (c .before .before .before .before .before .before .before .before .before .before .before .before .before .scan2 .ensures .0) (c .before .before .before .before .before .before .before .before .before .before .before .before .before .scan2 .ensures .1)
+    _ (c .before .before .ordered .ensures) (not-true _ (c .before .if3 .taken))) (eqb-false 18 0 refl)
 
 same-length-6 : tie.Need-same-length-6
 same-length-6 c = search needs
@@ -80,8 +106,8 @@ same-length-9 c = search needs
 
 returns-4 : tie.Need-returns-4
 returns-4 c =
-    scan-clean _ (opened (c .before .before .before .before .before .before .before .before .before .before .before .before .before .before .before .before .before .before .before)) _ (c .before .before .before .before .before .before .before .before .before .before .before .before .before .before .before .before .before .before .geometry .ensures) _ (c .before .before .before .before .before .before .before .before .before .before .before .before .before .before .before .before .scan .ensures .0) (not-false _ (c .before .before .before .before .before .before .before .before .before .before .before .before .if2 .left)) _ (c .before .before .before .before .before .before .before .before .scan2 .ensures .0)
-    (not-false _ (c .if3 .left)) _ _ _ _ (c .before .before .before .before .before .before .before .before .before .before .before .before .before .before .before .before .scan .ensures .1) (c .before .before .before .before .before .before .before .before .scan2 .ensures .1)
+    scan-clean _ (opened (c .before .before .before .before .before .before .before .before .before .before .before .before .before .before .before .before .before .before .before .before .before .before .before .before)) _ (c .before .before .before .before .before .before .before .before .before .before .before .before .before .before .before .before .before .before .before .before .before .before .before .geometry .ensures) _ (c .before .before .before .before .before .before .before .before .before .before .before .before .before .before .before .before .before .before .before .before .scan .ensures .0) (not-false _ (c .before .before .before .before .before .before .before .before .before .before .before .before .before .before .before .before .before .if2 .left)) _ _ _ _ (c .before .before .before .before .before .before .before .before .before .before .before .before .before .before .before .before .before .before .before .before .scan .ensures .1) _ (c .before .before .before .before .before .before .before .before .before .before .before .before .scan2 .ensures .0) (c .before .before .before .before .before .before .before .before .before .before .before .before .scan2 .ensures .1)
+    _ (c .before .ordered .ensures) (not-false _ (c .if3 .left)) _ _ (c .before .before .before .before .before .before .before .before .before .before .before .before .before .before .before .before .before .before .before .before .before .before .run .ensures) (c .before .before .before .before .before .before .before .before .before .before .before .before .before .before .before .before .run2 .ensures)
 
 pub fill-spec : {M : Type 1} → statement M
 fill-spec =
@@ -91,11 +117,14 @@ fill-spec =
     refused-requires
     returns
     geometry-requires
+    run-requires
     scan-requires
     refused-requires-2
     same-length
     returns-2
+    run-requires-2
     scan-requires-2
+    ordered-requires
     refused-requires-3
     same-length-2
     same-length-3

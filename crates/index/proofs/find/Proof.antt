@@ -1,6 +1,5 @@
 -- `index::find` meets its contract: the columns are those of the index.
-use mathlib.Core.Path.{_∙_}
-use Rattle.index.proofs.ColumnLaws.{row-of}
+use Rattle.index.proofs.Whole.{finds}
 use borrow.Author.Needs.{needs}
 use Rattle.index.proofs.find.Statement.{statement}
 use Rattle.index.proofs.find.Tie as tie
@@ -36,7 +35,7 @@ entry-requires : tie.Need-entry-requires
 entry-requires c κs = search needs
 
 returns : tie.Need-returns
-returns c = let f = c .before .before .before .before .before .before .before .before .before .fill in (f .ensures .0, λ z. c .entry .ensures ∙ row-of _ _ _ _ _ (f .ensures .1 .1 z) _)
+returns c = let f = c .before .before .before .before .before .before .before .before .before .fill in (f .ensures .0, λ z. finds _ _ _ _ _ _ _ _ (f .ensures .1 .0 z) (f .ensures .1 .1 z) (c .entry .ensures))
 
 pub find-spec : {M : Type 1} → statement M
 find-spec =

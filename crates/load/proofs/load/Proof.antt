@@ -1,7 +1,7 @@
 -- `load::load` is its definition: the laws of Outcomes.antt say what each case is.
 use mathlib.Core.Path.{refl, sym, _∙_}
 use denote.Ref.{now}
-use Rattle.load.proofs.Outcomes.{refused, Open, opened, broken, done}
+use Rattle.load.proofs.Outcomes.{refused, Open, opened, stopped, done}
 use borrow.Author.Needs.{needs}
 use Rattle.load.proofs.load.Statement.{statement}
 use Rattle.load.proofs.load.Tie as tie
@@ -27,41 +27,34 @@ geometry-requires c κs = search needs
 entry-requires : tie.Need-entry-requires
 entry-requires c κs = search needs
 
-walk-requires : tie.Need-walk-requires
-walk-requires c κs = known c .ready
+first-requires : tie.Need-first-requires
+first-requires c κs = known c .sized
 
-broken-requires : tie.Need-broken-requires
-broken-requires c κs = search needs
+walk-requires : tie.Need-walk-requires
+walk-requires c κs = known (c .before) .ready _ (c .first .ensures)
+
+walk-refusal-requires : tie.Need-walk-refusal-requires
+walk-refusal-requires c κs = search needs
 
 returns-2 : tie.Need-returns-2
-returns-2 c =
-    let w = c .before .before in
-    broken _ _ _ _ _ _ _ (known (w .before)) _ _ (w .walk .ensures) (c .before .broken .ensures) (c .if2 .taken)
+returns-2 c = stopped _ _ _ _ _ _ _ (known (c .before .before .before .before)) _ (c .before .before .before .first .ensures) _ _ (c .before .before .walk .ensures) (c .before .walk-refusal .ensures) (c .if2 .taken)
 
 restore-requires : tie.Need-restore-requires
-restore-requires c κs =
-    let w = c .before .before .before in
-    let k = known (w .before) in
-    (k .ready, (w .walk .ensures, k .room))
+restore-requires c κs = let k = known (c .before .before .before .before .before) in (k .ready _ (c .before .before .before .before .first .ensures), (c .before .before .before .walk .ensures, k .room))
 
 clean-requires : tie.Need-clean-requires
 clean-requires c κs = search needs
 
 loaded-requires : tie.Need-loaded-requires
-loaded-requires c κs =
-    let k = known (c .before .before .before .before .before .before .before .before) in
-    (k .page-high, k .frame-low, k .frame-high)
+loaded-requires c κs = let k = known (c .before .before .before .before .before .before .before .before .before) in (k .page-high, k .frame-low, k .frame-high)
 
 same-length : tie.Need-same-length
 same-length c = search needs
 
 returns-3 : tie.Need-returns-3
 returns-3 c =
-    let r = c .before .before .before .before in
-    let i = r .before .before in
-    let w = i .before .before in
-    done _ _ _ _ _ _ _ (known (w .before)) _ _ _ _ _ _ (w .walk .ensures) (i .before .broken .ensures) (i .if2 .left) (r .restore .ensures .0)
-    (r .restore .ensures .1) (c .before .clean .ensures) (c .loaded .ensures)
+    done _ _ _ _ _ _ _ (known (c .before .before .before .before .before .before .before .before .before .before)) _ (c .before .before .before .before .before .before .before .before .before .first .ensures) _ _ _ _ _ _ (c .before .before .before .before .before .before .before .before .walk .ensures) (c .before .before .before .before .before .before .before .walk-refusal .ensures) (c .before .before .before .before .before .before .if2 .left)
+    (c .before .before .before .before .restore .ensures .0) (c .before .before .before .before .restore .ensures .1) (c .before .clean .ensures) (c .loaded .ensures)
 
 pub load-spec : {M : Type 1} → statement M
 load-spec =
@@ -71,8 +64,9 @@ load-spec =
     returns
     geometry-requires
     entry-requires
+    first-requires
     walk-requires
-    broken-requires
+    walk-refusal-requires
     returns-2
     restore-requires
     clean-requires

@@ -12,14 +12,14 @@ use reference::cell::decode;
 use reference::driver::Driver;
 use reference::geometry::Geometry;
 use reference::heading::Heading;
-use reference::history::{choose_geometry, history_script};
+use reference::history::{choose_geometry, history_script, ring_script};
 use reference::mutate::{edit_image, edit_note, edit_record, seal_item};
 use reference::rng::Rng;
 use std::collections::BTreeMap;
 use std::process::ExitCode;
 
 /// The answers that inspection can give.
-const ANSWERS: [u32; 7] = [0, 1, 2, 3, 7, 17, 18];
+const ANSWERS: [u32; 8] = [0, 1, 2, 3, 7, 17, 18, 23];
 const CELLS: usize = 600;
 /// Cells of a script between two looks at its volume.
 const STRIDE: usize = 5;
@@ -42,7 +42,7 @@ fn main() -> ExitCode {
         tally.look(&noise(length, &mut rng), &mut rng, PAGES);
     }
     for _ in 0..scripts {
-        let generator = if rng.chance(500) { history_script } else { arbitrary_script };
+        let generator = rng.pick(&[history_script, ring_script, arbitrary_script]);
         played(&generator(&mut rng, CELLS), &mut tally, &mut rng);
         garbage(&mut tally, &mut rng);
     }

@@ -1,4 +1,5 @@
 -- `append::begin::own` meets its contract.
+use denote.Ref.{now}
 use Rattle.append.proofs.Rows.{begin-own}
 use borrow.Author.Needs.{needs}
 use Rattle.append.proofs.begin.own.Statement.{statement}
@@ -10,8 +11,8 @@ blank-requires c κs = search needs
 frame-requires : tie.Need-frame-requires
 frame-requires c κs = search needs
 
-full-requires : tie.Need-full-requires
-full-requires c κs = search needs
+refusal-requires : tie.Need-refusal-requires
+refusal-requires c κs = search needs
 
 first-requires : tie.Need-first-requires
 first-requires c κs = search needs
@@ -28,10 +29,10 @@ first-requires-4 c κs = search needs
 returns : tie.Need-returns
 returns c =
     let l = c .before .before .before .before in
-    let s = l .before .before .before .before in
-    begin-own (s .args .g) (s .args .count) (s .args .s) (s .args .page) (s .args .frame) _ _ _ _ _ _ _ (l .before .before .blank .ensures)
+    let s = l .before .before .before .before .before in
+    begin-own (s .args .g) (now (s .args .volume)) (s .args .count) (s .args .s) (s .args .page) (s .args .frame) _ _ _ _ _ _ _ (l .before .before .blank .ensures)
     (l .before .frame .ensures)
-    (l .full .ensures) (c .before .before .before .first .ensures) (c .before .before .first2 .ensures) (c .before .first3 .ensures)
+    (l .refusal .ensures) (c .before .before .before .first .ensures) (c .before .before .first2 .ensures) (c .before .first3 .ensures)
     (c .first4 .ensures)
 
 pub own-spec : {M : Type 1} → statement M
@@ -40,7 +41,7 @@ own-spec =
     (tie.spec
     blank-requires
     frame-requires
-    full-requires
+    refusal-requires
     first-requires
     first-requires-2
     first-requires-3

@@ -1,4 +1,5 @@
 -- `append::change::own` meets its contract.
+use denote.Ref.{now}
 use Rattle.append.proofs.Rows.{change-own}
 use borrow.Author.Needs.{needs}
 use Rattle.append.proofs.change.own.Statement.{statement}
@@ -10,8 +11,8 @@ obeys-requires c κs = search needs
 held-requires : tie.Need-held-requires
 held-requires c κs = search needs
 
-full-requires : tie.Need-full-requires
-full-requires c κs = search needs
+refusal-requires : tie.Need-refusal-requires
+refusal-requires c κs = search needs
 
 first-requires : tie.Need-first-requires
 first-requires c κs = search needs
@@ -25,9 +26,9 @@ first-requires-3 c κs = search needs
 returns : tie.Need-returns
 returns c =
     let l = c .before .before .before in
-    let s = l .before .before .before .before in
-    change-own (s .args .g) (s .args .s) (s .args .page) (s .args .c) _ _ _ _ _ _ (l .before .before .obeys .ensures)
-    (l .before .held .ensures) (l .full .ensures)
+    let s = l .before .before .before .before .before in
+    change-own (s .args .g) (now (s .args .volume)) (s .args .s) (s .args .page) (s .args .c) _ _ _ _ _ _ (l .before .before .obeys .ensures)
+    (l .before .held .ensures) (l .refusal .ensures)
     (c .before .before .first .ensures) (c .before .first2 .ensures) (c .first3 .ensures)
 
 pub own-spec : {M : Type 1} → statement M
@@ -36,7 +37,7 @@ own-spec =
     (tie.spec
     obeys-requires
     held-requires
-    full-requires
+    refusal-requires
     first-requires
     first-requires-2
     first-requires-3

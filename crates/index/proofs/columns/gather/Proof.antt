@@ -1,11 +1,11 @@
 -- `index::columns::gather` meets its contract. The loop keeps: the rows made so far are those of the index whose columns these are.
 use mathlib.Core.Path.{_≡_, refl, sym, ap, _∙_}
-use mathlib.Core.List.{List}
+use mathlib.Core.List.{List, map}
 use Prim.Native.Nat.{ℕ, _-_, _≤_}
 use native.Mathlib.Omega.{arith}
 use borrow.Author.Needs.{needs}
 use lib.ListN.{length, take, length-set, length-replicate}
-use Rattle.model.specs.Index.{emptyEntry}
+use Rattle.model.specs.Index.{emptyEntry, settled}
 use Rattle.model.specs.declared.state.Entry.{Entry}
 use Rattle.index.specs.Columns.{Columns}
 use Rattle.index.proofs.ColumnLaws.{index-length, gathered-more, gathered-all}
@@ -17,7 +17,7 @@ use Rattle.index.proofs.columns.row.Reads as row-reads
 
 abbrev Inv-loop : tie.InvT-loop
 Inv-loop last written slots backup index₀ i₀ index i =
-    (i ≤ 64) × (length index ≡ 64) × ((x : List Entry) → Columns x last written slots backup → take i index ≡ take i x)
+    (i ≤ 64) × (length index ≡ 64) × ((x : List Entry) → Columns x last written slots backup → take i index ≡ take i (map settled x))
 
 abbrev μ-loop : tie.MeasureT-loop
 μ-loop last written slots backup index₀ i₀ index i = 64 - i

@@ -9,7 +9,7 @@ layout-requires : tie.Need-layout-requires
 layout-requires c κs = search needs
 
 returns : tie.Need-returns
-returns c = rw (c .before .before .layout .ensures)
+returns c = rw (c .before .layout .ensures)
 
 pub fits-spec : {M : Type 1} → statement M
 fits-spec = tie.close (tie.spec cast-own layout-requires returns)

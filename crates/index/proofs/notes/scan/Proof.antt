@@ -1,91 +1,91 @@
 -- `index::notes::scan` meets its contract. The loop keeps: the notes passed fit, and gave the columns.
 use mathlib.Core.Path.{_≡_, refl, sym, ap, _∙_}
-use mathlib.Core.Bool.{true}
 use mathlib.Core.List.{List}
-use mathlib.Core.Logic.{⊎-elim}
-use Prim.Native.Nat.{ℕ, suc, _+_, _-_, _≤_, _<_}
+use Prim.Native.Nat.{ℕ, _+_, _-_, _≤_, _<_}
 use native.Mathlib.Omega.{arith}
 use borrow.Author.Needs.{needs}
 use borrow.Author.Tests.{not-true, not-false}
 use denote.Ref.{now}
-use lib.ListN.{length, getD}
-use Rattle.model.specs.Checksum.{sealed}
-use Rattle.model.specs.Geometry.{noteAt, noteSlot, start, item}
-use Rattle.model.specs.Scan.{noteIndex, noteFits, restZero}
+use Rattle.laws.proofs.Tables.{true-not-false}
+use Rattle.model.specs.Scan.{noteIndex, noteFits}
 use Rattle.model.specs.declared.geometry.Geometry.{Geometry}
-use Rattle.index.specs.Columns.{Noted}
-use Rattle.index.specs.Section.{noteSection}
+use Rattle.index.specs.declared.section.Run.{Run}
 use Rattle.index.proofs.Entries.{row-below}
-use Rattle.index.proofs.ColumnLaws.{Long, blank-long, long-set}
-use Rattle.index.proofs.Pass.{Passed, run, passed-none, run-full, run-here, passed-more, unfit-breaks, rest-decides, never, section-broken, section-kept}
-use Rattle.index.proofs.NotePass.{noteItems, note-spaced, note-keeps, note-run, note-none, note-judged, note-enters}
+use Rattle.index.proofs.ColumnLaws.{Long, blank-long}
+use Rattle.index.proofs.Located.{note-fits, note-placed}
+use Rattle.index.proofs.NotePass.{Entered, entered-none, entered-more, run-low, run-some, note-judged, notes-break, notes-end, notes-columns}
 use Rattle.index.proofs.notes.scan.Statement.{statement}
 use Rattle.index.proofs.notes.scan.Tie as tie
+use Rattle.index.proofs.notes.scan.Reads as reads
+use Rattle.index.proofs.notes.scan.Lts as lts
+use Rattle.codec.proofs.checksum.holds.Reads as holds-reads
+use Rattle.index.proofs.columns.used.Reads as used-reads
+use Rattle.index.proofs.notes.agrees.Reads as agrees-reads
+use Rattle.index.proofs.notes.earlier.Reads as earlier-reads
+use Rattle.index.proofs.notes.fits.Reads as fits-reads
+use Rattle.index.proofs.notes.follows.Reads as follows-reads
+use Rattle.index.proofs.notes.locate.Reads as locate-reads
+use Rattle.index.proofs.rows.noted.Reads as noted-reads
+use Rattle.index.proofs.rows.row.Reads as row-reads
+use Rattle.index.proofs.section.ends.Reads as ends-reads
+use Rattle.index.proofs.section.nth.Reads as nth-reads
+use Rattle.index.proofs.section.span.Reads as span-reads
+use Rattle.item.proofs.note.read.Reads as read-reads
+use Rattle.volume.proofs.place.note.Reads as note-reads
 
 abbrev Inv-loop : tie.InvT-loop
-Inv-loop volume g durable written₀ slots₀ backup₀ notes pages count k₀ written slots backup k =
-    Passed volume (noteItems g volume) k × Noted (noteIndex g volume k) written slots backup × Long written slots backup
+Inv-loop volume g log run written₀ slots₀ backup₀ pages count first span i₀ written slots backup i =
+    (i ≤ span) × Entered g volume (run .first) i written slots backup
 
 abbrev μ-loop : tie.MeasureT-loop
-μ-loop volume g durable written₀ slots₀ backup₀ notes pages count k₀ written slots backup k = g .notes - k
+μ-loop volume g log run written₀ slots₀ backup₀ pages count first span i₀ written slots backup i = span - i
 
--- the loop's head, with the volume and its geometry, and the loop's test
 abbrev head : tie.After-fits2 Inv-loop μ-loop → tie.At-loop Inv-loop μ-loop
 head c = c .before .before .before .before .before .before .before .before .before .before .before .before .before .before .before .before .before
 
 abbrev vol : tie.At-loop Inv-loop μ-loop → List ℕ
-vol a = now (a .before .before .before .before .before .args .volume)
+vol a = now (a .before .before .before .before .before .before .args .volume)
 
 abbrev geo : tie.At-loop Inv-loop μ-loop → Geometry
-geo a = a .before .before .before .before .before .args .g
+geo a = a .before .before .before .before .before .before .args .g
 
 -- the row that is looked up is one of each column's
 row-at : (c : tie.After-row Inv-loop μ-loop) → c .row .result < 64
 row-at c = omega (arith, c .row .ensures, row-below (c .before .before .read .result .page))
 
--- the note has its checksum
-right : (c : tie.After-fits2 Inv-loop μ-loop) → sealed 12 (item (geo (head c)) (vol (head c)) (noteSlot (geo (head c)) (head c .loop .k + 1))) ≡ true
-right c = ap (sealed 12) (sym (c .before .before .before .before .before .before .before .before .before .before .before .before .before .before .before .note .ensures)) ∙ sym (c .before .before .before .before .before .before .before .before .before .before .before .before .before .before .holds .ensures) ∙ not-false _ (c .before .before .before .before .before .before .before .before .before .before .before .before .before .if1 .left)
-
--- and is judged
+-- the note is judged
 judged : (c : tie.After-fits2 Inv-loop μ-loop)
-    → c .fits2 .result ≡ noteFits (geo (head c)) (vol (head c)) (noteIndex (geo (head c)) (vol (head c)) (head c .loop .k)) (suc (head c .loop .k))
+    → let a = head c in let f = a .before .before .before .before .before .before .args .run .first in
+    c .fits2 .result ≡ noteFits (geo a) (vol a) (noteIndex (geo a) (vol a) f (a .loop .i)) (f + a .loop .i)
 judged c =
-    let h = head c .before .before .before .before .before .pre in
-    note-judged _ _ (h .0 .pages) _ (h .1 .0) _ _ _ _ (head c .loop .inv .1) _ (c .before .before .before .before .before .before .before .before .before .before .before .before .before .before .before .note .ensures) _ (c .before .before .before .before .before .before .before .before .before .before .before .before .read .ensures) _
-    (c .before .before .before .before .before .before .before .before .before .before .row .ensures) _ (c .before .before .before .before .before .before .earlier .ensures) _ _ _ _ (c .before .before .before .used .ensures) (c .before .before .follows .ensures) (c .before .page .ensures) (c .fits2 .ensures)
+    let a = head c in
+    let h = a .before .before .before .before .before .before .pre in
+    note-judged (geo a) (vol a) (h .0 .pages) _ _ _ _ _ (a .loop .inv .1 .same) _ (c .before .before .before .before .before .before .before .before .before .before .before .before .before .before .before .nth .ensures) _ (c .before .before .before .before .before .before .before .before .before .before .before .before .before .before .note .ensures) _ (c .before .before .before .before .before .before .before .before .before .before .before .before .before .read .ensures) _ (c .before .before .before .before .before .before .before .before .before .before .before .row .ensures) _ (c .before .before .before .before .before .before .before .earlier .ensures) _ _
+    (ap (λ (r : Run). r .count) (h .1 .0 .0)) (ap (λ (r : Run). r .first) (h .1 .0 .0)) _ _ _ _ _ (c .before .holds .ensures) (c .before .before .before .before .used .ensures) (c .before .before .before .follows .ensures) (c .before .before .agrees .ensures) (c .fits2 .ensures)
 
--- after the loop, its count is the run's
-ended : (c : tie.Left-loop Inv-loop μ-loop) → run (vol (c .before)) (noteItems (geo (c .before)) (vol (c .before))) ≡ c .before .loop .k
-ended c =
-    ⊎-elim (λ w. run-full _ _ _ (c .before .loop .inv .0) (w .left))
-    (λ w.
-    run-here _ _ _ (c .before .loop .inv .0) (note-spaced _ _) (w .0 .taken)
-    (ap (sealed 12) (sym (w .1 .ensures)) ∙ sym (w .2 .ensures) ∙ not-true _ (w .3 .taken)))
-    (c .loop-test .came)
-
-rest-is : (c : tie.After-rest Inv-loop μ-loop)
-    → let a = c .before .before .before in restZero 16 (geo a .notes) (vol a) (start (geo a) (noteAt 1)) (a .loop .k) ≡ c .rest .result
-rest-is c =
-    let a = c .before .before .before in
-    ap (λ (x : ℕ). restZero 16 (geo a .notes) (vol a) x (a .loop .k)) (sym (c .before .note-at .ensures)) ∙ sym (c .rest .ensures)
+-- the run is no longer than its last number
+few : (a : tie.At-loop Inv-loop μ-loop) → a .before .span .result ≤ 4294967295
+few a = omega (arith, a .before .span .ensures, run-low _ _ _ (a .before .before .before .before .before .before .pre .1 .0 .1))
 
 -- the columns keep their lengths
 entry-long : (a : tie.At-loop Inv-loop μ-loop)
-    → Long (now (a .before .before .before .before .before .args .written)) (now (a .before .before .before .before .before .args .slots)) (now (a .before .before .before .before .before .args .backup))
-entry-long a = blank-long _ _ _ (a .before .before .before .before .before .pre .1 .1)
+    → Long (now (a .before .before .before .before .before .before .args .written)) (now (a .before .before .before .before .before .before .args .slots)) (now (a .before .before .before .before .before .before .args .backup))
+entry-long a = blank-long _ _ _ (a .before .before .before .before .before .before .pre .1 .1)
+
+span-requires : tie.Need-span-requires Inv-loop μ-loop
+span-requires c κs = run-low _ _ _ (c .before .before .before .before .pre .1 .0 .1)
 
 loop-holds : tie.Need-loop-holds Inv-loop μ-loop
-loop-holds c = let h = c .before .before .before .before .pre in (passed-none _ _, note-none _ _ _ _ _ (h .1 .1), blank-long _ _ _ (h .1 .1))
+loop-holds c = (omega arith, entered-none _ _ _ _ _ _ (c .before .before .before .before .before .pre .1 .1))
 
-add-note : tie.Need-add-note Inv-loop μ-loop
-add-note c = search needs
+nth-requires : tie.Need-nth-requires Inv-loop μ-loop
+nth-requires c κs = omega (arith, c .loop-test .taken, c .before .before .span .ensures, run-low _ _ _ (c .before .before .before .before .before .before .before .pre .1 .0 .1))
 
 note-requires : tie.Need-note-requires Inv-loop μ-loop
-note-requires c κs = search needs
-
-holds-requires : tie.Need-holds-requires Inv-loop μ-loop
-holds-requires c κs = search needs
+note-requires c κs =
+    let s = c .before .before .before .before .before .before .before .before in
+    let m = run-some _ _ _ (s .pre .1 .0 .1) (c .before .before .loop .i) (omega (arith, c .before .loop-test .taken, c .before .before .before .span .ensures)) in
+    (m, note-fits _ _ (s .pre .0) m _)
 
 read-requires : tie.Need-read-requires Inv-loop μ-loop
 read-requires c κs = search needs
@@ -100,16 +100,16 @@ mul-earlier : tie.Need-mul-earlier Inv-loop μ-loop
 mul-earlier c = omega (arith, row-at c)
 
 slice-read-earlier : tie.Need-slice-read-earlier Inv-loop μ-loop
-slice-read-earlier c = omega (arith, row-at (c .before), c .before .before .before .before .before .before .before .before .loop .inv .2 .written-long)
+slice-read-earlier c = omega (arith, row-at (c .before), c .before .before .before .before .before .before .before .loop .inv .1 .long .written-long)
 
 slice-read-earlier-2 : tie.Need-slice-read-earlier-2 Inv-loop μ-loop
-slice-read-earlier-2 c = omega (arith, row-at (c .before .before), c .before .before .before .before .before .before .before .before .before .loop .inv .2 .slots-long)
+slice-read-earlier-2 c = omega (arith, row-at (c .before .before), c .before .before .before .before .before .before .before .before .loop .inv .1 .long .slots-long)
 
 mul-earlier-2 : tie.Need-mul-earlier-2 Inv-loop μ-loop
 mul-earlier-2 c = omega (arith, row-at (c .before .before))
 
 slice-read-earlier-3 : tie.Need-slice-read-earlier-3 Inv-loop μ-loop
-slice-read-earlier-3 c = omega (arith, row-at (c .before .before .before), c .before .before .before .before .before .before .before .before .before .before .loop .inv .2 .backup-long)
+slice-read-earlier-3 c = omega (arith, row-at (c .before .before .before), c .before .before .before .before .before .before .before .before .before .loop .inv .1 .long .backup-long)
 
 earlier-requires : tie.Need-earlier-requires Inv-loop μ-loop
 earlier-requires c κs = search needs
@@ -123,54 +123,51 @@ used-requires c κs = search needs
 follows-requires : tie.Need-follows-requires Inv-loop μ-loop
 follows-requires c κs = search needs
 
-add-fits : tie.Need-add-fits Inv-loop μ-loop
-add-fits c = omega (arith, c .before .before .before .before .before .before .before .before .before .before .before .before .before .before .loop-test .taken, c .before .before .before .before .before .before .before .before .before .before .before .before .before .before .before .before .before .before .before .before .pre .0 .notes)
+agrees-requires : tie.Need-agrees-requires Inv-loop μ-loop
+agrees-requires c κs = c .before .before .before .before .before .before .before .before .before .before .before .before .before .before .before .before .before .before .before .before .pre .0 .some
 
-page-requires : tie.Need-page-requires Inv-loop μ-loop
-page-requires c κs = search needs
+holds-requires : tie.Need-holds-requires Inv-loop μ-loop
+holds-requires c κs = search needs
 
 fits-requires : tie.Need-fits-requires Inv-loop μ-loop
 fits-requires c κs = search needs
 
-broken-requires : tie.Need-broken-requires Inv-loop μ-loop
-broken-requires c κs = search needs
-
 same-length : tie.Need-same-length Inv-loop μ-loop
-same-length c = let a = c .before .before .before .before .before .before .before .before .before .before .before .before .before .before .before .before .before .before .before in a .loop .inv .2 .written-long ∙ sym (entry-long a .written-long)
+same-length c = let a = c .before .before .before .before .before .before .before .before .before .before .before .before .before .before .before .before .before .before in a .loop .inv .1 .long .written-long ∙ sym (entry-long a .written-long)
 
 same-length-2 : tie.Need-same-length-2 Inv-loop μ-loop
-same-length-2 c = let a = c .before .before .before .before .before .before .before .before .before .before .before .before .before .before .before .before .before .before .before in a .loop .inv .2 .slots-long ∙ sym (entry-long a .slots-long)
+same-length-2 c = let a = c .before .before .before .before .before .before .before .before .before .before .before .before .before .before .before .before .before .before in a .loop .inv .1 .long .slots-long ∙ sym (entry-long a .slots-long)
 
 same-length-3 : tie.Need-same-length-3 Inv-loop μ-loop
-same-length-3 c = let a = c .before .before .before .before .before .before .before .before .before .before .before .before .before .before .before .before .before .before .before in a .loop .inv .2 .backup-long ∙ sym (entry-long a .backup-long)
+same-length-3 c = let a = c .before .before .before .before .before .before .before .before .before .before .before .before .before .before .before .before .before .before in a .loop .inv .1 .long .backup-long ∙ sym (entry-long a .backup-long)
 
 returns : tie.Need-returns Inv-loop μ-loop
-unfolding noteSection
 returns c =
-    let f = c .before .before in
-    let k = unfit-breaks _ _ _ (head f .loop .inv .0) (note-spaced _ _) (f .before .before .before .before .before .before .before .before .before .before .before .before .before .before .before .before .loop-test .taken) (right f) _ (judged f) (not-true _ (c .before .if2 .taken)) in
-    (c .broken .ensures ∙ section-broken _ _ (sym (note-keeps _ _) ∙ k), never _ (c .broken .ensures))
+    let f = c .before in
+    let a = head f in
+    let k = notes-break _ _ _ (a .before .before .before .before .before .before .pre .1 .0 .1) _ (omega (arith, c .before .before .before .before .before .before .before .before .before .before .before .before .before .before .before .before .before .loop-test .taken, a .before .span .ensures)) (sym (judged f) ∙ not-true _ (c .if1 .taken)) in
+    (sym k, λ t. absurd (true-not-false t refl))
 
 noted-requires : tie.Need-noted-requires Inv-loop μ-loop
 noted-requires c κs = search needs
 
 mul-written : tie.Need-mul-written Inv-loop μ-loop
-mul-written c = omega (arith, row-at (c .before .before .before .before .before .before .before .before .before .before .before .before))
+mul-written c = omega (arith, row-at (c .before .before .before .before .before .before .before .before .before .before .before .before .before))
 
 slice-write-written : tie.Need-slice-write-written Inv-loop μ-loop
-slice-write-written c = omega (arith, row-at (c .before .before .before .before .before .before .before .before .before .before .before .before), c .before .before .before .before .before .before .before .before .before .before .before .before .before .before .before .before .before .before .before .loop .inv .2 .written-long)
+slice-write-written c = omega (arith, row-at (c .before .before .before .before .before .before .before .before .before .before .before .before .before), c .before .before .before .before .before .before .before .before .before .before .before .before .before .before .before .before .before .before .before .loop .inv .1 .long .written-long)
 
 slice-write-slots : tie.Need-slice-write-slots Inv-loop μ-loop
-slice-write-slots c = omega (arith, row-at (c .before .before .before .before .before .before .before .before .before .before .before .before), c .before .before .before .before .before .before .before .before .before .before .before .before .before .before .before .before .before .before .before .loop .inv .2 .slots-long)
+slice-write-slots c = omega (arith, row-at (c .before .before .before .before .before .before .before .before .before .before .before .before .before), c .before .before .before .before .before .before .before .before .before .before .before .before .before .before .before .before .before .before .before .loop .inv .1 .long .slots-long)
 
 mul-backup : tie.Need-mul-backup Inv-loop μ-loop
-mul-backup c = omega (arith, row-at (c .before .before .before .before .before .before .before .before .before .before .before .before))
+mul-backup c = omega (arith, row-at (c .before .before .before .before .before .before .before .before .before .before .before .before .before))
 
 slice-write-backup : tie.Need-slice-write-backup Inv-loop μ-loop
-slice-write-backup c = omega (arith, row-at (c .before .before .before .before .before .before .before .before .before .before .before .before), c .before .before .before .before .before .before .before .before .before .before .before .before .before .before .before .before .before .before .before .loop .inv .2 .backup-long)
+slice-write-backup c = omega (arith, row-at (c .before .before .before .before .before .before .before .before .before .before .before .before .before), c .before .before .before .before .before .before .before .before .before .before .before .before .before .before .before .before .before .before .before .loop .inv .1 .long .backup-long)
 
-add-k : tie.Need-add-k Inv-loop μ-loop
-add-k c = omega (arith, c .before .before .before .before .before .before .before .before .before .before .before .before .before .before .before .before .before .before .loop-test .taken, c .before .before .before .before .before .before .before .before .before .before .before .before .before .before .before .before .before .before .before .before .before .before .before .before .pre .0 .notes)
+add-i : tie.Need-add-i Inv-loop μ-loop
+add-i c = omega (arith, c .before .before .before .before .before .before .before .before .before .before .before .before .before .before .before .before .before .before .loop-test .taken, few (c .before .before .before .before .before .before .before .before .before .before .before .before .before .before .before .before .before .before .before))
 
 loop-less : tie.Need-loop-less Inv-loop μ-loop
 loop-less c = omega (arith, c .before .before .before .before .before .before .before .before .before .before .before .before .before .before .before .before .before .before .loop-test .taken)
@@ -178,59 +175,36 @@ loop-less c = omega (arith, c .before .before .before .before .before .before .b
 loop-again : tie.Need-loop-again Inv-loop μ-loop
 loop-again c =
     let f = c .before .before in
-    let l = head f in
-    let h = l .before .before .before .before .before .pre in
-    let ok = not-false _ (c .before .if2 .left) in (
-      passed-more _ _ _ (l .loop .inv .0) (note-spaced _ _) (f .before .before .before .before .before .before .before .before .before .before .before .before .before .before .before .before .loop-test .taken) (right f) _ (judged f) ok,
-      note-enters _ _ (h .0 .pages) _ (h .1 .0) _ _ _ _ (l .loop .inv .1) _ (f .before .before .before .before .before .before .before .before .before .before .before .before .before .before .before .note .ensures) _ (f .before .before .before .before .before .before .before .before .before .before .before .before .read .ensures) _
-          (f .before .before .before .before .before .before .before .before .before .before .row .ensures) _ (f .before .before .before .before .before .before .earlier .ensures) _ _ _ _ (f .before .before .before .used .ensures) (f .before .before .follows .ensures) (f .before .page .ensures) (f .fits2 .ensures) ok _ (c .noted .ensures),
-      long-set _ _ _ (l .loop .inv .2) _ _ _ _,
+    let a = head f in
+    let h = a .before .before .before .before .before .before .pre in (
+      omega (arith, c .before .before .before .before .before .before .before .before .before .before .before .before .before .before .before .before .before .before .loop-test .taken),
+      entered-more (geo a) (vol a) (h .0 .pages) _ _ _ _ _ (a .loop .inv .1 .same) _ (c .before .before .before .before .before .before .before .before .before .before .before .before .before .before .before .before .before .nth .ensures) _ (c .before .before .before .before .before .before .before .before .before .before .before .before .before .before .before .before .note .ensures) _ (c .before .before .before .before .before .before .before .before .before .before .before .before .before .before .before .read .ensures) _ (c .before .before .before .before .before .before .before .before .before .before .before .before .before .row .ensures) _ (c .before .before .before .before .before .before .before .before .before .earlier .ensures) _ _
+          (ap (λ (r : Run). r .count) (h .1 .0 .0)) (ap (λ (r : Run). r .first) (h .1 .0 .0)) _ _ _ _ _ (c .before .before .before .holds .ensures) (c .before .before .before .before .before .before .used .ensures) (c .before .before .before .before .before .follows .ensures) (c .before .before .before .before .agrees .ensures) (f .fits2 .ensures)
+          (a .loop .inv .1) (not-false _ (c .before .if1 .left)) _ (c .noted .ensures),
     )
 
-note-at-requires : tie.Need-note-at-requires Inv-loop μ-loop
-note-at-requires c κs = search needs
+locate-requires : tie.Need-locate-requires Inv-loop μ-loop
+locate-requires c κs = search needs
 
-cast-rest : tie.Need-cast-rest Inv-loop μ-loop
-cast-rest c = search needs
-
-cast-rest-2 : tie.Need-cast-rest-2 Inv-loop μ-loop
-cast-rest-2 c = search needs
-
-rest-requires : tie.Need-rest-requires Inv-loop μ-loop
-rest-requires c κs = search needs
-
-broken-requires-2 : tie.Need-broken-requires-2 Inv-loop μ-loop
-broken-requires-2 c κs = search needs
+ends-requires : tie.Need-ends-requires Inv-loop μ-loop
+ends-requires c κs = rw (c .locate .ensures) (note-placed _ _ (c .before .before .before .before .before .before .before .before .pre .0))
 
 same-length-4 : tie.Need-same-length-4 Inv-loop μ-loop
-same-length-4 c = let a = c .before .before .before .before .before in a .loop .inv .2 .written-long ∙ sym (entry-long a .written-long)
+same-length-4 c = let a = c .before .before .before in a .loop .inv .1 .long .written-long ∙ sym (entry-long a .written-long)
 
 same-length-5 : tie.Need-same-length-5 Inv-loop μ-loop
-same-length-5 c = let a = c .before .before .before .before .before in a .loop .inv .2 .slots-long ∙ sym (entry-long a .slots-long)
+same-length-5 c = let a = c .before .before .before in a .loop .inv .1 .long .slots-long ∙ sym (entry-long a .slots-long)
 
 same-length-6 : tie.Need-same-length-6 Inv-loop μ-loop
-same-length-6 c = let a = c .before .before .before .before .before in a .loop .inv .2 .backup-long ∙ sym (entry-long a .backup-long)
+same-length-6 c = let a = c .before .before .before in a .loop .inv .1 .long .backup-long ∙ sym (entry-long a .backup-long)
 
 returns-2 : tie.Need-returns-2 Inv-loop μ-loop
-unfolding noteSection
 returns-2 c =
-    let k = rest-decides _ _ _ (c .before .before .before .before .before .loop .inv .0) (ended (c .before .before .before .before)) _ (rest-is (c .before .before)) in
-    (c .broken2 .ensures ∙ section-broken _ _ (sym (note-keeps _ _) ∙ k ∙ not-true _ (c .before .if3 .taken)), never _ (c .broken2 .ensures))
-
-same-length-7 : tie.Need-same-length-7 Inv-loop μ-loop
-same-length-7 c = let a = c .before .before .before .before in a .loop .inv .2 .written-long ∙ sym (entry-long a .written-long)
-
-same-length-8 : tie.Need-same-length-8 Inv-loop μ-loop
-same-length-8 c = let a = c .before .before .before .before in a .loop .inv .2 .slots-long ∙ sym (entry-long a .slots-long)
-
-same-length-9 : tie.Need-same-length-9 Inv-loop μ-loop
-same-length-9 c = let a = c .before .before .before .before in a .loop .inv .2 .backup-long ∙ sym (entry-long a .backup-long)
-
-returns-3 : tie.Need-returns-3 Inv-loop μ-loop
-unfolding noteSection
-returns-3 c =
-    let k = rest-decides _ _ _ (c .before .before .before .before .loop .inv .0) (ended (c .before .before .before)) _ (rest-is (c .before)) in
-    (section-kept _ _ (sym (note-keeps _ _) ∙ k ∙ not-false _ (c .if3 .left)) _ (sym (note-run _ _) ∙ ended (c .before .before .before)), λ t. c .before .before .before .before .loop .inv .1)
+    let a = c .before .before .before in
+    let h = a .before .before .before .before .before .before .pre .1 .0 .1 in
+    let e : a .loop .i ≡ a .before .span .result = omega (arith, a .loop .inv .0, c .before .before .loop-test .left) in
+    let q = e ∙ a .before .span .ensures in
+    (notes-end _ _ _ h _ _ _ _ (a .loop .inv .1) q _ (c .before .locate .ensures) _ (c .ends .ensures), λ t. notes-columns _ _ _ h _ _ _ _ (a .loop .inv .1) q)
 
 pub scan-spec : {M : Type 1} → statement M
 scan-spec =
@@ -238,10 +212,10 @@ scan-spec =
     (tie.spec
     Inv-loop
     μ-loop
+    span-requires
     loop-holds
-    add-note
+    nth-requires
     note-requires
-    holds-requires
     read-requires
     cast-row
     row-requires
@@ -254,10 +228,9 @@ scan-spec =
     cast-used
     used-requires
     follows-requires
-    add-fits
-    page-requires
+    agrees-requires
+    holds-requires
     fits-requires
-    broken-requires
     same-length
     same-length-2
     same-length-3
@@ -268,19 +241,12 @@ scan-spec =
     slice-write-slots
     mul-backup
     slice-write-backup
-    add-k
+    add-i
     loop-less
     loop-again
-    note-at-requires
-    cast-rest
-    cast-rest-2
-    rest-requires
-    broken-requires-2
+    locate-requires
+    ends-requires
     same-length-4
     same-length-5
     same-length-6
-    returns-2
-    same-length-7
-    same-length-8
-    same-length-9
-    returns-3)
+    returns-2)

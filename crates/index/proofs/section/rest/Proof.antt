@@ -1,7 +1,7 @@
 use mathlib.Core.Path.{_≡_, sym, _∙_}
 use native.Mathlib.Omega.{arith}
 use denote.Ref.{now}
-use Rattle.index.proofs.Pass.{rest-fits, rest-part, rest-none}
+use Rattle.index.proofs.Sections.{rest-fits, rest-part, rest-none}
 use borrow.Author.Needs.{needs}
 use Rattle.index.proofs.section.rest.Statement.{statement}
 use Rattle.index.proofs.section.rest.Tie as tie

@@ -1,4 +1,5 @@
 -- `persist::backup::own` meets its contract.
+use denote.Ref.{now}
 use Rattle.persist.proofs.Rows.{backup-own}
 use borrow.Author.Needs.{needs}
 use Rattle.persist.proofs.backup.own.Statement.{statement}
@@ -26,8 +27,8 @@ returns : tie.Need-returns
 returns c =
     let r = c .before .before .before in
     let u = r .before .before in
-    let a = u .before .before .before .before .args in
-    backup-own (a .g) (a .s) (a .page) (a .f) (a .lsn) (a .slot) _ _ _ _ _ _ (u .used .ensures) (r .before .first .ensures)
+    let a = u .before .before .before .before .before .args in
+    backup-own (a .g) (now (a .volume)) (a .s) (a .page) (a .f) (a .lsn) (a .slot) _ _ _ _ _ _ (u .used .ensures) (r .before .first .ensures)
     (r .refusal .ensures)
     (c .before .before .first2 .ensures) (c .before .first3 .ensures) (c .first4 .ensures)
 

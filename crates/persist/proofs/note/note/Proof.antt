@@ -59,10 +59,10 @@ add-number : tie.Need-add-number
 add-number c = omega (arith, known (c .before) .notes)
 
 note-slot-requires : tie.Need-note-slot-requires
-note-slot-requires c κs = search needs
+note-slot-requires c κs = known (c .before) .slots
 
 add-end : tie.Need-add-end
-add-end c = search needs
+add-end c = omega (arith, known (c .before .before) .place, c .note-slot .ensures)
 
 sub-slot : tie.Need-sub-slot
 sub-slot c = search needs

@@ -1,11 +1,21 @@
 -- `persist::noting::refusal` meets its contract.
-use Rattle.persist.proofs.Rows.{note-own}
+use denote.Ref.{now}
+use borrow.Author.Tests.{not-true, not-false}
+use Rattle.persist.proofs.Rows.{note-clean, note-own}
 use borrow.Author.Needs.{needs}
 use Rattle.persist.proofs.noting.refusal.Statement.{statement}
 use Rattle.persist.proofs.noting.refusal.Tie as tie
 
+returns : tie.Need-returns
+returns c =
+    let a = c .before .before .args in
+    note-clean (a .g) (now (a .volume)) (a .s) (a .t) (a .lsn) (a .rest) (not-true _ (c .if1 .taken))
+
 present-requires : tie.Need-present-requires
 present-requires c κs = search needs
+
+full-requires : tie.Need-full-requires
+full-requires c κs = search needs
 
 first-requires : tie.Need-first-requires
 first-requires c κs = search needs
@@ -16,13 +26,22 @@ first-requires-2 c κs = search needs
 first-requires-3 : tie.Need-first-requires-3
 first-requires-3 c κs = search needs
 
-returns : tie.Need-returns
-returns c =
-    let p = c .before .before .before .before .before .before in
-    let a = p .before .args in
-    note-own (a .g) (a .s) (a .t) _ (a .lsn) (a .rest) _ _ _ (p .present .ensures) (c .before .before .first .ensures)
-    (c .before .first2 .ensures) (c .first3 .ensures)
+returns-2 : tie.Need-returns-2
+returns-2 c =
+    let f = c .before .before .before .before in
+    let i = f .before .before in
+    let a = i .before .before .args in
+    note-own (a .g) (now (a .volume)) (a .s) (a .t) (a .lsn) (a .rest) _ _ _ _ _ (not-false _ (i .if1 .left)) (f .before .present .ensures)
+    (f .full .ensures) (c .before .before .first .ensures) (c .before .first2 .ensures) (c .first3 .ensures)
 
 pub refusal-spec : {M : Type 1} → statement M
 refusal-spec =
-    tie.close (tie.spec present-requires first-requires first-requires-2 first-requires-3 returns)
+    tie.close
+    (tie.spec
+    returns
+    present-requires
+    full-requires
+    first-requires
+    first-requires-2
+    first-requires-3
+    returns-2)

@@ -1,4 +1,5 @@
 -- `persist::write::own` meets its contract.
+use denote.Ref.{now}
 use Rattle.persist.proofs.Rows.{write-own}
 use borrow.Author.Needs.{needs}
 use Rattle.persist.proofs.write.own.Statement.{statement}
@@ -19,8 +20,8 @@ first-requires-2 c κs = search needs
 returns : tie.Need-returns
 returns c =
     let r = c .before .before in
-    let a = r .before .before .before .args in
-    write-own (a .g) (a .s) (a .page) (a .f) (a .lsn) _ _ _ _ (r .before .frame .ensures) (r .refusal .ensures) (c .before .first .ensures)
+    let a = r .before .before .before .before .args in
+    write-own (a .g) (now (a .volume)) (a .s) (a .page) (a .f) (a .lsn) _ _ _ _ (r .before .frame .ensures) (r .refusal .ensures) (c .before .first .ensures)
     (c .first2 .ensures)
 
 pub own-spec : {M : Type 1} → statement M

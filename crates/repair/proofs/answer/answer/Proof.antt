@@ -13,7 +13,7 @@ use Rattle.repair.proofs.answer.start.Reads as start-reads
 use Rattle.volume.proofs.place.page.Reads as page-reads
 
 page-requires : tie.Need-page-requires
-page-requires c κs = page-fits _ _ _ _ (c .before .pre .0)
+page-requires c κs = page-fits _ _ _ _ _ (c .before .pre .0)
 
 valid-requires : tie.Need-valid-requires
 valid-requires c κs = search needs
@@ -30,7 +30,7 @@ start-requires c κs = search needs
 returns : tie.Need-returns
 returns c =
     let b = c .before .before .before .before .before .before in
-    answered _ _ (b .args .e) _ (b .args .w) (b .pre .1) _ _ _ _ _ (c .before .before .before .before .page .ensures) (c .before .before .before .valid .ensures) (c .before .before .lsn .ensures)
+    answered _ _ (b .args .first) (b .args .e) _ (b .args .w) (b .pre .1) _ _ _ _ _ (c .before .before .before .before .page .ensures) (c .before .before .before .valid .ensures) (c .before .before .lsn .ensures)
     (c .before .class .ensures) (c .start .ensures)
 
 pub answer-spec : {M : Type 1} → statement M

@@ -10,7 +10,7 @@ use Rattle.model.specs.declared.state.Entry.{Entry}
 use Rattle.repair.specs.Walked.{logOf}
 use Rattle.repair.proofs.Links.{Linked}
 use Rattle.repair.proofs.Replays.{Replaying, replaying-start, replaying-on, replayed, in-array, chain-linked}
-use Rattle.repair.proofs.Starts.{record-fits, record-length}
+use Rattle.repair.proofs.Starts.{sized, record-fits, record-length}
 use Rattle.repair.proofs.rebuild.apply.Statement.{statement}
 use Rattle.repair.proofs.rebuild.apply.Tie as tie
 use Rattle.repair.proofs.rebuild.apply.Reads as reads
@@ -19,14 +19,14 @@ use Rattle.item.proofs.record.replay.Reads as replay-reads
 use Rattle.volume.proofs.place.record.Reads as record-reads
 
 abbrev Inv-loop : tie.InvT-loop
-Inv-loop volume g page lsns count body₀ i₀ body i = Replaying (logOf g volume) count lsns body₀ body i
+Inv-loop volume g first page lsns count body₀ i₀ body i = Replaying (logOf g volume) count lsns body₀ body i
 
 abbrev μ-loop : tie.MeasureT-loop
-μ-loop volume g page lsns count body₀ i₀ body i = i
+μ-loop volume g first page lsns count body₀ i₀ body i = i
 
 -- every number of the chain is that of a record that the walk read
-linked : (v : List ℕ) (g : Geometry) (e : Entry) (page : ℕ) (l : List ℕ) → l ≡ walkOf g page (viewOf g v e page) .chain → Linked (logOf g v) page (e .durable) l
-linked v g e page l h = subst (Linked (logOf g v) page (e .durable)) (sym h) (chain-linked g page (viewOf g v e page))
+linked : (v : List ℕ) (g : Geometry) (f : ℕ) (e : Entry) (page : ℕ) (l : List ℕ) → l ≡ walkOf g page (viewOf g v f e page) .chain → Linked (logOf g v) page (e .durable) l
+linked v g f e page l h = subst (Linked (logOf g v) page (e .durable)) (sym h) (chain-linked g page (viewOf g v f e page))
 
 loop-holds : tie.Need-loop-holds Inv-loop μ-loop
 loop-holds c = let h = c .before .before .before .pre in replaying-start _ _ _ _ (h .1 .1 .0) (h .1 .1 .1)
@@ -44,17 +44,16 @@ record-requires : tie.Need-record-requires Inv-loop μ-loop
 record-requires c κs =
     let b = c .before .before .before .before .before .before in
     let h = b .pre in
-    let k = replayed _ _ _ _ _ (c .before .before .loop .i) (omega (arith, c .before .loop-test .taken)) (c .before .before .loop .inv) _ _ (linked _ _ (b .args .e) _ _ (h .1 .0)) in
-    record-fits _ _ (h .0 .valid) (h .0 .geometry) _ (k .low) (omega (arith, k .high, h .0 .durable))
+    (sized _ _ (h .0 .valid) (h .0 .geometry) .some, record-fits _ _ (h .0 .valid) (h .0 .geometry) _)
 
 replay-requires : tie.Need-replay-requires Inv-loop μ-loop
 replay-requires c κs =
     let b = c .before .before .before .before .before .before .before .before in
     let h = b .pre in
     let l = c .before .before .before .before .loop in
-    let k = replayed _ _ _ _ _ (l .i) (omega (arith, c .before .before .before .loop-test .taken)) (l .inv) _ _ (linked _ _ (b .args .e) _ _ (h .1 .0)) in
+    let k = replayed _ _ _ _ _ (l .i) (omega (arith, c .before .before .before .loop-test .taken)) (l .inv) _ _ (linked _ _ (b .args .first) (b .args .e) _ _ (h .1 .0)) in
     rw (c .before .«record» .ensures)
-    (record-length _ _ (h .0 .valid) (h .0 .geometry) _ (k .low) (omega (arith, k .high, h .0 .durable)), k .layout, l .inv .size)
+    (record-length _ _ (h .0 .valid) (h .0 .geometry) _, k .layout, l .inv .size)
 
 loop-less : tie.Need-loop-less Inv-loop μ-loop
 loop-less c = let t = c .before .before .before .before .before .before .loop-test .taken in omega (arith, t)

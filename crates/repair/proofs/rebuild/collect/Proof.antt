@@ -19,7 +19,7 @@ abbrev μ-loop : tie.MeasureT-loop
 μ-loop volume g top count lsns₀ end n₀ i₀ lsns n i = end - i
 
 loop-holds : tie.Need-loop-holds Inv-loop μ-loop
-loop-holds c = (collected-none _ _ _ _ (c .before .before .pre), refl)
+loop-holds c = (collected-none _ _ _ _ (c .before .before .pre .1), refl)
 
 mul-lsns : tie.Need-mul-lsns Inv-loop μ-loop
 mul-lsns c = let h = c .before .loop .inv .0 .room in search needs

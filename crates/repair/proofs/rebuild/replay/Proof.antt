@@ -19,18 +19,18 @@ use Rattle.repair.proofs.rebuild.replay.Lts as lts
 use Rattle.repair.proofs.rebuild.apply.Reads as apply-reads
 use Rattle.repair.proofs.rebuild.collect.Reads as collect-reads
 
-module _ (v : List ℕ) (g : Geometry) (e : Entry) (page count : ℕ) (h : Ready v g e page) (k : count ≡ length (walkOf g page (viewOf g v e page) .chain)) where
+module _ (v : List ℕ) (g : Geometry) (f : ℕ) (e : Entry) (page count : ℕ) (h : Ready v g f e page) (k : count ≡ length (walkOf g page (viewOf g v f e page) .chain)) where
   few : count ≤ 1024
-  few = omega (arith, k, chain-most g page (viewOf g v e page), h .durable, ready-sized v g e page h .records)
+  few = omega (arith, k, chain-most g page (viewOf g v f e page) (h .durable), ready-sized v g f e page h .records)
 
-  collected : (lsns : List ℕ) → take count lsns ≡ chainFrom count (logOf g v) (e .durable) → take count lsns ≡ walkOf g page (viewOf g v e page) .chain
-  collected lsns t = t ∙ ap (λ (n : ℕ). chainFrom n (logOf g v) (e .durable)) k ∙ sym (chain-is g page (viewOf g v e page))
+  collected : (lsns : List ℕ) → take count lsns ≡ chainFrom count (logOf g v) (e .durable) → take count lsns ≡ walkOf g page (viewOf g v f e page) .chain
+  collected lsns t = t ∙ ap (λ (n : ℕ). chainFrom n (logOf g v) (e .durable)) k ∙ sym (chain-is g page (viewOf g v f e page))
 
 slice-aggregate-collect : tie.Need-slice-aggregate-collect
 slice-aggregate-collect c = search needs
 
 collect-requires : tie.Need-collect-requires
-collect-requires c κs = let b = c .before .before .before in few _ _ (b .args .e) _ _ (b .pre .0) (b .pre .1 .0)
+collect-requires c κs = let b = c .before .before .before in (ready-sized _ _ _ _ _ (b .pre .0) .some, few _ _ (b .args .first) (b .args .e) _ _ (b .pre .0) (b .pre .1 .0))
 
 slice-aggregate-apply : tie.Need-slice-aggregate-apply
 slice-aggregate-apply c = search needs
@@ -38,8 +38,8 @@ slice-aggregate-apply c = search needs
 apply-requires : tie.Need-apply-requires
 apply-requires c κs =
     let b = c .before .before .before .before .before .before .before in
-    let f = few _ _ (b .args .e) _ _ (b .pre .0) (b .pre .1 .0) in
-    (b .pre .0, (collected _ _ (b .args .e) _ _ (b .pre .0) (b .pre .1 .0) _ (c .before .before .before .collect .ensures), (search needs, b .pre .1 .1)))
+    let f = few _ _ (b .args .first) (b .args .e) _ _ (b .pre .0) (b .pre .1 .0) in
+    (b .pre .0, (collected _ _ (b .args .first) (b .args .e) _ _ (b .pre .0) (b .pre .1 .0) _ (c .before .before .before .collect .ensures), (search needs, b .pre .1 .1)))
 
 same-length : tie.Need-same-length
 same-length c = search needs
@@ -49,7 +49,7 @@ returns c =
     let b = c .before .before .before .before .before .before .before .before .before .before in
     c .before .before .apply .ensures
     ∙ ap (λ (l : List ℕ). replayChain (logOf (b .args .g) (now (b .args .volume))) l (now (b .args .body)))
-    (collected _ _ (b .args .e) _ _ (b .pre .0) (b .pre .1 .0) _ (c .before .before .before .before .before .before .collect .ensures))
+    (collected _ _ (b .args .first) (b .args .e) _ _ (b .pre .0) (b .pre .1 .0) _ (c .before .before .before .before .before .before .collect .ensures))
 
 pub replay-spec : {M : Type 1} → statement M
 replay-spec =

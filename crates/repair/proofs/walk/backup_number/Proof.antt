@@ -13,10 +13,10 @@ cast-slot : tie.Need-cast-slot
 cast-slot c = search needs
 
 returns : tie.Need-returns
-returns c = slot-none _ _ (c .before .before .before .args .e) _ (c .if1 .taken)
+returns c = slot-none _ _ (c .before .before .before .args .first) (c .before .before .before .args .e) _ (c .if1 .taken)
 
 slot-requires : tie.Need-slot-requires
-slot-requires c κs = slot-fits _ _ _ _ (c .before .before .before .pre) (c .if1 .left)
+slot-requires c κs = slot-fits _ _ _ _ _ (c .before .before .before .pre) (c .if1 .left)
 
 valid-requires : tie.Need-valid-requires
 valid-requires c κs = search needs
@@ -26,12 +26,12 @@ lsn-requires c κs = search needs
 
 returns-2 : tie.Need-returns-2
 returns-2 c =
-    backup-valid _ _ (c .before .before .before .before .before .before .before .before .args .e) _ (c .before .before .before .before .before .if1 .left) _ (c .before .before .before .before .slot .ensures)
+    backup-valid _ _ (c .before .before .before .before .before .before .before .before .args .first) (c .before .before .before .before .before .before .before .before .args .e) _ (c .before .before .before .before .before .if1 .left) _ (c .before .before .before .before .slot .ensures)
     _ (c .before .before .before .valid .ensures) _ (c .before .before .lsn .ensures) (c .if2 .taken)
 
 returns-3 : tie.Need-returns-3
 returns-3 c =
-    backup-none _ _ (c .before .before .before .before .before .before .before .before .args .e) _ (c .before .before .before .before .before .if1 .left) _ (c .before .before .before .before .slot .ensures)
+    backup-none _ _ (c .before .before .before .before .before .before .before .before .args .first) (c .before .before .before .before .before .before .before .before .args .e) _ (c .before .before .before .before .before .if1 .left) _ (c .before .before .before .before .slot .ensures)
     _ (c .before .before .before .valid .ensures) _ (c .before .before .lsn .ensures) (c .if2 .left)
 
 pub backup-number-spec : {M : Type 1} → statement M

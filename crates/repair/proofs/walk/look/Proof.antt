@@ -1,9 +1,11 @@
 -- `repair::walk::look` meets its contract: one law of Links for each answer.
+use mathlib.Core.Path.{ap}
 use borrow.Author.Needs.{needs}
+use lib.ListN.{length}
 use native.Mathlib.Omega.{arith}
 use borrow.Author.Tests.{not-true, not-false}
-use Rattle.repair.proofs.Links.{step-none, step-own, step-copy, step-broken, step-read}
-use Rattle.repair.proofs.Starts.{positive, record-fits, record-length}
+use Rattle.repair.proofs.Links.{step-none, step-own, step-copy, step-below, step-broken, step-read}
+use Rattle.repair.proofs.Starts.{sized, record-fits, record-length}
 use Rattle.repair.proofs.walk.look.Statement.{statement}
 use Rattle.repair.proofs.walk.look.Tie as tie
 use Rattle.repair.proofs.walk.look.Reads as reads
@@ -13,39 +15,40 @@ use Rattle.repair.proofs.walk.readable.Reads as readable-reads
 use Rattle.volume.proofs.place.record.Reads as record-reads
 
 returns : tie.Need-returns
-returns c = step-none _ _ _ _ _ (c .if1 .taken)
+returns c = step-none _ _ _ _ _ _ (c .if1 .taken)
 
 returns-2 : tie.Need-returns-2
-returns-2 c = step-own _ _ _ _ _ (c .before .if1 .left) (c .if2 .taken)
+returns-2 c = step-own _ _ _ _ _ _ (c .before .if1 .left) (c .if2 .taken)
 
 returns-3 : tie.Need-returns-3
-returns-3 c = step-copy _ _ _ _ _ (c .before .before .if1 .left) (c .before .if2 .left) (c .if3 .taken)
+returns-3 c = step-copy _ _ _ _ _ _ (c .before .before .if1 .left) (c .before .if2 .left) (c .if3 .taken)
+
+returns-4 : tie.Need-returns-4
+returns-4 c = step-below _ _ _ _ _ _ (c .before .before .before .if1 .left) (c .before .before .if2 .left) (c .before .if3 .left) (c .if4 .taken)
 
 record-requires : tie.Need-record-requires
 record-requires c κs =
-    let h = c .before .before .before .before .pre in
-    let n = c .before .before .if1 .left in
-    record-fits _ _ (h .0) (h .1) _ (positive _ n) (h .2)
+    let h = c .before .before .before .before .before .pre in
+    (sized _ _ (h .0) (h .1) .some, record-fits _ _ (h .0) (h .1) _)
 
 readable-requires : tie.Need-readable-requires
 readable-requires c κs =
-    let h = c .before .before .before .before .before .pre in
-    let n = c .before .before .before .if1 .left in
-    rw (c .«record» .ensures) (omega (arith, record-length _ _ (h .0) (h .1) _ (positive _ n) (h .2)))
+    let h = c .before .before .before .before .before .before .pre in
+    omega (arith, ap length (c .«record» .ensures), record-length _ _ (h .0) (h .1) (c .before .before .before .before .before .before .args .n))
 
-returns-4 : tie.Need-returns-4
-returns-4 c =
-    step-broken _ _ _ _ _ (c .before .before .before .before .before .if1 .left) (c .before .before .before .before .if2 .left)
-    (c .before .before .before .if3 .left) _ (c .before .before .«record» .ensures) _ (c .before .readable .ensures) (not-true _ (c .if4 .taken))
+returns-5 : tie.Need-returns-5
+returns-5 c =
+    step-broken _ _ _ _ _ _ (c .before .before .before .before .before .before .if1 .left) (c .before .before .before .before .before .if2 .left)
+    (c .before .before .before .before .if3 .left) (c .before .before .before .if4 .left) _ (c .before .before .«record» .ensures) _ (c .before .readable .ensures) (not-true _ (c .if5 .taken))
 
 read-requires : tie.Need-read-requires
 read-requires c κs = search needs
 
-returns-5 : tie.Need-returns-5
-returns-5 c =
-    step-read _ _ _ _ _ (c .before .before .before .before .before .before .before .if1 .left) (c .before .before .before .before .before .before .if2 .left)
-    (c .before .before .before .before .before .if3 .left) _ (c .before .before .before .before .«record» .ensures) _ (c .before .before .before .readable .ensures)
-    _ (c .before .read .ensures) (not-false _ (c .before .before .if4 .left))
+returns-6 : tie.Need-returns-6
+returns-6 c =
+    step-read _ _ _ _ _ _ (c .before .before .before .before .before .before .before .before .if1 .left) (c .before .before .before .before .before .before .before .if2 .left)
+    (c .before .before .before .before .before .before .if3 .left) (c .before .before .before .before .before .if4 .left) _ (c .before .before .before .before .«record» .ensures) _ (c .before .before .before .readable .ensures)
+    _ (c .before .read .ensures) (not-false _ (c .before .before .if5 .left))
 
 pub look-spec : {M : Type 1} → statement M
 look-spec =
@@ -54,8 +57,9 @@ look-spec =
     returns
     returns-2
     returns-3
+    returns-4
     record-requires
     readable-requires
-    returns-4
+    returns-5
     read-requires
-    returns-5)
+    returns-6)

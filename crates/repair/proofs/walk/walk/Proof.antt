@@ -17,15 +17,15 @@ use Rattle.repair.proofs.walk.look.Reads as look-reads
 use Rattle.repair.proofs.walk.own_number.Reads as own-number-reads
 
 abbrev Inv-loop : tie.InvT-loop
-Inv-loop volume g page own backup n₀ count₀ n count = Down (logOf g volume) page own backup n₀ n count
+Inv-loop volume g first page own backup n₀ count₀ n count = Down (logOf g volume) first page own backup n₀ n count
 
 abbrev μ-loop : tie.MeasureT-loop
-μ-loop volume g page own backup n₀ count₀ n count = n
+μ-loop volume g first page own backup n₀ count₀ n count = n
 
 -- where the walk halts: the step
 halted : (c : tie.After-known-told Inv-loop μ-loop)
     → stepOf (logOf (c .before .before .before .before .before .before .before .before .args .g) (now (c .before .before .before .before .before .before .before .before .args .volume)))
-    (c .before .before .before .before .before .before .before .before .args .page) (c .before .before .before .before .before .before .own-number .result)
+    (c .before .before .before .before .before .before .before .before .args .first) (c .before .before .before .before .before .before .before .before .args .page) (c .before .before .before .before .before .before .own-number .result)
     (c .before .before .before .before .before .backup-number .result) (c .before .before .before .before .loop .n)
     ≡ Halt (c .before .s .given .0 .0)
 halted c = sym (c .before .before .before .look .ensures) ∙ c .before .s .given .1
@@ -33,7 +33,7 @@ halted c = sym (c .before .before .before .look .ensures) ∙ c .before .s .give
 -- at a record that is read: the step, and room for its number
 on : (c : tie.After-known-told2 Inv-loop μ-loop)
     → stepOf (logOf (c .before .before .before .before .before .before .before .before .args .g) (now (c .before .before .before .before .before .before .before .before .args .volume)))
-    (c .before .before .before .before .before .before .before .before .args .page) (c .before .before .before .before .before .before .own-number .result)
+    (c .before .before .before .before .before .before .before .before .args .first) (c .before .before .before .before .before .before .before .before .args .page) (c .before .before .before .before .before .before .own-number .result)
     (c .before .before .before .before .before .backup-number .result) (c .before .before .before .before .loop .n)
     ≡ Read (c .before .prev .given .0 .0) (c .before .prev .given .0 .1 .0)
 on c = sym (c .before .before .before .look .ensures) ∙ c .before .prev .given .1
@@ -45,12 +45,12 @@ backup-number-requires : tie.Need-backup-number-requires Inv-loop μ-loop
 backup-number-requires c κs = c .before .before .pre
 
 loop-holds : tie.Need-loop-holds Inv-loop μ-loop
-loop-holds c = down-start _ _ _ _ _
+loop-holds c = down-start _ _ _ _ _ _
 
 look-requires : tie.Need-look-requires Inv-loop μ-loop
 look-requires c κs =
     let h = c .before .before .before .before .pre in
-    (h .valid, h .geometry, omega (arith, h .durable, c .loop .inv .room))
+    (h .valid, h .geometry)
 
 enum-known-s : tie.Need-enum-known-s Inv-loop μ-loop
 enum-known-s c = search needs
@@ -59,27 +59,27 @@ enum-known-prev : tie.Need-enum-known-prev Inv-loop μ-loop
 enum-known-prev c = search needs
 
 add-count : tie.Need-add-count Inv-loop μ-loop
-add-count c = omega (arith, step-falls _ _ _ _ _ _ _ (on c), c .before .before .before .before .loop .inv .room)
+add-count c = omega (arith, step-falls _ _ _ _ _ _ _ _ (on c), c .before .before .before .before .loop .inv .room)
 
 loop-less : tie.Need-loop-less Inv-loop μ-loop
-loop-less c = step-falls _ _ _ _ _ _ _ (on (c .before))
+loop-less c = step-falls _ _ _ _ _ _ _ _ (on (c .before))
 
 loop-again : tie.Need-loop-again Inv-loop μ-loop
-loop-again c = down-on _ _ _ _ _ _ _ (c .before .before .before .before .before .loop .inv) _ _ (on (c .before)) (c .if1 .left)
+loop-again c = down-on _ _ _ _ _ _ _ _ (c .before .before .before .before .before .loop .inv) _ _ (on (c .before)) (c .if1 .left)
 
 returns : tie.Need-returns Inv-loop μ-loop
 unfolding walkedOf walkOf
 returns c =
     let b = c .before .before .before .before .before in
     rw (← b .backup-number .ensures, ← b .before .own-number .ensures)
-    (down-halt _ _ _ _ _ _ _ (c .before .before .before .before .loop .inv) _ (halted c))
+    (down-halt _ _ _ _ _ _ _ _ (c .before .before .before .before .loop .inv) _ (halted c))
 
 returns-2 : tie.Need-returns-2 Inv-loop μ-loop
 unfolding walkedOf walkOf
 returns-2 c =
     let b = c .before .before .before .before .before .before in
     rw (← b .backup-number .ensures, ← b .before .own-number .ensures)
-    (down-format _ _ _ _ _ _ _ (c .before .before .before .before .before .loop .inv) _ _ (on (c .before)) (c .if1 .taken))
+    (down-format _ _ _ _ _ _ _ _ (c .before .before .before .before .before .loop .inv) _ _ (on (c .before)) (c .if1 .taken))
 
 pub walk-spec : {M : Type 1} → statement M
 walk-spec =

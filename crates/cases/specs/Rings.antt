@@ -1,0 +1,134 @@
+-- The small table of the ring: what the scan finds in four slots, in order: n is the record of that number, 0 a zero slot, 99 a torn one.
+-- Each row gives the count, the run start, whether the log is valid, and whether record 1 has left.
+use Prim.Native.Nat.{ℕ, suc, _+_, _-_}
+use mathlib.Core.Bool.{Bool, true, false, cond}
+use mathlib.Core.List.{List, [], _∷_, _++_}
+use lib.Dec.{eqb}
+use lib.ListN.{replicate, length}
+use Rattle.model.specs.Geometry.{Place, recordAt, noteAt, slotAt, pageAt, emptyVolume, lengthFor, geometryOf, store, validVolume}
+use Rattle.model.specs.Item.{encodeChange}
+use Rattle.model.specs.Scan.{durableCount, firstHeld, validLog, validNotes, gone}
+use Rattle.model.specs.Calls.{Call, begin, load, change, force, write, backup, note}
+use Rattle.model.specs.AbstractLog.{Left, old, new, torn}
+use Rattle.model.specs.History.{Machine, Event, restart, perform, crash, crashIn, damage, freshMachine, run}
+use Rattle.model.specs.declared.geometry.Heading.{Heading}
+use Rattle.model.specs.declared.geometry.Heading.the-variants.{First, Second}
+use Rattle.model.specs.declared.change.Change.{Change}
+use Rattle.model.specs.declared.change.Change.the-variants.{Format, Put, Slide}
+use Rattle.cases.specs.Rows.{Row, row}
+use Rattle.cases.specs.Opened.{opened}
+use Rattle.cases.specs.Build.{bit, broken, memory, inspected, asked, refused, done, writtenNote, backupNote, numbers}
+
+-- record n of page 1: the first is a format, the others put a byte and name the one before
+abbrev pub recordNo : ℕ → List ℕ
+recordNo n = cond (eqb n 1) (encodeChange 1 0 1 (Format 7) []) (encodeChange n (n - 1) 1 (Put 0 1) (n ∷ []))
+
+abbrev pub slotBytes : ℕ → List ℕ
+slotBytes n = cond (eqb n 0) (replicate 64 0) (cond (eqb n 99) (broken (recordNo 1)) (recordNo n))
+
+abbrev pub filled : List ℕ → ℕ → List ℕ → List ℕ
+filled v i [] = v
+filled v i (n ∷ ns) = filled (store (geometryOf v) v (recordAt (suc i)) (slotBytes n)) (suc i) ns
+
+abbrev pub logWith : Heading → List ℕ → List ℕ
+logWith t ns = filled (emptyVolume t 1 1 (length ns) 2) 0 ns
+
+abbrev pub readAs : Heading → List ℕ → List ℕ
+readAs t ns =
+    let v = logWith t ns in
+    let g = geometryOf v in
+    let n = durableCount g v in
+    n ∷ firstHeld g v n ∷ bit (validLog g v) ∷ bit (gone g v) ∷ bit (validVolume v) ∷ []
+
+-- events on a ring of these counts
+abbrev pub reachRing : ℕ → ℕ → ℕ → ℕ → List Event → Machine
+reachRing p b l n es = run (freshMachine Second (replicate (lengthFor p b l n) 0xDD) p b l n) es
+
+abbrev pub put : ℕ → Call
+put n = change 1 (Put 0 1) (n ∷ replicate 43 0)
+
+-- begin; force; backup; change; force; note; change; force: records 2 and 3 stand, 1 has left
+abbrev pub turned : List Event
+turned =
+    restart (memory 1) ∷ perform (begin 1 1 7) ∷ perform force ∷ perform (backup 1 1) ∷ perform (put 2) ∷ perform force ∷ perform note
+    ∷ perform (put 3) ∷ perform force ∷ []
+
+-- no backup noted: the record that would be displaced is needed
+abbrev pub needed : List Event
+needed = restart (memory 1) ∷ perform (begin 1 1 7) ∷ perform (put 2) ∷ perform force ∷ perform force ∷ []
+
+-- the same, with the displaced record still pending
+abbrev pub waiting : List Event
+waiting = restart (memory 1) ∷ perform (begin 1 1 7) ∷ perform (put 2) ∷ []
+
+-- a torn overwrite of slot 1 counts as leaving
+abbrev pub tornOver : List Event
+tornOver =
+    restart (memory 1) ∷ perform (begin 1 1 7) ∷ perform (put 2) ∷ perform force ∷ perform force ∷ perform (backup 1 1) ∷ perform note
+    ∷ perform (put 3) ∷ crashIn force (torn (replicate 64 1)) ∷ []
+
+-- a note ring of two: written, backed up, and then the written note is the only one of its kind
+abbrev pub locked : List Event
+locked =
+    restart (memory 1) ∷ perform (begin 1 1 7) ∷ perform force ∷ perform (write 1) ∷ perform note ∷ perform (backup 1 1) ∷ perform note ∷ []
+
+-- two pages: both notes of page 1 are of record 1, which has left; the log holds records 2 and 3 of page 2
+abbrev pub twoPages : List Event
+twoPages =
+    restart (memory 2) ∷ perform (begin 1 1 7) ∷ perform force ∷ perform (write 1) ∷ perform note ∷ perform (backup 1 1) ∷ perform (begin 2 2 9)
+    ∷ perform force ∷ perform note ∷ perform (change 2 (Put 0 1) (5 ∷ replicate 43 0)) ∷ perform force ∷ []
+
+-- two written notes, then a third cut torn over the first
+abbrev pub tornNote : List Event
+tornNote =
+    restart (memory 1) ∷ perform (begin 1 1 7) ∷ perform force ∷ perform (write 1) ∷ perform note ∷ perform (put 2) ∷ perform force ∷ perform (write 1)
+    ∷ perform note ∷ perform (backup 1 1) ∷ crashIn note (torn (replicate 16 1)) ∷ restart (memory 1) ∷ perform (load 1 1) ∷ []
+
+-- the oldest note is of another page than the later one of its kind
+abbrev pub otherPage : List Event
+otherPage =
+    restart (memory 2) ∷ perform (begin 1 1 7) ∷ perform (begin 2 2 9) ∷ perform force ∷ perform force ∷ perform (write 1) ∷ perform note ∷ perform (write 2)
+    ∷ perform note ∷ []
+
+unfoldable pub ringRows : List Row
+unfolding opened
+ringRows =
+    row "5 6 3 4" (readAs Second (5 ∷ 6 ∷ 3 ∷ 4 ∷ [])) (6 ∷ 3 ∷ 1 ∷ 1 ∷ 1 ∷ [])
+    ∷ row "5 6 t 4" (readAs Second (5 ∷ 6 ∷ 99 ∷ 4 ∷ [])) (6 ∷ 4 ∷ 1 ∷ 1 ∷ 1 ∷ [])
+    ∷ row "5 t 3 4" (readAs Second (5 ∷ 99 ∷ 3 ∷ 4 ∷ [])) (5 ∷ 3 ∷ 1 ∷ 1 ∷ 1 ∷ [])
+    ∷ row "5 2 3 4" (readAs Second (5 ∷ 2 ∷ 3 ∷ 4 ∷ [])) (5 ∷ 2 ∷ 1 ∷ 1 ∷ 1 ∷ [])
+    ∷ row "t 2 3 4" (readAs Second (99 ∷ 2 ∷ 3 ∷ 4 ∷ [])) (4 ∷ 2 ∷ 1 ∷ 1 ∷ 1 ∷ [])
+    ∷ row "t 2 3 4, no ring" (readAs First (99 ∷ 2 ∷ 3 ∷ 4 ∷ [])) (0 ∷ 1 ∷ 0 ∷ 0 ∷ 1 ∷ [])
+    ∷ row "1 2 3 4" (readAs Second (1 ∷ 2 ∷ 3 ∷ 4 ∷ [])) (4 ∷ 1 ∷ 1 ∷ 0 ∷ 1 ∷ [])
+    ∷ row "5 6 3 t" (readAs Second (5 ∷ 6 ∷ 3 ∷ 99 ∷ [])) (6 ∷ 3 ∷ 0 ∷ 1 ∷ 1 ∷ [])
+    ∷ row "t 2 0 0" (readAs Second (99 ∷ 2 ∷ 0 ∷ 0 ∷ [])) (2 ∷ 2 ∷ 0 ∷ 1 ∷ 1 ∷ [])
+    ∷ row "1 2 t t" (readAs Second (1 ∷ 2 ∷ 99 ∷ 99 ∷ [])) (2 ∷ 1 ∷ 0 ∷ 0 ∷ 1 ∷ [])
+    ∷ row "1 2 t 0" (readAs Second (1 ∷ 2 ∷ 99 ∷ 0 ∷ [])) (2 ∷ 1 ∷ 1 ∷ 0 ∷ 1 ∷ [])
+    ∷ row "1 2 2 0" (readAs Second (1 ∷ 2 ∷ 2 ∷ 0 ∷ [])) (2 ∷ 1 ∷ 0 ∷ 0 ∷ 1 ∷ [])
+    ∷ row "fresh" (readAs Second (0 ∷ 0 ∷ 0 ∷ 0 ∷ [])) (0 ∷ 2 ∷ 1 ∷ 0 ∷ 1 ∷ [])
+    ∷ row "t 0 0 0" (readAs Second (99 ∷ 0 ∷ 0 ∷ 0 ∷ [])) (0 ∷ 2 ∷ 1 ∷ 0 ∷ 1 ∷ [])
+    ∷ row "t 2 of two" (readAs Second (99 ∷ 2 ∷ [])) (2 ∷ 2 ∷ 1 ∷ 1 ∷ 1 ∷ [])
+    ∷ row "one slot is no ring" (readAs Second (1 ∷ [])) (1 ∷ 1 ∷ 1 ∷ 0 ∷ 1 ∷ [])
+    ∷ []
+
+unfoldable pub ringEvents : List Row
+unfolding opened
+ringEvents =
+    row "turned: from the backup, below the run" (inspected (reachRing 1 1 2 2 turned .volume) 1)
+    (103 ∷ 4 ∷ 2 ∷ 2 ∷ 3 ∷ 0 ∷ 0 ∷ 0 ∷ 3 ∷ 7 ∷ 7 ∷ 7 ∷ 7 ∷ 7 ∷ [])
+    ∷ row "turned, the backup damaged: 23" (inspected (run (reachRing 1 1 2 2 turned) (damage (slotAt 1) (replicate 256 1) ∷ []) .volume) 1)
+    (100 ∷ 23 ∷ replicate 10 0xAA)
+    ∷ row "no backup: 12" (asked (reachRing 1 1 2 2 needed) (put 3)) (refused 12)
+    ∷ row "an owed backup is not noted: 12" (asked (run (reachRing 1 1 2 2 needed) (perform (backup 1 1) ∷ [])) (put 3)) (refused 12)
+    ∷ row "a noted backup: done" (asked (run (reachRing 1 1 2 2 needed) (perform (backup 1 1) ∷ perform note ∷ [])) (put 3)) done
+    ∷ row "displaces a pending one: 12" (asked (reachRing 1 1 2 2 waiting) (put 3)) (refused 12)
+    ∷ row "torn over slot 1" (inspected (reachRing 1 1 2 2 tornOver .volume) 1) (103 ∷ 4 ∷ 2 ∷ 0 ∷ 2 ∷ 0 ∷ 0 ∷ 0 ∷ 2 ∷ 7 ∷ 7 ∷ 7 ∷ 7 ∷ 7 ∷ [])
+    ∷ row "torn over slot 1, restarted, goes on" (asked (run (reachRing 1 1 2 2 tornOver) (restart (memory 1) ∷ perform (load 1 1) ∷ [])) (put 3)) done
+    ∷ row "the oldest note is needed: 14" (asked (reachRing 1 2 2 2 locked) (backup 1 2)) (refused 14)
+    ∷ row "a later note of another page: 14" (asked (reachRing 2 2 2 2 otherPage) (backup 1 1)) (refused 14)
+    ∷ row "torn over slot 1, the backup damaged: 23" (inspected (run (reachRing 1 1 2 2 tornOver) (damage (slotAt 1) (replicate 256 1) ∷ []) .volume) 1)
+    (100 ∷ 23 ∷ replicate 10 0xAA)
+    ∷ row "a torn note, restarted, goes on" (asked (reachRing 1 1 2 2 tornNote) (backup 1 1)) done
+    ∷ row "two pages, page 1" (inspected (reachRing 2 1 2 2 twoPages .volume) 1) (103 ∷ 1 ∷ 1 ∷ 0 ∷ 1 ∷ 0 ∷ 0 ∷ 0 ∷ 7 ∷ 7 ∷ 7 ∷ 7 ∷ 7 ∷ 7 ∷ [])
+    ∷ row "two pages, page 2" (inspected (reachRing 2 1 2 2 twoPages .volume) 2) (103 ∷ 4 ∷ 3 ∷ 2 ∷ 3 ∷ 0 ∷ 0 ∷ 0 ∷ 5 ∷ 9 ∷ 9 ∷ 9 ∷ 9 ∷ 9 ∷ [])
+    ∷ []

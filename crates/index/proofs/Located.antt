@@ -1,0 +1,109 @@
+-- A section's counts, starts and ends are those that the scan's definitions ask for, of the log and of the notes.
+use mathlib.Core.Path.{_≡_, refl, sym, ap, _∙_}
+use mathlib.Core.Bool.{Bool, true, false, _&&_}
+use mathlib.Core.List.{List}
+use Prim.Native.Nat.{ℕ, zero, suc, _+_, _-_, _*_, _%_, _≤_, _<_}
+use native.Mathlib.Nat.{mod-lt}
+use native.Mathlib.Omega.{arith}
+use native.Mathlib.Decide.{ℕ-discrete}
+use lib.ListN.{length}
+use Rattle.laws.proofs.Tables.{byCases}
+use Rattle.laws.proofs.Ring.{highest-same}
+use Rattle.laws.proofs.Places.{place-fits, item-length}
+use Rattle.laws.proofs.Checksums.{run-none}
+use Rattle.model.specs.Bytes.{part}
+use Rattle.model.specs.Checksum.{sealed}
+use Rattle.model.specs.Geometry.{ring, noteRing, recordAt, noteAt, start, item, logSlot, noteSlot}
+use Rattle.model.specs.Scan.{highest, durableCount, firstHeld, noteCount, firstNote}
+use Rattle.model.specs.declared.geometry.Geometry.{Geometry}
+use Rattle.index.specs.Section.{Sized, Placed, slotBytes, countIn, firstIn, logSection, noteSection, logRun, noteRun}
+use Rattle.index.specs.declared.section.Section.{Section}
+use Rattle.index.specs.declared.section.Run.{Run}
+
+module _ (g : Geometry) (v : List ℕ) where
+  pub record-slot : (i : ℕ) → slotBytes v (logSection g) i ≡ item g v (recordAt (suc i))
+  unfolding item
+  record-slot i = let e : start g (recordAt 1) + (60 + 4) * i ≡ start g (recordAt (suc i)) = omega arith in ap (λ (k : ℕ). part v k 64) e
+
+  pub note-slot : (i : ℕ) → slotBytes v (noteSection g) i ≡ item g v (noteAt (suc i))
+  unfolding item
+  note-slot i = let e : start g (noteAt 1) + (12 + 4) * i ≡ start g (noteAt (suc i)) = omega arith in ap (λ (k : ℕ). part v k 16) e
+
+  -- the slot of the number after n
+  pub record-next : (n : ℕ) → slotBytes v (logSection g) (n % g .records) ≡ item g v (logSlot g (suc n))
+  record-next n = let e : n ≡ suc n - 1 = omega arith in record-slot (n % g .records) ∙ ap (λ (k : ℕ). item g v (recordAt (suc (k % g .records)))) e
+
+  pub note-next : (n : ℕ) → slotBytes v (noteSection g) (n % g .notes) ≡ item g v (noteSlot g (suc n))
+  note-next n = let e : n ≡ suc n - 1 = omega arith in note-slot (n % g .notes) ∙ ap (λ (k : ℕ). item g v (noteAt (suc (k % g .notes)))) e
+
+  pub log-count : countIn v (logSection g) ≡ durableCount g v
+  unfolding durableCount countIn
+  log-count =
+      byCases (ring g)
+      (λ t. rw t (highest-same 60 _ _ (g .records) (λ i b. let e : suc i - 1 ≡ i = omega arith in ap (slotBytes v (logSection g)) e ∙ record-slot i)))
+      (λ t. rw t)
+
+  pub note-count : countIn v (noteSection g) ≡ noteCount g v
+  unfolding noteCount countIn
+  note-count =
+      byCases (noteRing g)
+      (λ t. rw t (highest-same 12 _ _ (g .notes) (λ i b. let e : suc i - 1 ≡ i = omega arith in ap (slotBytes v (noteSection g)) e ∙ note-slot i)))
+      (λ t. rw t)
+
+  pub log-first : (n : ℕ) → firstIn v (logSection g) n ≡ firstHeld g v n
+  unfolding firstHeld firstIn
+  log-first n = rw (record-next (n - g .records))
+
+  pub note-first : (n : ℕ) → firstIn v (noteSection g) n ≡ firstNote g v n
+  unfolding firstNote firstIn
+  note-first n = rw (note-next (n - g .notes))
+
+  -- the runs as they are found
+  pub log-run : (s : Section) → s ≡ logSection g → (n : ℕ) → n ≡ countIn v s → (f : ℕ) → f ≡ firstHeld g v n → _≡_ {A = Run} (record { first = f; count = n }) (logRun g v)
+  log-run s es n en f ef =
+      let q : n ≡ durableCount g v = en ∙ ap (countIn v) es ∙ log-count in
+      λ i. record { first = (ef ∙ ap (firstHeld g v) q) i; count = q i }
+
+  pub note-run : (s : Section) → s ≡ noteSection g → (n : ℕ) → n ≡ countIn v s → (f : ℕ) → f ≡ firstIn v s n → _≡_ {A = Run} (record { first = f; count = n }) (noteRun g v)
+  note-run s es n en f ef =
+      let q : n ≡ noteCount g v = en ∙ ap (countIn v) es ∙ note-count in
+      let p : f ≡ firstNote g v (noteCount g v) = ef ∙ ap (λ (x : Section). firstIn v x n) es ∙ note-first n ∙ ap (firstNote g v) q in
+      λ i. record { first = p i; count = q i }
+
+  module _ (s : Sized g v) where
+    pub log-placed : Placed v (logSection g)
+    log-placed = record { room = omega (arith, s .size); short = omega arith; few = s .records; none = λ z. absurd (omega (arith, s .some)) }
+
+    pub note-placed : Placed v (noteSection g)
+    note-placed = record { room = omega (arith, s .size); short = omega arith; few = s .notes; none = λ z. omega (arith, s .size) }
+
+    -- a number's slot is in the volume
+    pub record-fits : (n : ℕ) → start g (logSlot g n) + 64 ≤ length v
+    record-fits n = let m : (n - 1) % g .records < g .records = mod-lt (n - 1) (s .some) in place-fits g v (s .size) (logSlot g n) (omega arith, omega arith)
+
+    pub record-length : (n : ℕ) → length (item g v (logSlot g n)) ≡ 64
+    record-length n = let m : (n - 1) % g .records < g .records = mod-lt (n - 1) (s .some) in item-length g v (s .size) (logSlot g n) (omega arith, omega arith)
+
+    pub note-fits : 1 ≤ g .notes → (n : ℕ) → start g (noteSlot g n) + 16 ≤ length v
+    note-fits some n = let m : (n - 1) % g .notes < g .notes = mod-lt (n - 1) some in place-fits g v (s .size) (noteSlot g n) (omega arith, omega arith)
+
+  -- the run starts at 1 or later
+  pub first-low : (n : ℕ) → 1 ≤ firstHeld g v n
+  unfolding firstHeld
+  first-low n =
+      byCases (ring g)
+      (λ t. rw t (byCases (sealed 60 (item g v (logSlot g (suc (n - g .records))))) (λ u. rw u (omega arith)) (λ u. rw u (omega arith)))) (λ t. rw t (omega arith))
+
+  pub first-note-low : (n : ℕ) → 1 ≤ firstNote g v n
+  unfolding firstNote
+  first-note-low n =
+      byCases (noteRing g)
+      (λ t. rw t (byCases (sealed 12 (item g v (noteSlot g (suc (n - g .notes))))) (λ u. rw u (omega arith)) (λ u. rw u (omega arith)))) (λ t. rw t (omega arith))
+
+  -- where there is a note, there is a slot for it
+  pub notes-some : 1 ≤ noteCount g v → 1 ≤ g .notes
+  unfolding noteCount highest
+  notes-some h = elim (ℕ-discrete (g .notes) 0) [
+    | yes z ↦ let e : noteCount g v ≡ 0 = byCases (noteRing g) (λ t. rw (t, z)) (λ t. rw (t, z) (run-none 12 v (start g (noteAt 1)))) in absurd (omega arith)
+    | no z ↦ omega arith
+  ]

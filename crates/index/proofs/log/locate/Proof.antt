@@ -1,0 +1,20 @@
+-- `index::log::locate` gives the log.
+use borrow.Author.Needs.{needs}
+use Rattle.index.proofs.log.locate.Statement.{statement}
+use Rattle.index.proofs.log.locate.Tie as tie
+use Rattle.index.proofs.log.locate.Reads as reads
+use Rattle.index.proofs.log.locate.Lts as lts
+use Rattle.volume.proofs.place.record_at.Reads as record-at-reads
+use Rattle.volume.proofs.ring.ring.Reads as ring-reads
+
+ring-requires : tie.Need-ring-requires
+ring-requires c κs = search needs
+
+record-at-requires : tie.Need-record-at-requires
+record-at-requires c κs = search needs
+
+returns : tie.Need-returns
+returns c = rw (c .before .ring .ensures, c .record-at .ensures)
+
+pub locate-spec : {M : Type 1} → statement M
+locate-spec = tie.close (tie.spec ring-requires record-at-requires returns)

@@ -1,0 +1,53 @@
+-- At most L records are read by a walk, on any volume and any well-formed state: the numbers fall strictly within the run, and the run is no
+-- longer than the ring. (The code's array of 1,024 numbers serves.)
+use mathlib.Core.Path.{_≡_, refl}
+use mathlib.Core.Bool.{Bool, true, false, cond}
+use mathlib.Core.List.{List, [], _∷_}
+use Prim.Native.Nat.{ℕ, zero, suc, _-_, _≤_, _<_}
+use native.Mathlib.Omega.{arith}
+use lib.Dec.{eqb, ltb}
+use lib.ListN.{length}
+use borrow.Author.Tests.{ltb-true, ltb-false}
+use Rattle.laws.proofs.Tables.{byCases, all-at}
+use Rattle.model.specs.Checksum.{sealed}
+use Rattle.model.specs.Geometry.{ring, most, item, logSlot}
+use Rattle.model.specs.Item.{recordOf, recordLayout, isFormat, firstIsFormat}
+use Rattle.model.specs.Scan.{firstHeld}
+use Rattle.model.specs.Repair.{View, chainRecord, walkFrom, walkOf, ownStart, backupStart}
+use Rattle.model.specs.declared.geometry.Geometry.{Geometry}
+
+-- a record that may be read names a lower number
+chain-falls : (p n : ℕ) (r : List ℕ) → chainRecord p n r ≡ true → recordOf r .prev < n
+unfolding chainRecord
+chain-falls p n r h =
+    let e = recordOf r in
+    ltb-true (e .prev) n (all-at (sealed 60 r ∷ eqb (e .lsn) n ∷ eqb (e .page) p ∷ recordLayout r ∷ ltb (e .prev) n ∷ firstIsFormat e ∷ []) 4 h)
+
+pub chain-few : (steps : ℕ) (log : ℕ → List ℕ) (first p own backup n : ℕ) → length (walkFrom steps log first p own backup n .chain) ≤ suc n - first
+unfolding walkFrom
+chain-few zero log first p own backup n = omega arith
+chain-few (suc steps) log first p own backup n =
+    let ih : length (walkFrom steps log first p own backup (recordOf (log n) .prev) .chain) ≤ suc (recordOf (log n) .prev) - first =
+    chain-few steps log first p own backup (recordOf (log n) .prev) in
+    byCases (eqb own n) (λ t. rw t (omega arith))
+    (λ t. rw t (byCases (eqb backup n) (λ u. rw u (omega arith))
+    (λ u. rw u (byCases (ltb n first) (λ z. rw z (omega arith))
+    (λ z.
+    let le : first ≤ n = ltb-false n first z in
+    rw z (byCases (chainRecord p n (log n))
+    (λ c.
+    let lt : recordOf (log n) .prev < n = chain-falls p n (log n) c in
+    rw c (byCases (isFormat (recordOf (log n))) (λ f. rw f (omega arith)) (λ f. rw f (omega arith))))
+    (λ c. rw c (omega arith))))))))
+
+-- the run that a state of n durable records sees
+pub run-few : (g : Geometry) (v : List ℕ) (n : ℕ) → n ≤ most g → suc n - firstHeld g v n ≤ g .records
+unfolding firstHeld
+run-few g v n h = byCases (ring g)
+    (λ t. rw t (byCases (sealed 60 (item g v (logSlot g (suc (n - g .records))))) (λ u. rw u (omega arith)) (λ u. rw u (omega arith))))
+    (λ t. let e : n ≤ g .records = rw t at h in rw t (omega arith))
+
+pub walk-few : (g : Geometry) (v : List ℕ) (n p : ℕ) (w : View) → n ≤ most g → w .durable ≤ n → w .first ≡ firstHeld g v n → length (walkOf g p w .chain) ≤ g .records
+unfolding walkOf
+walk-few g v n p w h d e =
+    omega (arith, chain-few (w .durable) (w .log) (w .first) p (ownStart g p w) (backupStart g p w) (w .durable), run-few g v n h)

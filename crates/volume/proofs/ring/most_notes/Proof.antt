@@ -1,0 +1,20 @@
+-- `volume::ring::most_notes` meets its contract.
+use mathlib.Core.Path.{sym, _∙_}
+use borrow.Author.Needs.{needs}
+use Rattle.volume.proofs.ring.most_notes.Statement.{statement}
+use Rattle.volume.proofs.ring.most_notes.Tie as tie
+use Rattle.volume.proofs.ring.most_notes.Reads as reads
+use Rattle.volume.proofs.ring.most_notes.Lts as lts
+use Rattle.volume.proofs.ring.ring.Reads as ring-reads
+
+ring-requires : tie.Need-ring-requires
+ring-requires c κs = search needs
+
+returns : tie.Need-returns
+returns c = rw (sym (c .before .ring .ensures) ∙ c .if1 .taken)
+
+returns-2 : tie.Need-returns-2
+returns-2 c = rw (sym (c .before .ring .ensures) ∙ c .if1 .left)
+
+pub most-notes-spec : {M : Type 1} → statement M
+most-notes-spec = tie.close (tie.spec ring-requires returns returns-2)
