@@ -66,6 +66,7 @@ def decode(cell):
         14: f"set number {a} of the state to {b}",
         15: "lose memory and state",
         16: f"fill buffer {a} with {kind}",
+        17: f"release page {page}",
         21: "make with the first heading, P {} B {} L {} N {}".format(*counts),
     }
     return words.get(op, f"unknown op {op}")

@@ -15,7 +15,8 @@ pub enum Refusal {
     Blank = 7,
     NotInFrame = 8,
     NotBlankOrInFrame = 9,
-    FrameDirty = 10,
+    /// The frame's page has a record that is not durable.
+    FrameUnsettled = 10,
     PendingFull = 11,
     LogFull = 12,
     NoteOwed = 13,

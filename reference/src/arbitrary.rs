@@ -91,7 +91,7 @@ fn revive(world: &mut World, rng: &mut Rng) {
         world.script.resize_memory(memory_len_for(rng.between(1, 4)));
     }
     let state = &world.script.driver.state;
-    let stuck = state.frames[..world.frames()].iter().all(|frame| frame.dirty);
+    let stuck = state.frames[..world.frames()].iter().all(|frame| frame.page != 0);
     if (!world.live && rng.chance(850)) || (stuck && rng.chance(600)) {
         world.live = !world.script.call(Call::Restart).is_refused();
     }

@@ -64,7 +64,7 @@ fn rebuilt(volume: &[u8], page: u16, buffer_len: usize) -> Result<(Answer, Image
 }
 
 impl State {
-    /// First format of a blank page, into a frame that is not dirty.
+    /// First format of a blank page, into a frame that can be emptied.
     pub fn begin(
         self,
         volume: &[u8],
@@ -81,7 +81,7 @@ impl State {
         ensure_page(page, &geometry)?;
         let frame = ensure_frame(frame, frames)?;
         ensure(self.entry(page).newest == 0, Refusal::NotBlankOrInFrame)?;
-        ensure(!self.frame(frame).dirty, Refusal::FrameDirty)?;
+        self.ensure_settled(frame)?;
         self.ensure_room(volume, &geometry)?;
         memory[frame_place(frame)].copy_from_slice(&blank_image(page));
         let change = Change::Format { fill };
@@ -100,7 +100,7 @@ impl State {
         let entry = self.entry(page);
         ensure(entry.newest != 0, Refusal::Blank)?;
         ensure(self.frame_of(page).is_none(), Refusal::NotBlankOrInFrame)?;
-        ensure(!self.frame(frame).dirty, Refusal::FrameDirty)?;
+        self.ensure_settled(frame)?;
         let (rebuild, image) = rebuild(volume, &geometry, page, entry, self.durable)?;
         memory[frame_place(frame)].copy_from_slice(&image);
         self.frames[frame - 1] = Frame { page, dirty: rebuild.class != Class::Good };
@@ -207,6 +207,25 @@ impl State {
         volume[geometry.note_place(self.notes)].copy_from_slice(&note.encode());
         self.entry_mut(note.page).take_note(&note);
         Ok((self, Answer::Done))
+    }
+
+    /// Empties a page's frame without a store; its bytes stay.
+    pub fn release(self, volume: &[u8], memory: &[u8], page: u16) -> (State, Answer) {
+        self.settle(self.try_release(volume, memory, page))
+    }
+
+    fn try_release(mut self, volume: &[u8], memory: &[u8], page: u16) -> Next {
+        let (geometry, _) = self.admit(volume, memory)?;
+        ensure_page(page, &geometry)?;
+        let frame = self.frame_of(page).ok_or(Refusal::NotInFrame)?;
+        self.ensure_settled(frame)?;
+        self.frames[frame - 1] = Frame::default();
+        Ok((self, Answer::Done))
+    }
+
+    /// Refusal 10.
+    fn ensure_settled(&self, frame: usize) -> Result<(), Refusal> {
+        ensure(!self.is_unsettled(frame), Refusal::FrameUnsettled)
     }
 
     /// The state after a call: as it was if the call is refused.

@@ -26,6 +26,7 @@ pub enum Call {
     Backup { page: u16, slot: u16 },
     Note,
     Inspect { page: u16 },
+    Release { page: u16 },
 }
 
 /// What a cell asks of the driver.
@@ -56,6 +57,7 @@ impl Call {
             Call::Backup { .. } => 8,
             Call::Note => 9,
             Call::Inspect { .. } => 10,
+            Call::Release { .. } => 17,
         }
     }
 }
@@ -83,6 +85,7 @@ pub fn decode(cell: &Cell) -> Op {
         8 => Call::Backup { page, slot: frame_or_slot },
         9 => Call::Note,
         10 => Call::Inspect { page },
+        17 => Call::Release { page },
         11 => {
             return Op::Sizes {
                 volume: number_a,
@@ -173,7 +176,9 @@ fn encode_call(call: &Call, cell: &mut Cell) {
             encode_change(change, cell);
             cell[PAYLOAD_AT..PAYLOAD_AT + PAYLOAD_LEN].copy_from_slice(&payload);
         }
-        Call::Write { page } | Call::Inspect { page } => put_u16(cell, 2, page),
+        Call::Write { page } | Call::Inspect { page } | Call::Release { page } => {
+            put_u16(cell, 2, page)
+        }
         Call::Restart | Call::Force | Call::Note => {}
     }
 }

@@ -6,6 +6,7 @@ use crate::bytes::{all_zero, u16_at, u32_at};
 use crate::calls::inspect;
 use crate::cell::Call;
 use crate::check_ring::RingView;
+use crate::check_same::{check_left, held_pages, pushes_out, Held};
 use crate::geometry::{frame_count, frame_place};
 use crate::history::{choose_geometry, choose_ring, Style};
 use crate::image::{BODY, CHECKSUM};
@@ -83,6 +84,7 @@ impl Checker {
         let waiting_before = self.book.waiting.len();
         self.events.push(event.clone());
         let owed = self.world.script.driver.state.owed;
+        let held = held_pages(&self.world);
         let outcome = self.world.apply(&event);
         self.feed(&event, &outcome);
         let noted = match event {
@@ -95,6 +97,7 @@ impl Checker {
         }
         self.check_answer(&event, &outcome, waiting_before)
             .and_then(|()| self.check_live())
+            .and_then(|()| self.check_left(&event, &outcome, &held))
             .and_then(|()| if inspect_all { self.inspect_all() } else { Ok(()) })
             .map_err(|text| self.report(&text))
     }
@@ -143,6 +146,16 @@ impl Checker {
                 self.check_rebuild(*page, &rebuild, image)?;
                 let dirty = driver.state.frame((*frame).into()).dirty;
                 ensure(dirty == (rebuild.class != Class::Good), || format!("{answer}: {dirty}"))
+            }
+            _ => Ok(()),
+        }
+    }
+
+    fn check_left(&self, event: &Event, outcome: &Outcome, held: &[Held]) -> Result<(), String> {
+        let done = outcome.answer.is_some_and(|answer| !answer.is_refused());
+        match event {
+            Event::Call(call) if done && pushes_out(call) => {
+                check_left(&self.ring(&self.noted()?), held)
             }
             _ => Ok(()),
         }

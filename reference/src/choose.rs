@@ -17,6 +17,7 @@ pub enum Kind {
     Backup,
     Note,
     Inspect,
+    Release,
 }
 
 /// What the choice of arguments looks at.
@@ -33,12 +34,12 @@ impl Chooser<'_> {
             Kind::Restart => Call::Restart,
             Kind::Begin => Call::Begin {
                 page: self.page(rng, |page| self.state.entry(page).newest == 0),
-                frame: self.clean_frame(rng),
+                frame: self.free_frame(rng),
                 fill: rng.byte(),
             },
             Kind::Load => Call::Load {
                 page: self.page(rng, |page| self.loadable(page)),
-                frame: self.clean_frame(rng),
+                frame: self.free_frame(rng),
             },
             Kind::Change => {
                 let page = self.page(rng, |page| self.state.frame_of(page).is_some());
@@ -54,6 +55,7 @@ impl Chooser<'_> {
             Kind::Inspect => Call::Inspect {
                 page: self.page(rng, |page| self.state.entry(page).newest_durable != 0),
             },
+            Kind::Release => Call::Release { page: self.page(rng, |page| self.releasable(page)) },
         }
     }
 
@@ -75,7 +77,9 @@ impl Chooser<'_> {
                 1 => *slot = edge(rng, self.geometry.slots),
                 _ => *slot = self.slot(rng, |slot| self.state.slot_in_index(slot as u8)),
             },
-            Call::Write { page } | Call::Inspect { page } => *page = some_page,
+            Call::Write { page } | Call::Inspect { page } | Call::Release { page } => {
+                *page = some_page
+            }
             Call::Make { .. } | Call::Restart | Call::Force | Call::Note => {}
         }
         call
@@ -90,13 +94,24 @@ impl Chooser<'_> {
         self.state.frame_of(page).is_some_and(|frame| self.state.frame(frame).dirty)
     }
 
+    fn releasable(&self, page: u16) -> bool {
+        self.state.frame_of(page).is_some_and(|frame| !self.state.is_unsettled(frame))
+    }
+
     /// A page that is wanted; any page if there is none.
     pub fn page(&self, rng: &mut Rng, wanted: impl Fn(u16) -> bool) -> u16 {
         one_of(rng, self.geometry.pages, wanted)
     }
 
-    fn clean_frame(&self, rng: &mut Rng) -> u16 {
-        one_of(rng, self.frames.max(1), |frame| !self.state.frame(frame.into()).dirty)
+    /// A frame that can be taken, sometimes only one that holds no dirty page.
+    fn free_frame(&self, rng: &mut Rng) -> u16 {
+        let gentle = rng.chance(500);
+        one_of(rng, self.frames.max(1), |frame| {
+            let frame = usize::from(frame);
+            let entry = self.state.frame(frame);
+            let known = usize::from(entry.page) <= self.geometry.pages;
+            known && !self.state.is_unsettled(frame) && !(gentle && entry.dirty)
+        })
     }
 
     /// A slot that is wanted; any slot if there is none.

@@ -39,6 +39,7 @@ pub const ROWS: &[Row] = &[
     Row { name: "backup", refusals: &[1, 2, 3, 5, 8, 13, 14, 15, 16], answers: OK },
     Row { name: "note", refusals: &[1, 2], answers: OK_OR_NOTHING },
     Row { name: "inspect", refusals: &[1, 2, 3, 7, 17, 18, 23], answers: REBUILDS },
+    Row { name: "release", refusals: &[1, 2, 3, 8, 10], answers: OK },
 ];
 
 /// The name of a call in the table.
@@ -55,5 +56,6 @@ pub fn name_of(call: &Call) -> &'static str {
         Call::Backup { .. } => "backup",
         Call::Note => "note",
         Call::Inspect { .. } => "inspect",
+        Call::Release { .. } => "release",
     }
 }

@@ -108,6 +108,7 @@ impl Driver {
             Call::Write { page } => state.write(volume, memory, page),
             Call::Backup { page, slot } => state.backup(volume, memory, page, slot),
             Call::Note => state.note(volume, memory),
+            Call::Release { page } => state.release(volume, memory, page),
             Call::Inspect { page } => {
                 (state, inspect(volume, page, &mut self.lent[..self.lent_len]))
             }

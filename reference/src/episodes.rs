@@ -11,7 +11,7 @@ use crate::rng::Rng;
 use crate::state::{FRAMES_AT, INDEX_AT, NUMBERS};
 use crate::world::World;
 
-const ALL_KINDS: [Kind; 9] = [
+const ALL_KINDS: [Kind; 10] = [
     Kind::Restart,
     Kind::Begin,
     Kind::Load,
@@ -21,6 +21,7 @@ const ALL_KINDS: [Kind; 9] = [
     Kind::Backup,
     Kind::Note,
     Kind::Inspect,
+    Kind::Release,
 ];
 
 /// A call of this kind, mostly with arguments that suit the state.
@@ -230,7 +231,7 @@ pub fn silly_calls(world: &mut World, rng: &mut Rng) {
 pub fn odd_cells(world: &mut World, rng: &mut Rng) {
     let mut cell: Cell = [0; CELL_LEN];
     rng.fill(&mut cell);
-    cell[0] = rng.pick(&[0, 17, 255]);
+    cell[0] = rng.pick(&[0, 31, 255]);
     world.script.emit_cell(cell);
     cell[0] = 5;
     cell[1] = rng.pick(&[0, 4, 255]);

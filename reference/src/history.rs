@@ -45,6 +45,7 @@ impl Style {
                 (Kind::Backup, rng.pick(&[1, 6, 12])),
                 (Kind::Note, rng.pick(&[3, 20])),
                 (Kind::Restart, rng.pick(&[0, 1, 3])),
+                (Kind::Release, rng.pick(&[0, 3, 10])),
             ],
         }
     }

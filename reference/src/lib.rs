@@ -11,6 +11,7 @@ pub mod calls;
 pub mod cell;
 pub mod check;
 pub mod check_ring;
+pub mod check_same;
 pub mod choose;
 pub mod coverage;
 pub mod coverage_table;

@@ -81,6 +81,12 @@ impl State {
         self.frames.iter().position(|frame| frame.page == page).map(|at| at + 1)
     }
 
+    /// Whether a frame's page has a record that is not durable. An empty frame has none.
+    pub fn is_unsettled(&self, frame: usize) -> bool {
+        let page = self.frame(frame).page;
+        page != 0 && self.entry(page).newest_durable < self.entry(page).newest
+    }
+
     pub fn slot_in_index(&self, slot: u8) -> bool {
         self.index.iter().any(|entry| entry.backup_slot == slot)
     }

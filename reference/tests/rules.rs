@@ -132,7 +132,6 @@ fn order_of_refusals() {
         (Call::Note, 100),
         (load(1, 1), 0),
         (load(1, 1), 9),
-        (load(2, 1), 10),
         (load(2, 2), 0),
         (Call::Write { page: 2 }, 100),
         (put(1), 0),
@@ -155,9 +154,15 @@ fn order_of_refusals() {
 fn a_refusal_changes_nothing() {
     let mut driver = driver();
     driver.call(&Call::Load { page: 1, frame: 1 });
+    driver.call(&put(1));
     driver.state.notes = 4;
     let before = driver.clone();
-    for call in [put(2), Call::Write { page: 1 }, Call::Load { page: 2, frame: 1 }] {
+    for call in [
+        put(2),
+        Call::Write { page: 1 },
+        Call::Load { page: 2, frame: 1 },
+        Call::Release { page: 1 },
+    ] {
         assert!(driver.call(&call).is_refused());
         assert_eq!(driver.line(&Answer::Done), before.line(&Answer::Done));
     }

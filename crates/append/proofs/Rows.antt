@@ -9,24 +9,23 @@ use Rattle.append.specs.Rows.{appendTail, beginTail, changeTail}
 use Rattle.model.specs.Tables.{firstOf, within}
 use Rattle.model.specs.Geometry.{geometryOf}
 use Rattle.model.specs.Change.{fits}
-use Rattle.model.specs.State.{frameCount, frameOf, held, blank}
-use Rattle.model.specs.Refusals.{stateRows, beginRows, changeRows}
+use Rattle.model.specs.State.{frameCount, held, blank}
+use Rattle.model.specs.Refusals.{frameBlocked, stateRows, beginRows, changeRows}
 use Rattle.model.specs.declared.geometry.Geometry.{Geometry}
 use Rattle.model.specs.declared.change.Change.{Change}
-use Rattle.model.specs.declared.state.Frame.{Frame}
 use Rattle.model.specs.declared.state.State.{State}
 
 -- the tests of Begin's own rows
-pub begin-own : (g : Geometry) (v : List ℕ) (count : ℕ) (s : State) (page frame : ℕ) (none : Bool) (f : Frame) (b c d e k : ℕ)
+pub begin-own : (g : Geometry) (v : List ℕ) (count : ℕ) (s : State) (page frame : ℕ) (none blocked : Bool) (b c d e k : ℕ)
     → none ≡ blank s page
-    → f ≡ frameOf s frame
+    → blocked ≡ frameBlocked s frame
     → b ≡ firstOf (appendTail g v s)
-    → c ≡ cond (f .dirty) 10 b
+    → c ≡ cond blocked 10 b
     → d ≡ cond (not none) 9 c
     → e ≡ cond (not (within count frame)) 4 d
     → k ≡ cond (not (within (g .pages) page)) 3 e
     → k ≡ firstOf (beginTail g v count s page frame)
-begin-own g v count s page frame none f b c d e k en ef eb ec ed ee ek = rw (ek, ee, ed, ec, eb, ef, en)
+begin-own g v count s page frame none blocked b c d e k en ef eb ec ed ee ek = rw (ek, ee, ed, ec, eb, ef, en)
 
 -- and of Change's
 pub change-own : (g : Geometry) (v : List ℕ) (s : State) (page : ℕ) (x : Change) (obeys in-frame : Bool) (b c d k : ℕ)

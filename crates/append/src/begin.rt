@@ -34,9 +34,9 @@ fn own(s: State, volume: &[u8], g: Geometry, count: usize, page: u32, frame: u32
     let outside = !((1 <= page) & (page <= g.pages));
     let no_frame = !((1 <= frame) & (frame as usize <= count));
     let blank = entries::blank(s, page);
-    let dirty = frames::frame(s, frame).dirty;
+    let blocked = frames::blocked(s, frame);
     let log = room::refusal(s, volume, g);
-    let table = rows::first(!blank, 9, rows::first(dirty, 10, log));
+    let table = rows::first(!blank, 9, rows::first(blocked, 10, log));
     rows::first(outside, 3, rows::first(no_frame, 4, table))
 }
 
@@ -62,8 +62,9 @@ fn format(x: &mut [u8], page: u32, lsn: u32, fill: u8)
     image::build(x, page, lsn);
 }
 
-// Begins a blank page in a frame: its format is pending, the frame is dirty, and a clean page in it leaves the frame.
-// Ruled out: 12 while the log has room; a dirty frame's page that leaves it; a refusal that clears the frame.
+// Begins a blank page in a frame: its format is pending, the frame is dirty, and a page in it whose changes are durable
+// leaves the frame.
+// Ruled out: 12 while the log has room; a page with a pending change that leaves its frame; a refusal that clears the frame.
 pub fn begin(s: State, volume: &[u8], memory: &mut [u8], page: u32, frame: u32, fill: u8) -> Reply
     ensures reply { λ r. ⌜ r ≡ replyOf (beginOf (now (volume .entry)) (now (memory .entry)) s page frame fill) ⌝ }
     ensures memory { λ _.

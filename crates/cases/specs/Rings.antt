@@ -8,7 +8,7 @@ use lib.ListN.{replicate, length}
 use Rattle.model.specs.Geometry.{Place, recordAt, noteAt, slotAt, pageAt, emptyVolume, lengthFor, geometryOf, store, validVolume}
 use Rattle.model.specs.Item.{encodeChange}
 use Rattle.model.specs.Scan.{durableCount, firstHeld, validLog, validNotes, gone}
-use Rattle.model.specs.Calls.{Call, begin, load, change, force, write, backup, note}
+use Rattle.model.specs.Calls.{Call, begin, load, change, force, write, backup, release, note}
 use Rattle.model.specs.AbstractLog.{Left, old, new, torn}
 use Rattle.model.specs.History.{Machine, Event, restart, perform, crash, crashIn, damage, freshMachine, run}
 use Rattle.model.specs.declared.geometry.Heading.{Heading}
@@ -17,7 +17,8 @@ use Rattle.model.specs.declared.change.Change.{Change}
 use Rattle.model.specs.declared.change.Change.the-variants.{Format, Put, Slide}
 use Rattle.cases.specs.Rows.{Row, row}
 use Rattle.cases.specs.Opened.{opened}
-use Rattle.cases.specs.Build.{bit, broken, memory, inspected, asked, refused, done, writtenNote, backupNote, numbers}
+use Rattle.model.specs.declared.answer.Class.the-variants.{Failed}
+use Rattle.cases.specs.Build.{bit, broken, memory, inspected, asked, refused, done, fromBackup, writtenNote, backupNote, numbers}
 
 -- record n of page 1: the first is a format, the others put a byte and name the one before
 abbrev pub recordNo : ℕ → List ℕ
@@ -118,6 +119,8 @@ ringEvents =
     (103 ∷ 4 ∷ 2 ∷ 2 ∷ 3 ∷ 0 ∷ 0 ∷ 0 ∷ 3 ∷ 7 ∷ 7 ∷ 7 ∷ 7 ∷ 7 ∷ [])
     ∷ row "turned, the backup damaged: 23" (inspected (run (reachRing 1 1 2 2 turned) (damage (slotAt 1) (replicate 256 1) ∷ []) .volume) 1)
     (100 ∷ 23 ∷ replicate 10 0xAA)
+    ∷ row "turned, let go and opened: from the backup" (asked (run (reachRing 1 1 2 2 turned) (perform (release 1) ∷ [])) (load 1 1)) (fromBackup Failed 2)
+    ∷ row "turned, let go, the backup damaged: 23" (asked (run (reachRing 1 1 2 2 turned) (perform (release 1) ∷ damage (slotAt 1) (replicate 256 1) ∷ [])) (load 1 1)) (refused 23)
     ∷ row "no backup: 12" (asked (reachRing 1 1 2 2 needed) (put 3)) (refused 12)
     ∷ row "an owed backup is not noted: 12" (asked (run (reachRing 1 1 2 2 needed) (perform (backup 1 1) ∷ [])) (put 3)) (refused 12)
     ∷ row "a noted backup: done" (asked (run (reachRing 1 1 2 2 needed) (perform (backup 1 1) ∷ perform note ∷ [])) (put 3)) done

@@ -49,7 +49,7 @@ pub fn change(c: &[u8]) -> Change {
     }
 }
 
-// The call on the state, for ops 3 to 9.
+// The call on the state, for ops 3 to 9 and 17.
 pub fn command(c: &[u8]) -> Command {
     let page = page(c);
     let place = place(c);
@@ -65,6 +65,7 @@ pub fn command(c: &[u8]) -> Command {
         6 => Command::Force,
         7 => Command::Write { page },
         8 => Command::Backup { page, slot: place },
+        17 => Command::Release { page },
         _ => Command::Note,
     }
 }

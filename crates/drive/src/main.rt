@@ -20,7 +20,7 @@ fn turn(b: Session, c: &[u8], volume: &mut [u8], memory: &mut [u8], lent: &mut [
     let op = cell::op(c);
     if (op == 1) | (op == 10) | (op == 21) {
         calls::plain(b, c, volume, lent)
-    } else if (2 <= op) & (op <= 9) {
+    } else if ((2 <= op) & (op <= 9)) | (op == 17) {
         calls::stateful(b, c, volume, memory)
     } else {
         setup::turn(b, c, volume, memory, lent)

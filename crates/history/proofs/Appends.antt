@@ -8,7 +8,6 @@ use native.Mathlib.Omega.{arith}
 use lib.ListN.{length, take, replicate}
 use lib.Dec.{eqb}
 use borrow.Author.Tests.{eqb-true, eqb-false, leb-false, not-false}
-use Rattle.laws.proofs.Tables.{true-not-false}
 use Rattle.laws.proofs.Ring.{displaced-more}
 use Rattle.laws.proofs.Changes.{apply-length, apply-take, fits-facts}
 use Rattle.model.specs.Tables.{firstOf}
@@ -38,7 +37,7 @@ use Rattle.history.proofs.Inv.{past-cons, Settled, frame, Memory}
 use Rattle.history.proofs.Memory.{frame-count, pending-memory, pending-same, pending-other, pending-frame, frame-memory, frame-same, frame-other, frame-pending}
 use Rattle.history.proofs.LogSteps.{Joins, joins-fair, log-add, index-add}
 use Rattle.history.proofs.FrameSteps.{frames-put}
-use Rattle.history.proofs.Context.{Ctx, Kept, passed, in-range, sized, geo, len, sum, few, body-size, last-entry, found-frame}
+use Rattle.history.proofs.Context.{Ctx, Kept, passed, in-range, sized, geo, len, sum, few, body-size, last-entry, found-frame, unblocked}
 
 module _ {C : Type 0} {g : Geometry} {v m : List ℕ} {past : List StoredItem} {s : State} {k w : List Logged} (x : Ctx C g v m past s k w) where
   -- the number that is given next
@@ -138,7 +137,7 @@ module _ {C : Type 0} {g : Geometry} {v m : List ℕ} {past : List StoredItem} {
                   })
                   frame-old
                   (λ q ne. (number-miss (x .all) c q ne, body-miss (x .all) c q ne, last-append q (x .all) (c ∷ []) (length k) (omega (arith, len x))))
-                  alone leaves (λ z. absurd (true-not-false refl z));
+                  alone leaves;
               index = index-add (s .index) (x .all) (length k) (x .ns) (length (x .ns)) (x .al .index) c (lastNumber s + 1) (j .low) (omega (arith, j .high, sized x .p-high)) (omega (arith, len x)) next-is;
               displaced = rw (lenA (x .all) c) (displaced-more (g .records) (length k) (length (x .all)) (Spare k (x .ns)) (Spare k (x .ns)) (λ i b z. z) (x .al .displaced) (log-asked x room));
               notes-is = x .al .notes-is;
@@ -170,7 +169,7 @@ module _ {C : Type 0} {g : Geometry} {v m : List ℕ} {past : List StoredItem} {
       let fr = x .al .frames .each i c (λ z. omega arith) in
       let n : lastOf (frame (s .frames) i .page) (x .all) ≡ 0 = rw y none in
       omega (arith, fr .some))
-      (λ nz ne. x .al .frames .clean (f - 1) (omega arith) (t .1 .1 .1 .1 .1 .1 .0) nz)
+      (λ nz ne. unblocked x f (q .0) (q .1) (t .1 .1 .1 .1 .1 .1 .0) nz)
 
   -- ---- Change
 

@@ -15,12 +15,12 @@ use Rattle.model.specs.Item.{noteBytes}
 use Rattle.model.specs.Index.{entryOf}
 use Rattle.model.specs.Repair.{viewOf, repairOf, classIn}
 use Rattle.model.specs.State.{frameBytes, pendingBytes, holder, lastNote}
-use Rattle.model.specs.Refusals.{pageDirty, beginRows, loadRows, changeRows, forceRows, writeRows, backupRows, noteRows}
-use Rattle.model.specs.Calls.{StoredItem, nothing, oneItem, Outcome, volumeAfter, decided, isGood, beginOf, loadOf, changeCall, forceOf, writeOf, backupOf, noteCall, noteStored, Call, begin, load, change, force, write, backup, note, rowsOf, outcomeOf}
+use Rattle.model.specs.Refusals.{pageDirty, beginRows, loadRows, changeRows, forceRows, writeRows, backupRows, releaseRows, noteRows}
+use Rattle.model.specs.Calls.{StoredItem, nothing, oneItem, Outcome, volumeAfter, decided, isGood, beginOf, loadOf, changeCall, forceOf, writeOf, backupOf, releaseOf, noteCall, noteStored, Call, begin, load, change, force, write, backup, release, note, rowsOf, outcomeOf}
 use Rattle.model.specs.AbstractLog.{moveFirst, Logged, AbstractLog, Left, old, new, torn, forget, stepCall, stepCut}
 use Rattle.model.specs.History.{off, leftVolume, leftPast, itemSealed, tornFits, payloadFits}
 use Rattle.model.specs.declared.geometry.Geometry.{Geometry}
-use Rattle.model.specs.declared.answer.Answer.the-variants.{Repaired}
+use Rattle.model.specs.declared.answer.Answer.the-variants.{Done, Repaired}
 use Rattle.model.specs.declared.item.Note.{Note}
 use Rattle.model.specs.declared.state.PendingNote.{PendingNote}
 use Rattle.model.specs.declared.state.PendingNote.the-variants.{Absent, Present}
@@ -29,13 +29,14 @@ use Rattle.history.proofs.Inv.{past-cons, PendingOk, Inv}
 use Rattle.history.proofs.Context.{Ctx, Kept, geo, keep-decided}
 use Rattle.history.proofs.Appends.{keep-begin, keep-change}
 use Rattle.history.proofs.Loads.{keep-load}
+use Rattle.history.proofs.Release.{keep-release}
 use Rattle.history.proofs.Images.{StoreOk, write-store, backup-store}
 use Rattle.history.proofs.Keeps.{force-store, forced, none-pending, some-pending, keep-force, Writes, writes, written, keep-write, backs, keep-backup, note-store, keep-note}
 
 module _ {C : Type 0} {g : Geometry} {v m : List ℕ} {past : List StoredItem} {s : State} {k w : List Logged} (x : Ctx C g v m past s k w) where
   pub inv-call : (c : Call) → payloadFits c ≡ true
       → Kept C g v past (outcomeOf c v m s) (cond (not (eqb (firstOf (rowsOf c v m s)) 0)) (record { durable = k; pending = w }) (stepCall (record { durable = k; pending = w }) c))
-  unfolding beginOf loadOf changeCall forceOf writeOf backupOf noteCall stepCall
+  unfolding beginOf loadOf changeCall forceOf writeOf backupOf releaseOf noteCall stepCall
   inv-call (begin page f fill) h = keep-decided x (beginRows v m s page f) _ _ (keep-begin x page f fill)
   inv-call (load page f) h =
       keep-decided x (loadRows v m s page f) _ _
@@ -45,6 +46,7 @@ module _ {C : Type 0} {g : Geometry} {v m : List ℕ} {past : List StoredItem} {
   inv-call force h = keep-decided x (forceRows v m s) (forced x) _ (λ e. keep-force x w refl)
   inv-call (write page) h = keep-decided x (writeRows v m s page) (written x page) _ (λ e. keep-write x page (writes x page e))
   inv-call (backup page b) h = keep-decided x (backupRows v m s page b) _ _ (λ e. keep-backup x page b (backs x page b e))
+  inv-call (release page) h = keep-decided x (releaseRows v m s page) _ _ (keep-release x page Done)
   inv-call note h = keep-decided x (noteRows v m s) (noteStored v m s (s .note)) _ (λ e. keep-note x (s .note) (x .al .note-ok))
 
   -- ---- a crash within a call
@@ -147,7 +149,7 @@ module _ {C : Type 0} {g : Geometry} {v m : List ℕ} {past : List StoredItem} {
 
   pub inv-crash : (c : Call) (l : Left) → tornFits (geometryOf v) (outcomeOf c v m s .stored) l ≡ true
       → Cut (outcomeOf c v m s .stored) l (cond (not (eqb (firstOf (rowsOf c v m s)) 0)) (record { durable = k; pending = w }) (stepCut (record { durable = k; pending = w }) c l))
-  unfolding beginOf loadOf changeCall forceOf writeOf backupOf noteCall stepCut
+  unfolding beginOf loadOf changeCall forceOf writeOf backupOf releaseOf noteCall stepCut
   inv-crash (begin page f fill) l t = cut-decided (beginRows v m s page f) _ _ l t (λ e u. cut-nothing l w)
   inv-crash (load page f) l t = cut-decided (loadRows v m s page f) _ _ l t (λ e u. cut-nothing l w)
   inv-crash (change page c payload) l t = cut-decided (changeRows v m s page c) _ _ l t (λ e u. cut-nothing l w)
@@ -156,4 +158,5 @@ module _ {C : Type 0} {g : Geometry} {v m : List ℕ} {past : List StoredItem} {
   inv-crash (backup page b) l t =
       cut-decided (backupRows v m s page b) _ _ l t
       (λ e u. let f = backs x page b e in cut-image (slotAt b) (frameBytes m (holder s page)) (backup-store x page (f .frame-of) (f .forced-to) b (f .slot-low) (f .slot-high) (f .spare)) l u)
+  inv-crash (release page) l t = cut-decided (releaseRows v m s page) _ _ l t (λ e u. cut-nothing l w)
   inv-crash note l t = cut-decided (noteRows v m s) (noteStored v m s (s .note)) _ l t (λ e u. cut-note (s .note) (x .al .note-ok) l u)

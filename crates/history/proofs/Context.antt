@@ -4,16 +4,18 @@ use mathlib.Core.Path.{_≡_, refl, ap, _∙_}
 use mathlib.Core.Logic.{_≢_}
 use mathlib.Core.Bool.{Bool, true, false, cond, not}
 use mathlib.Core.List.{List, [], _∷_}
-use Prim.Native.Nat.{ℕ, suc, _+_, _≤_, _<_}
+use Prim.Native.Nat.{ℕ, suc, _+_, _-_, _≤_, _<_}
 use native.Mathlib.Omega.{arith}
 use lib.ListN.{length, List·getD-append}
 use lib.Dec.{eqb}
-use borrow.Author.Tests.{eqb-true, ltb-true, ltb-false, not-false}
+use borrow.Author.Tests.{eqb-true, ne-eqb, ltb-true, ltb-false, not-false}
 use Rattle.laws.proofs.Tables.{byCases, within-bounds}
+use Rattle.laws.proofs.Frames.{not-held}
 use Rattle.model.specs.Tables.{Row, firstOf, within}
 use Rattle.model.specs.Geometry.{topNumber, geometryOf}
 use Rattle.model.specs.Index.{entryOf}
 use Rattle.model.specs.State.{frameBytes, holder, held}
+use Rattle.model.specs.Refusals.{frameBlocked}
 use Rattle.model.specs.Calls.{StoredItem, nothing, Outcome, volumeAfter, unchanged, decided}
 use Rattle.model.specs.AbstractLog.{Logged, AbstractLog}
 use Rattle.model.specs.History.{on}
@@ -23,14 +25,14 @@ use Rattle.model.specs.declared.answer.Answer.the-variants.{Refused}
 use Rattle.model.specs.declared.item.Note.{Note}
 use Rattle.model.specs.declared.state.Entry.{Entry}
 use Rattle.model.specs.declared.state.State.{State}
-use Rattle.history.proofs.Logs.{noLogged, at, lastAt, lastOf, bodyOf, replayAt, last-page, replay-last, replay-append, last-append}
+use Rattle.history.proofs.Logs.{noLogged, at, lastAt, lastOf, bodyOf, replayAt, last-page, last-mono, replay-last, replay-append, last-append}
 use Rattle.history.proofs.Entries.{markAt, entryFrom}
 use Rattle.history.proofs.Records.{AllFair, length-replay}
 use Rattle.history.proofs.Sections.{Sized, volume-sized, most-high}
 use Rattle.history.proofs.Disk.{Holds, Noted}
-use Rattle.history.proofs.Inv.{Past, past-cons, Framed, frame, Alive, Inv}
+use Rattle.history.proofs.Inv.{Past, past-cons, Framed, Settled, frame, Alive, Inv}
 use Rattle.history.proofs.LogSteps.{len-all, sum-is}
-use Rattle.history.proofs.FrameSteps.{found, missing}
+use Rattle.history.proofs.FrameSteps.{found}
 
 pub record Ctx (C : Type 0) (g : Geometry) (v m : List ℕ) (past : List StoredItem) (s : State) (k w : List Logged) : Type 0 where
   pub all : List Logged
@@ -130,7 +132,16 @@ module _ {C : Type 0} {g : Geometry} {v m : List ℕ} {past : List StoredItem} {
       }
 
   pub nowhere : (p : ℕ) → held s p ≡ false → (j : ℕ) → j < x .al .F → frame (s .frames) j .page ≢ p
-  nowhere p t j b = missing p (s .frames) (let z : holder s p ≤ 0 = ltb-false 0 (holder s p) t in omega arith) j (omega (arith, x .al .frames .size, x .al .memory .high))
+  nowhere p t j b = not-held s p t j (omega (arith, x .al .frames .size, x .al .memory .high))
+
+  -- a page that row 10 lets go has no change that is pending
+  pub unblocked : (f : ℕ) → 1 ≤ f → f ≤ x .al .F → frameBlocked s f ≡ false → frame (s .frames) (f - 1) .page ≢ 0 → Settled (x .all) (length k) (frame (s .frames) (f - 1) .page)
+  unblocked f lo hi t nz =
+      let p = frame (s .frames) (f - 1) .page in
+      let fr = x .al .frames .each (f - 1) (omega arith) nz in
+      let e = entry-is p (fr .low) (fr .high) in
+      let l : entryOf (s .index) p .last ≤ entryOf (s .index) p .durable = ltb-false _ _ (rw (ne-eqb p 0 nz) at t) in
+      omega (arith, last-mono p (x .all) (length (x .all)) (length k) (omega (arith, len)), ap (λ (y : Entry). y .last) e, ap (λ (y : Entry). y .durable) e)
 
   pub keep-same : (an : Answer) → Kept C g v past (unchanged an m s) (record { durable = k; pending = w })
   unfolding volumeAfter

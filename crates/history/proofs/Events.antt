@@ -73,7 +73,6 @@ module _ {C : Type 0} (g : Geometry) (v : List ℕ) (k : List Logged) (h : Holds
           each = λ j b n. absurd (n (ap (λ (f : Frame). f .page) (empty-frame j (omega (arith, M .high)))));
           once = λ i j a b n q. absurd (n (ap (λ (f : Frame). f .page) (empty-frame i (omega (arith, M .high)))));
           away = λ p lo hi n. refl;
-          clean = λ j b d n. refl;
         };
         index = rw (note-count g v k h ns o) at (index-is g v k h ns o);
         displaced = displaced-restart (ring g) (g .records) (length k) (Stands g v k) (Torn g v) (Spare k ns) (o .run);

@@ -25,7 +25,8 @@ use Rattle.history.proofs.Inv.{Inv}
 use Rattle.history.proofs.Context.{Ctx, entry-is, last-entry, durable-last, found-frame}
 use Rattle.history.proofs.WellFormed.{state-ok, memory-ok}
 use Rattle.history.proofs.Refusals.{call-ordinary, load-durable, restart-right, restart-wrong, inspect-right, inspect-wrong, inspect-durable}
-use Rattle.history.proofs.Reached.{Undamaged, madeWith, context, tied}
+use Rattle.history.proofs.LetGo.{releases-is, lets-go}
+use Rattle.history.proofs.Reached.{Undamaged, madeWith, tied, live}
 
 -- a replay in the words of the facts
 is-replay : (p : ℕ) (k : List Logged) (x : List ℕ) → ReplayOf p k x → IsReplay p k x
@@ -55,8 +56,7 @@ module _ (h : History) (legal : Legal h) where
   -- the machine that is on
   module _ (m : List ℕ) (s : State) (e : reached h .power ≡ on m s) where
     ctx : Ctx (Undamaged h) (madeWith h) (volumeOf h) m (reached h .past) s (durableOf h) (logOf h .pending)
-    ctx = context (madeWith h) (volumeOf h) m (reached h .past) s (logOf h)
-        (subst (λ (y : Power). Inv (Undamaged h) (madeWith h) (volumeOf h) (reached h .past) y (logOf h)) e i)
+    ctx = live h legal m s e
 
     same-entry : (p : ℕ) → 1 ≤ p → p ≤ h .pages → SameEntry h s p
     same-entry p lo hi =
@@ -138,6 +138,8 @@ facts =
       entries = same-entry;
       counts = counts-are;
       live = live-page;
+      releases = releases-is;
+      letsGo = lets-go;
       slots = λ h l p q p1 p2 q1 q2 nz e.
           let a : entryOf (indexOf (headingOf h) (volumeOf h)) p .slot ≡ markAt p (i h l .ns) (length (i h l .ns)) .slot = ap (λ (y : Entry). y .slot) (entry h l p p1 p2) in
           let b : entryOf (indexOf (headingOf h) (volumeOf h)) q .slot ≡ markAt q (i h l .ns) (length (i h l .ns)) .slot = ap (λ (y : Entry). y .slot) (entry h l q q1 q2) in

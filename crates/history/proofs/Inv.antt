@@ -142,7 +142,6 @@ pub record Frames (P F : ℕ) (all : List Logged) (d : ℕ) (fs : List Frame) (m
   pub each : (j : ℕ) → j < F → frame fs j .page ≢ 0 → Framed P all (frame fs j .page) (frameBytes m (suc j))
   pub once : (i j : ℕ) → i < F → j < F → frame fs i .page ≢ 0 → frame fs i .page ≡ frame fs j .page → i ≡ j
   pub away : (p : ℕ) → 1 ≤ p → p ≤ P → ((j : ℕ) → j < F → frame fs j .page ≢ p) → Settled all d p
-  pub clean : (j : ℕ) → j < F → frame fs j .dirty ≡ false → frame fs j .page ≢ 0 → Settled all d (frame fs j .page)
 
 -- the counts and the pending records
 pub record LogState (g : Geometry) (m : List ℕ) (durable pending : ℕ) (k w all : List Logged) : Type 0 where

@@ -40,7 +40,7 @@ use Rattle.history.proofs.Stores.{record-size, force-holds, force-noted
 use Rattle.history.proofs.LogSteps.{oldest-is, oldest-fair, oldest-page, log-force, index-force, index-note}
 use Rattle.history.proofs.FrameSteps.{frames-clean, frames-later}
 use Rattle.history.proofs.Context.{Ctx, Kept, passed, in-range, sized, geo, len, Found, found-frame, keep-same}
-use Rattle.history.proofs.Images.{StoreOk, sealed-size, sealed-valid, sealed-lsn, settled, image-is, write-note, backup-note, write-store, backup-store}
+use Rattle.history.proofs.Images.{StoreOk, sealed-size, sealed-valid, sealed-lsn, image-is, write-note, backup-note, write-store, backup-store}
 
 record-page : (r : List ℕ) → field 2 8 r ≡ recordOf r .page
 unfolding recordOf
@@ -205,8 +205,7 @@ module _ {C : Type 0} {g : Geometry} {v m : List ℕ} {past : List StoredItem} {
                 F = x .al .F;
                 memory = x .al .memory;
                 log = x .al .log;
-                frames = rw (row, ← (fo .page-is)) (frames-clean (g .pages) (x .al .F) (x .all) (length k) (s .frames) m (x .al .frames) (x .al .memory .high) (fo .row) (fo .in-table)
-                    (rw (fo .page-is) (settled x p fo (q .2))));
+                frames = rw (row, ← (fo .page-is)) (frames-clean (g .pages) (x .al .F) (x .all) (length k) (s .frames) m (x .al .frames) (x .al .memory .high) (fo .row) (fo .in-table));
                 index = x .al .index;
                 displaced = x .al .displaced;
                 notes-is = x .al .notes-is;

@@ -16,6 +16,7 @@ pub mod Context
 pub mod Asked
 pub mod Appends
 pub mod Loads
+pub mod Release
 pub mod Images
 pub mod Keeps
 pub mod Calls
@@ -25,6 +26,7 @@ pub mod Inspection
 pub mod WellFormed
 pub mod Theorem
 pub mod Refusals
+pub mod LetGo
 pub mod Facts
 pub mod Health
 pub mod Lost

@@ -31,7 +31,7 @@ use Rattle.history.proofs.FrameSteps.{frames-put}
 use Rattle.history.proofs.Views.{view-unbroken, view-body, view-whole, view-granted, Unserved, below-exact, exact-below}
 use Rattle.history.proofs.Entries.{markAt, entryFrom}
 use Rattle.history.proofs.Disk.{first, index-is}
-use Rattle.history.proofs.Context.{Ctx, Kept, Passed, passed, in-range, sized, geo, fair, few, body-size, entry-is, last-entry, durable-last, durable-page, durable-body, nowhere}
+use Rattle.history.proofs.Context.{Ctx, Kept, Passed, passed, in-range, sized, geo, fair, few, body-size, entry-is, last-entry, durable-last, durable-page, durable-body, nowhere, unblocked}
 
 -- the rows before a row whose number is answered do not hold, and it does
 abbrev pub Others : ℕ → List Row → Type 0
@@ -124,7 +124,7 @@ module _ {C : Type 0} {g : Geometry} {v m : List ℕ} {past : List StoredItem} {
     pub some : lastOf page (x .all) ≢ 0
     pub absent : (j : ℕ) → j < x .al .F → frame (s .frames) j .page ≢ page
     pub settled : Settled (x .all) (length k) page
-    pub spare : frame (s .frames) (f - 1) .dirty ≡ false
+    pub spare : frame (s .frames) (f - 1) .page ≢ 0 → Settled (x .all) (length k) (frame (s .frames) (f - 1) .page)
 
   loaded-from : (page f : ℕ) → not (within (geometryOf v .pages) page) ≡ false → not (within (frameCount (length m)) f) ≡ false → blank s page ≡ false → held s page ≡ false
       → frameBlocked s f ≡ false → Loaded page f
@@ -139,7 +139,7 @@ module _ {C : Type 0} {g : Geometry} {v m : List ℕ} {past : List StoredItem} {
         some = λ z. eqb-false (entryOf (s .index) page .last) 0 t₃ (last-entry x page (r .0) (r .1) ∙ z);
         absent = nowhere x page t₄;
         settled = x .al .frames .away page (r .0) (r .1) (nowhere x page t₄);
-        spare = t₅;
+        spare = unblocked x f (q .0) (q .1) t₅;
       }
 
   pub loads : (page f : ℕ) → firstOf (loadRows v m s page f) ≡ 0 → Loaded page f
@@ -231,7 +231,7 @@ module _ {C : Type 0} {g : Geometry} {v m : List ℕ} {past : List StoredItem} {
                       frame-is = let e : suc (f - 1) ≡ f = omega (arith, l .frame-low) in rw e (frame-same (x .al .F) m (x .al .memory) f image (l .frame-low) (l .frame-high) sz ∙ im);
                     })
                     (λ i b ne. frame-other (x .al .F) m (x .al .memory) f image (l .frame-low) (l .frame-high) sz (suc i) (omega arith) (omega arith))
-                    (λ q ne. (refl, refl, refl)) (λ i b ne. l .absent i b) (λ a b. x .al .frames .clean (f - 1) (omega (arith, l .frame-low, l .frame-high)) (l .spare) a) (λ z. l .settled);
+                    (λ q ne. (refl, refl, refl)) (λ i b ne. l .absent i b) (λ a b. l .spare a);
                 index = x .al .index;
                 displaced = x .al .displaced;
                 notes-is = x .al .notes-is;

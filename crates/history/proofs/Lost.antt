@@ -28,7 +28,7 @@ use Rattle.history.proofs.Sections.{volume-sized}
 use Rattle.history.proofs.Disk.{first, first-is, started, durable-count, index-is}
 use Rattle.history.proofs.Inv.{Inv}
 use Rattle.history.proofs.Context.{Ctx, entry-is}
-use Rattle.history.proofs.Reached.{Undamaged, madeWith, context, tied}
+use Rattle.history.proofs.Reached.{Undamaged, madeWith, tied, live}
 use Rattle.history.proofs.Theorem.{demand3}
 
 module _ (h : History) (legal : Legal h) where
@@ -62,8 +62,7 @@ module _ (h : History) (legal : Legal h) where
   -- DISPLACED
   module _ (m : List ℕ) (s : State) (e : reached h .power ≡ on m s) where
     ctx : Ctx (Undamaged h) (madeWith h) (volumeOf h) m (reached h .past) s (durableOf h) (logOf h .pending)
-    ctx = context (madeWith h) (volumeOf h) m (reached h .past) s (logOf h)
-        (subst (λ (y : Power). Inv (Undamaged h) (madeWith h) (volumeOf h) (reached h .past) y (logOf h)) e i)
+    ctx = live h legal m s e
 
     pub displaced-spare : (j : ℕ) → j + h .records < length (durableOf h ++ logOf h .pending)
         → (j < length (durableOf h)) × (suc j ≤ entryOf (s .index) (at (durableOf h) j .page) .backup)

@@ -1,5 +1,5 @@
 -- Every legal history keeps the invariant, from Make on.
-use mathlib.Core.Path.{_≡_, refl, ap}
+use mathlib.Core.Path.{_≡_, refl, ap, subst}
 use mathlib.Core.Logic.{inl, inr, ⊎-elim}
 use mathlib.Core.Bool.{Bool, true, false, cond, not, _&&_, _||_}
 use mathlib.Core.List.{List, [], _∷_}
@@ -19,7 +19,7 @@ use Rattle.model.specs.Refusals.{makeRows}
 use Rattle.model.specs.Calls.{StoredItem, makeOf, refusalOf, outcomeOf}
 use Rattle.model.specs.AbstractLog.{AbstractLog, emptyLog}
 use Rattle.model.specs.History.{Power, off, on, Machine, Event, restart, perform, crash, crashIn, damage, lent, isImage, payloadFits, tornFits, passesAt, storedBefore, step, allowed, stepLog, freshMachine, allAllowed, run, logAfter}
-use Rattle.model.specs.Claim.{History, Legal, fresh, reached, logOf}
+use Rattle.model.specs.Claim.{History, Legal, fresh, reached, logOf, durableOf}
 use Rattle.model.specs.declared.geometry.Geometry.{Geometry}
 use Rattle.model.specs.declared.geometry.Heading.{Heading}
 use Rattle.model.specs.declared.state.State.{State}
@@ -158,3 +158,8 @@ module _ (h : History) (legal : Legal h) where
   pub tied : Tied (Undamaged h) (madeWith h) (reached h) (logOf h)
   unfolding reached logOf
   tied = all-steps (madeWith h) (Undamaged h) (h .events) (fresh h) emptyLog start-tied (λ c. c) (legal .events)
+
+  -- the machine that is on
+  pub live : (m : List ℕ) (s : State) → reached h .power ≡ on m s → Ctx (Undamaged h) (madeWith h) (reached h .volume) m (reached h .past) s (durableOf h) (logOf h .pending)
+  live m s e = context (madeWith h) (reached h .volume) m (reached h .past) s (logOf h)
+      (subst (λ (y : Power). Inv (Undamaged h) (madeWith h) (reached h .volume) (reached h .past) y (logOf h)) e tied)

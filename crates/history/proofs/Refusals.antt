@@ -15,9 +15,9 @@ use Rattle.model.specs.Geometry.{geometryOf}
 use Rattle.model.specs.Change.{fits}
 use Rattle.model.specs.Index.{entryOf, slotUsed}
 use Rattle.model.specs.Scan.{indexOf}
-use Rattle.model.specs.State.{frameCount, validMemory, held, blank, logFull, notesFull, notePending}
-use Rattle.model.specs.Refusals.{frameBlocked, pageDirty, notDurable, chainBroken, chainBelow, foundBelow, restartRows, beginRows, loadRows, changeRows, forceRows, writeRows, backupRows, noteRows, inspectRows}
-use Rattle.model.specs.Calls.{StoredItem, Outcome, decided, refusalOf, beginOf, loadOf, changeCall, forceOf, writeOf, backupOf, noteCall, noteStored, restartOf, inspectOf, Call, begin, load, change, force, write, backup, note, rowsOf, outcomeOf}
+use Rattle.model.specs.State.{frameCount, validMemory, holder, held, blank, logFull, notesFull, notePending}
+use Rattle.model.specs.Refusals.{frameBlocked, pageDirty, notDurable, chainBroken, chainBelow, foundBelow, restartRows, beginRows, loadRows, changeRows, forceRows, writeRows, backupRows, releaseRows, noteRows, inspectRows}
+use Rattle.model.specs.Calls.{StoredItem, Outcome, decided, refusalOf, beginOf, loadOf, changeCall, forceOf, writeOf, backupOf, releaseOf, noteCall, noteStored, restartOf, inspectOf, Call, begin, load, change, force, write, backup, release, note, rowsOf, outcomeOf}
 use Rattle.model.specs.AbstractLog.{Logged}
 use Rattle.model.specs.declared.geometry.Geometry.{Geometry}
 use Rattle.model.specs.declared.item.Note.{Note}
@@ -36,13 +36,14 @@ decided-refusal : (rows : List Row) (m : List ℕ) (s : State) (done : Outcome) 
 decided-refusal rows m s done z = byCases (eqb (firstOf rows) 0) (λ t. rw t (z ∙ sym (eqb-true (firstOf rows) 0 t))) (λ t. rw t)
 
 pub call-refusal : (c : Call) (v m : List ℕ) (s : State) → refusalOf (outcomeOf c v m s .answer) ≡ firstOf (rowsOf c v m s)
-unfolding beginOf loadOf changeCall forceOf writeOf backupOf noteCall
+unfolding beginOf loadOf changeCall forceOf writeOf backupOf releaseOf noteCall
 call-refusal (begin page f fill) v m s = decided-refusal (beginRows v m s page f) m s _ refl
 call-refusal (load page f) v m s = decided-refusal (loadRows v m s page f) m s _ refl
 call-refusal (change page c payload) v m s = decided-refusal (changeRows v m s page c) m s _ refl
 call-refusal force v m s = decided-refusal (forceRows v m s) m s _ (byCases (eqb (s .pending) 0) (λ t. rw t) (λ t. rw t))
 call-refusal (write page) v m s = decided-refusal (writeRows v m s page) m s _ (byCases (pageDirty s page) (λ t. rw t) (λ t. rw t))
 call-refusal (backup page b) v m s = decided-refusal (backupRows v m s page b) m s _ refl
+call-refusal (release page) v m s = decided-refusal (releaseRows v m s page) m s _ refl
 call-refusal note v m s = decided-refusal (noteRows v m s) m s _ (stored (s .note))
   where
     stored : (y : PendingNote) → refusalOf (noteStored v m s y .answer) ≡ 0
@@ -74,7 +75,7 @@ usual ts a b c d e = ordinary ts a b c d (none-other 19 (λ z. omega arith) ts e
 
 module _ {C : Type 0} {g : Geometry} {v m : List ℕ} {past : List StoredItem} {s : State} {k w : List Logged} (x : Ctx C g v m past s k w) where
   -- a call's own rows, after the rows 1 and 2
-  ownRows : Call → List Row
+  unfoldable pub ownRows : Call → List Row
   ownRows (begin page f fill) =
       (not (within (geometryOf v .pages) page), 3) ∷ (not (within (frameCount (length m)) f), 4) ∷ (not (blank s page), 9) ∷ (frameBlocked s f, 10) ∷ (eqb (s .pending) 16, 11)
       ∷ (logFull (geometryOf v) v s, 12) ∷ []
@@ -90,17 +91,19 @@ module _ {C : Type 0} {g : Geometry} {v m : List ℕ} {past : List StoredItem} {
   ownRows (backup page b) =
       (not (within (geometryOf v .pages) page), 3) ∷ (not (within (geometryOf v .slots) b), 5) ∷ (not (held s page), 8) ∷ (notePending (s .note), 13)
       ∷ (notesFull (geometryOf v) v s, 14) ∷ (notDurable m s page, 15) ∷ (slotUsed b (s .index), 16) ∷ []
+  ownRows (release page) = (not (within (geometryOf v .pages) page), 3) ∷ (not (held s page), 8) ∷ (frameBlocked s (holder s page), 10) ∷ []
   ownRows note = []
 
   -- the rows 1 and 2 do not hold
-  rows-are : (c : Call) → firstOf (rowsOf c v m s) ≡ firstOf (ownRows c)
-  unfolding ownRows beginRows loadRows changeRows forceRows writeRows backupRows noteRows
+  pub rows-are : (c : Call) → firstOf (rowsOf c v m s) ≡ firstOf (ownRows c)
+  unfolding ownRows beginRows loadRows changeRows forceRows writeRows backupRows releaseRows noteRows
   rows-are (begin page f fill) = rw (volume-ok x, memory-ok x, state-ok x)
   rows-are (load page f) = rw (volume-ok x, memory-ok x, state-ok x)
   rows-are (change page c payload) = rw (volume-ok x, memory-ok x, state-ok x)
   rows-are force = rw (volume-ok x, memory-ok x, state-ok x)
   rows-are (write page) = rw (volume-ok x, memory-ok x, state-ok x)
   rows-are (backup page b) = rw (volume-ok x, memory-ok x, state-ok x)
+  rows-are (release page) = rw (volume-ok x, memory-ok x, state-ok x)
   rows-are note = rw (volume-ok x, memory-ok x, state-ok x)
 
   own-ordinary : (c : Call) → Ordinary (firstOf (ownRows c))
@@ -112,6 +115,7 @@ module _ {C : Type 0} {g : Geometry} {v m : List ℕ} {past : List StoredItem} {
   own-ordinary force = usual [] tt tt tt tt tt
   own-ordinary (write page) = usual (ownRows (write page)) (omega arith) (omega arith) (omega arith) (omega arith) (omega arith)
   own-ordinary (backup page b) = usual (ownRows (backup page b)) (omega arith) (omega arith) (omega arith) (omega arith) (omega arith)
+  own-ordinary (release page) = usual (ownRows (release page)) (omega arith) (omega arith) (omega arith) (omega arith) (omega arith)
   own-ordinary note = usual [] tt tt tt tt tt
 
   pub call-ordinary : (c : Call) → Ordinary (refusalOf (outcomeOf c v m s .answer))

@@ -36,7 +36,7 @@ use Rattle.history.proofs.Loads.{Loaded, loads, loads-above, never-brok
 use Rattle.history.proofs.Inspection.{inspect-blank, inspect-durable, inspect-granted, inspect-exact, inspect-below}
 use Rattle.history.proofs.Disk.{first, first-is}
 use Rattle.history.proofs.Views.{Unserved}
-use Rattle.history.proofs.Reached.{Undamaged, madeWith, context, tied}
+use Rattle.history.proofs.Reached.{madeWith, tied, live}
 
 -- ---- one history: Inspect
 
@@ -91,7 +91,7 @@ module _ (h : History) (legal : Legal h) (p : ℕ) (lo : 1 ≤ p) (hi : p ≤ h 
 -- ---- one history: Load
 
 module _ {C : Type 0} {g : Geometry} {v m : List ℕ} {past : List StoredItem} {s : State} {k w : List Logged} (x : Ctx C g v m past s k w) (p f : ℕ) where
-  load-refusal : refusalOf (loadOf v m s p f .answer) ≡ firstOf (loadRows v m s p f)
+  pub load-refusal : refusalOf (loadOf v m s p f .answer) ≡ firstOf (loadRows v m s p f)
   unfolding loadOf
   load-refusal = byCases (eqb (firstOf (loadRows v m s p f)) 0) (λ t. rw t (sym (eqb-true (firstOf (loadRows v m s p f)) 0 t))) (λ t. rw t)
 
@@ -105,7 +105,7 @@ module _ {C : Type 0} {g : Geometry} {v m : List ℕ} {past : List StoredItem} {
         replay-last p (x .all) (length (x .all))
         ∙ (rw (same-last, x .al .log .split) (replay-append p k w (lastOf p k) (last-le p k (length k))) ∙ sym (replay-last p k (length k)))
 
-  loaded-bytes : firstOf (loadRows v m s p f) ≡ 0
+  pub loaded-bytes : firstOf (loadRows v m s p f) ≡ 0
       → (lastOf p k ≢ 0) × (frameBytes (loadOf v m s p f .memory) f ≡ frameImage p (lastOf p k) (bodyOf p k)) × (lastOf p (k ++ w) ≡ lastOf p k) × (bodyOf p (k ++ w) ≡ bodyOf p k)
   unfolding loadOf
   loaded-bytes e =
@@ -123,8 +123,7 @@ module _ {C : Type 0} {g : Geometry} {v m : List ℕ} {past : List StoredItem} {
 
 loads-is : (h : History) → Legal h → (m : List ℕ) (s : State) → reached h .power ≡ on m s → (p f : ℕ) → Loads h m s p f
 loads-is h legal m s e p f =
-    let x = context (madeWith h) (reached h .volume) m (reached h .past) s (logOf h)
-    (subst (λ (y : Power). Inv (Undamaged h) (madeWith h) (reached h .volume) (reached h .past) y (logOf h)) e (tied h legal)) in
+    let x = live h legal m s e in
     record {
       unbroken = λ z. never-broken x p f (sym (load-refusal x p f) ∙ z);
       below = λ z. rw (tied h legal .holds .vol .geo) (below-only x p f (sym (load-refusal x p f) ∙ z));

@@ -11,10 +11,11 @@ use Rattle.model.specs.Item.{imageLsn, imageBody, validImage, frameImage}
 use Rattle.model.specs.Index.{entryOf}
 use Rattle.model.specs.Scan.{indexOf}
 use Rattle.model.specs.State.{frameCount, validMemory, frameBytes, holder, held, wellFormed}
-use Rattle.model.specs.Calls.{Call, outcomeOf, restartOf, loadOf, refusalOf}
+use Rattle.model.specs.Refusals.{frameBlocked}
+use Rattle.model.specs.Calls.{Outcome, volumeAfter, Call, outcomeOf, restartOf, loadOf, releaseOf, refusalOf}
 use Rattle.model.specs.AbstractLog.{Logged, lastPlace, replay}
 use Rattle.model.specs.History.{on, isImage, storedBefore}
-use Rattle.model.specs.Claim.{History, Legal, reached, logOf, durableOf, inspection}
+use Rattle.model.specs.Claim.{History, Legal, reached, logOf, durableOf, inspection, Gone, Proviso}
 use Rattle.model.specs.declared.geometry.Geometry.{Geometry}
 use Rattle.model.specs.declared.state.State.{State}
 
@@ -102,6 +103,28 @@ pub record LivePage (h : History) (m : List ℕ) (s : State) (p : ℕ) : Type 0 
   pub frame : held s p ≡ true
       → frameBytes m (holder s p) ≡ frameImage p (lastPlace p (durableOf h ++ logOf h .pending)) (replay p (durableOf h ++ logOf h .pending))
 
+-- ---- a page that leaves its frame (document 02, §5)
+
+-- Release, of a page in a frame: it goes exactly if all the page's changes are durable, and is 10 otherwise; then the page is in no frame
+pub record Releases (h : History) (m : List ℕ) (s : State) (p : ℕ) : Type 0 where
+  pub free : lastPlace p (durableOf h ++ logOf h .pending) ≡ lastPlace p (durableOf h) → refusalOf (releaseOf (volumeOf h) m s p .answer) ≡ 0
+  pub blocked : lastPlace p (durableOf h ++ logOf h .pending) ≢ lastPlace p (durableOf h) → refusalOf (releaseOf (volumeOf h) m s p .answer) ≡ 10
+  pub gone : refusalOf (releaseOf (volumeOf h) m s p .answer) ≡ 0 → held (releaseOf (volumeOf h) m s p .state) p ≡ false
+
+-- the refusal of a Load of page p into frame f, in the machine that the call leaves
+abbrev pub reload : History → List ℕ → State → Call → ℕ → ℕ → Outcome
+reload h m s c p f = loadOf (volumeOf h) (outcomeOf c (volumeOf h) m s .memory) (outcomeOf c (volumeOf h) m s .state) p f
+
+-- "A user who opens that page must see the same text either way". A call took page p out of its frame: Release, or a Load or a Begin into
+-- that frame. The volume is as it was, and so is every inspection. A Load of the page into any frame, where it is not refused, gives the
+-- 256 bytes that the frame had. It is refused for its frame alone, or 23; and 23 only where record 1 has left and the page's proviso fails.
+pub record LetGo (h : History) (m : List ℕ) (s : State) (c : Call) (p : ℕ) : Type 0 where
+  pub volume : volumeAfter (volumeOf h) (outcomeOf c (volumeOf h) m s .stored) ≡ volumeOf h
+  pub text : (f : ℕ) → refusalOf (reload h m s c p f .answer) ≡ 0 → frameBytes (reload h m s c p f .memory) f ≡ frameBytes m (holder s p)
+  pub opens : (f : ℕ) → 1 ≤ f → f ≤ frameCount (length (outcomeOf c (volumeOf h) m s .memory)) → frameBlocked (outcomeOf c (volumeOf h) m s .state) f ≡ false
+      → (Gone h → Proviso h p) → refusalOf (reload h m s c p f .answer) ≡ 0
+  pub below : (f : ℕ) → refusalOf (reload h m s c p f .answer) ≡ 23 → Gone h × (Proviso h p → ⊥)
+
 -- ---- all of them
 
 pub record Facts : Type 0 where
@@ -115,6 +138,9 @@ pub record Facts : Type 0 where
   pub entries : (h : History) → Legal h → (m : List ℕ) (s : State) → reached h .power ≡ on m s → (p : ℕ) → 1 ≤ p → p ≤ h .pages → SameEntry h s p
   pub counts : (h : History) → Legal h → (m : List ℕ) (s : State) → reached h .power ≡ on m s → Counts h s
   pub live : (h : History) → Legal h → (m : List ℕ) (s : State) → reached h .power ≡ on m s → (p : ℕ) → 1 ≤ p → p ≤ h .pages → LivePage h m s p
+  pub releases : (h : History) → Legal h → (m : List ℕ) (s : State) → reached h .power ≡ on m s → (p : ℕ) → 1 ≤ p → p ≤ h .pages → held s p ≡ true → Releases h m s p
+  pub letsGo : (h : History) → Legal h → (m : List ℕ) (s : State) → reached h .power ≡ on m s → (c : Call) (p : ℕ) → 1 ≤ p → p ≤ h .pages
+      → held s p ≡ true → held (outcomeOf c (volumeOf h) m s .state) p ≡ false → LetGo h m s c p
   -- no two pages share a slot
   pub slots : (h : History) → Legal h → (p q : ℕ) → 1 ≤ p → p ≤ h .pages → 1 ≤ q → q ≤ h .pages → entryOf (indexOf (headingOf h) (volumeOf h)) p .slot ≢ 0
       → entryOf (indexOf (headingOf h) (volumeOf h)) p .slot ≡ entryOf (indexOf (headingOf h) (volumeOf h)) q .slot → p ≡ q

@@ -13,6 +13,10 @@ pub mod Replays
 pub mod Notes
 pub mod EmptyVolume
 pub mod WellFormed
+pub mod Frames
+pub mod FramePut
+pub mod Decided
 pub mod Demand1
+pub mod StaysFormed
 pub mod Health
 pub mod Detection

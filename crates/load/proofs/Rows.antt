@@ -15,25 +15,24 @@ use Rattle.model.specs.Geometry.{geometryOf}
 use Rattle.model.specs.Index.{entryOf}
 use Rattle.model.specs.Scan.{firstHeld}
 use Rattle.model.specs.Repair.{viewOf, walkOf, isBroken, isBelow}
-use Rattle.model.specs.State.{frameCount, frameOf, held, blank}
-use Rattle.model.specs.Refusals.{stateRows, loadRows}
+use Rattle.model.specs.State.{frameCount, held, blank}
+use Rattle.model.specs.Refusals.{frameBlocked, stateRows, loadRows}
 use Rattle.model.specs.declared.geometry.Geometry.{Geometry}
-use Rattle.model.specs.declared.state.Frame.{Frame}
 use Rattle.model.specs.declared.state.State.{State}
 use Rattle.model.specs.declared.answer.Stop.{Stop}
 
 -- the tests of the rows of Load's own
-pub own-is : (g : Geometry) (count : ℕ) (s : State) (page frame : ℕ) (none in-frame : Bool) (f : Frame) (b c d e k : ℕ)
+pub own-is : (g : Geometry) (count : ℕ) (s : State) (page frame : ℕ) (none in-frame blocked : Bool) (b c d e k : ℕ)
     → none ≡ blank s page
     → in-frame ≡ held s page
-    → f ≡ frameOf s frame
-    → b ≡ cond (f .dirty) 10 0
+    → blocked ≡ frameBlocked s frame
+    → b ≡ cond blocked 10 0
     → c ≡ cond in-frame 9 b
     → d ≡ cond none 7 c
     → e ≡ cond (not (within count frame)) 4 d
     → k ≡ cond (not (within (g .pages) page)) 3 e
     → k ≡ firstOf (loadTail g count s page frame)
-own-is g count s page frame none in-frame f b c d e k en eh ef eb ec ed ee ek = rw (ek, ee, ed, ec, eb, ef, eh, en)
+own-is g count s page frame none in-frame blocked b c d e k en eh ef eb ec ed ee ek = rw (ek, ee, ed, ec, eb, ef, eh, en)
 
 -- the rows 1 and 2, then those
 pub early-is : (v m : List ℕ) (s : State) (n : ℕ) (g : Geometry) (size count page frame rest r : ℕ) → n ≡ firstOf (stateRows v m s [])

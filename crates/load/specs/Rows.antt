@@ -1,7 +1,9 @@
--- Load's rows before the walk: those of its own, and with those of every call on the state. And its rows behind the walk.
+-- Load's rows before the walk: those of its own, and with those of every call on the state; its rows behind the walk.
+-- Release's own.
 use Prim.Native.Nat.{ℕ}
 use mathlib.Core.Bool.{not}
 use mathlib.Core.List.{List, [], _∷_}
+use lib.Dec.{ltb}
 use lib.ListN.{length}
 use Rattle.model.specs.Tables.{Row, within}
 use Rattle.model.specs.Geometry.{geometryOf}
@@ -23,3 +25,7 @@ earlyRows v m s page frame = stateRows v m s (loadTail (geometryOf v) (frameCoun
 -- of where the walk stopped
 abbrev pub walkTail : Stop → List Row
 walkTail stop = (isBroken stop, 19) ∷ (isBelow stop, 23) ∷ []
+
+-- Release's, for the frame f that holds the page, or 0
+abbrev pub releaseTail : Geometry → State → ℕ → ℕ → List Row
+releaseTail g s page f = (not (within (g .pages) page), 3) ∷ (not (ltb 0 f), 8) ∷ (frameBlocked s f, 10) ∷ []

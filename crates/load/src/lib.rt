@@ -1,4 +1,6 @@
-// Load: brings a page into a frame, repaired.
+// Load: brings a page into a frame, repaired. The module `release` lets it go again.
+pub mod release;
+
 ghost use mathlib.Core.Path.{_≡_};
 ghost use mathlib.Core.List.{List};
 ghost use Prim.Native.Nat.{ℕ, _+_, _≤_};
@@ -38,8 +40,8 @@ fn own(g: Geometry, count: usize, s: State, page: u32, frame: u32) -> u32
     let no_frame = !((1 <= frame) & (frame as usize <= count));
     let blank = entries::blank(s, page);
     let held = frames::held(s, page);
-    let dirty = frames::frame(s, frame).dirty;
-    let table = rows::first(blank, 7, rows::first(held, 9, rows::first(dirty, 10, 0)));
+    let blocked = frames::blocked(s, frame);
+    let table = rows::first(blank, 7, rows::first(held, 9, rows::first(blocked, 10, 0)));
     rows::first(outside, 3, rows::first(no_frame, 4, table))
 }
 
@@ -101,9 +103,9 @@ fn restore(
     answer::answer(volume, g, first, e, page, w)
 }
 
-// Loads a page; a clean page in the frame makes way.
-// Ruled out: a page that was repaired and is left clean (tried); the page put into another frame than the one named (tried); every page
-// blank (tried); every call refused (tried); 19 or 23 where the walk finds a start.
+// Loads a page; a page in the frame whose changes are durable makes way.
+// Ruled out: a page that was repaired and is left clean (tried); the page put into another frame than the one named
+// (tried); every page blank (tried); every call refused (tried); 19 or 23 where the walk finds a start.
 pub fn load(s: State, volume: &[u8], memory: &mut [u8], page: u32, frame: u32) -> Reply
     ensures reply { λ r. ⌜ r ≡ replyOf (loadOf (now (volume .entry)) (now (memory .entry)) s page frame) ⌝ }
     ensures memory { λ _. ⌜ now (memory .exit) ≡ loadOf (now (volume .entry)) (now (memory .entry)) s page frame .memory ⌝ }

@@ -1,4 +1,4 @@
--- The ten calls: what each answers, and what it makes of state, memory, volume and buffer. States document 01, "The calls". A call's outcome
+-- The calls: what each answers, and what it makes of state, memory, volume and buffer. States document 01, "The calls". A call's outcome
 -- holds at most one item to store, so that no call stores more, and a crash within it has one thing to tear.
 use Prim.Native.Nat.{ℕ, zero, suc, _+_, _-_, _*_}
 use mathlib.Core.Bool.{Bool, true, false, cond, _&&_, not}
@@ -15,7 +15,7 @@ use Rattle.model.specs.Index.{entryOf, setEntry, withLast, withDurable, 
 use Rattle.model.specs.Scan.{durableCount, firstHeld, noteCount, indexOf}
 use Rattle.model.specs.Repair.{viewOf, repairOf, rebuilt, classIn}
 use Rattle.model.specs.State.{pendingAt, pendingBytes, frameAt, frameBytes, zeroState, emptyFrame, lastNumber, lastNote, holder}
-use Rattle.model.specs.Refusals.{pageDirty, makeRows, restartRows, beginRows, loadRows, changeRows, forceRows, writeRows, backupRows, noteRows, inspectRows}
+use Rattle.model.specs.Refusals.{pageDirty, makeRows, restartRows, beginRows, loadRows, changeRows, forceRows, writeRows, backupRows, releaseRows, noteRows, inspectRows}
 use Rattle.model.specs.declared.geometry.Heading.{Heading}
 use Rattle.model.specs.declared.change.Change.{Change}
 use Rattle.model.specs.declared.change.Change.the-variants.{Format}
@@ -89,7 +89,8 @@ appendedMemory m s p c payload f image =
 
 -- ---- the calls
 
--- Begin: "first format of a blank page, added as a pending record, its frame dirty; a clean page in the frame makes way"
+-- Begin: "first format of a blank page, added as a pending record, its frame dirty"; a page in the frame makes way, dirty or not, but not
+-- one whose last number is above its last durable one: that is 10 (document 02, §5, in place of "a clean page in the frame makes way")
 unfoldable pub beginOf : List ℕ → List ℕ → State → ℕ → ℕ → ℕ → Outcome
 beginOf v m s page frame fill =
     decided (beginRows v m s page frame) m s
@@ -107,7 +108,7 @@ isGood Stale = false
 isGood Failed = false
 isGood Ahead = false
 
--- Load: "brings a page in, repaired. Dirty unless its class is Good. A clean page in the frame makes way"
+-- Load: "brings a page in, repaired. Dirty unless its class is Good"; a page in the frame makes way as for Begin
 unfoldable pub loadOf : List ℕ → List ℕ → State → ℕ → ℕ → Outcome
 loadOf v m s page frame =
     let g = geometryOf v in
@@ -197,6 +198,13 @@ backupOf v m s page slot =
       stored = oneItem (slotAt slot) (sealImage g x);
     })
 
+-- Release (document 02, §5: letting go of a page): "the frame is then empty, its bytes as they were"; nothing is stored, so that the image
+-- on disk stays old, and a later Load repairs it. A clean page may be let go too
+unfoldable pub releaseOf : List ℕ → List ℕ → State → ℕ → Outcome
+releaseOf v m s page =
+    decided (releaseRows v m s page) m s
+    (record { answer = Done; state = withFrames s (withFrame s (holder s page) 0 false) (s .note); memory = m; stored = nothing })
+
 -- the state once the pending note is stored: "only then does the index change"
 unfoldable pub notedState : State → Note → State
 notedState s n =
@@ -265,6 +273,7 @@ pub data Call : Type 0 where
   force : Call
   write : ℕ → Call
   backup : ℕ → ℕ → Call
+  release : ℕ → Call
   note : Call
 
 abbrev pub rowsOf : Call → List ℕ → List ℕ → State → List Row
@@ -274,6 +283,7 @@ rowsOf (change page c payload) v m s = changeRows v m s page c
 rowsOf force v m s = forceRows v m s
 rowsOf (write page) v m s = writeRows v m s page
 rowsOf (backup page slot) v m s = backupRows v m s page slot
+rowsOf (release page) v m s = releaseRows v m s page
 rowsOf note v m s = noteRows v m s
 
 abbrev pub outcomeOf : Call → List ℕ → List ℕ → State → Outcome
@@ -283,4 +293,5 @@ outcomeOf (change page c payload) v m s = changeCall v m s page c payload
 outcomeOf force v m s = forceOf v m s
 outcomeOf (write page) v m s = writeOf v m s page
 outcomeOf (backup page slot) v m s = backupOf v m s page slot
+outcomeOf (release page) v m s = releaseOf v m s page
 outcomeOf note v m s = noteCall v m s

@@ -14,7 +14,7 @@ use Rattle.model.specs.Item.{validImage, validSomewhere}
 use Rattle.model.specs.Index.{slotUsed}
 use Rattle.model.specs.Scan.{indexOf}
 use Rattle.model.specs.Refusals.{restartRows}
-use Rattle.model.specs.Calls.{StoredItem, nothing, oneItem, Outcome, volumeAfter, restartOf, makeOf, refusalOf, Call, begin, load, change, force, write, backup, note, rowsOf, outcomeOf}
+use Rattle.model.specs.Calls.{StoredItem, nothing, oneItem, Outcome, volumeAfter, restartOf, makeOf, refusalOf, Call, begin, load, change, force, write, backup, release, note, rowsOf, outcomeOf}
 use Rattle.model.specs.AbstractLog.{AbstractLog, emptyLog, Left, old, new, torn, forget, stepCall, stepCut}
 use Rattle.model.specs.declared.geometry.Geometry.{Geometry}
 use Rattle.model.specs.declared.geometry.Heading.{Heading}
@@ -112,6 +112,7 @@ payloadFits (change page c payload) = eqb (length payload) 44
 payloadFits force = true
 payloadFits (write page) = true
 payloadFits (backup page slot) = true
+payloadFits (release page) = true
 payloadFits note = true
 
 abbrev pub crashFits : Power → List ℕ → Call → Left → Bool

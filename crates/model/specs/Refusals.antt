@@ -1,4 +1,4 @@
--- The refusals of the ten calls: document 01's table turned on its side, one list of rows a call, in the order in which they are tested. The
+-- The refusals of the calls: document 01's table, with document 02's rows, turned on its side, one list of rows a call, in the order in which they are tested. The
 -- answer is the first row that holds.
 use Prim.Native.Nat.{ℕ, _+_}
 use mathlib.Core.Bool.{Bool, true, false, _&&_, not}
@@ -19,9 +19,14 @@ use Rattle.model.specs.declared.state.State.{State}
 
 -- ---- the rows' conditions, one name each
 
--- 10: frame f is dirty
+-- page p has a change that is not durable: its last number is above its last durable one
+abbrev pub pagePending : State → ℕ → Bool
+pagePending s p = ltb (entryOf (s .index) p .durable) (entryOf (s .index) p .last)
+
+-- 10: frame f's page has its last number above its last durable one (document 02, §5). An empty frame is free: page 0 has no entry, and
+-- `entryOf` would read page 1's
 abbrev pub frameBlocked : State → ℕ → Bool
-frameBlocked s f = frameOf s f .dirty
+frameBlocked s f = not (eqb (frameOf s f .page) 0) && pagePending s (frameOf s f .page)
 
 -- page p's frame is dirty
 abbrev pub pageDirty : State → ℕ → Bool
@@ -95,6 +100,11 @@ backupRows v m s page slot =
     stateRows v m s
     ((not (within (g .pages) page), 3) ∷ (not (within (g .slots) slot), 5) ∷ (not (held s page), 8) ∷ (notePending (s .note), 13)
     ∷ (notesFull g v s, 14) ∷ (notDurable m s page, 15) ∷ (slotUsed slot (s .index), 16) ∷ [])
+
+unfoldable pub releaseRows : List ℕ → List ℕ → State → ℕ → List Row
+releaseRows v m s page =
+    let g = geometryOf v in
+    stateRows v m s ((not (within (g .pages) page), 3) ∷ (not (held s page), 8) ∷ (frameBlocked s (holder s page), 10) ∷ [])
 
 unfoldable pub noteRows : List ℕ → List ℕ → State → List Row
 noteRows v m s = stateRows v m s []

@@ -8,5 +8,6 @@ pub enum Command {
     Force,
     Write { page: u32 },
     Backup { page: u32, slot: u32 },
+    Release { page: u32 },
     Note,
 }

@@ -1,15 +1,21 @@
 -- Laws of the frame table and the index: their lengths, the search for a page's frame.
 use Prim.Native.Nat.{ℕ, suc, _+_, _-_, _≤_, _<_}
 use mathlib.Core.Path.{_≡_, ap, sym, _∙_}
+use mathlib.Core.Bool.{_&&_, not}
 use mathlib.Core.List.{List, _∷_, map}
+use lib.Dec.{eqb, ltb}
 use lib.ListN.{length, drop, getD, length-map, drop-of-length-le, List·getD-eq-default}
 use lib.Seq.{drop-cons}
 use native.Mathlib.Numerals.{add-one}
 use native.Mathlib.Omega.{arith}
 use borrow.Author.Tests.{eq-eqb, ne-eqb}
 use Rattle.laws.proofs.Tables.{when-true, when-false}
-use Rattle.model.specs.State.{emptyFrame, holderFrom}
+use Rattle.model.specs.Index.{entryOf}
+use Rattle.model.specs.State.{emptyFrame, frameOf, holderFrom}
+use Rattle.model.specs.Refusals.{frameBlocked}
+use Rattle.model.specs.declared.state.Entry.{Entry}
 use Rattle.model.specs.declared.state.Frame.{Frame}
+use Rattle.model.specs.declared.state.State.{State}
 
 -- what owning an array of structs tells of its list
 pub length-mapped : (X Y : Type 0) (f : X → Y) (l : List X) (n : ℕ) → length (map f l) ≡ n → length l ≡ n
@@ -36,3 +42,8 @@ holder-end p fs i l = ap (λ (r : List Frame). holderFrom i p r) (drop-of-length
 -- a read past the end
 pub past-end : (A : Type 0) (xs : List A) (d : A) (n k i : ℕ) → length xs ≡ n → n ≤ k → k ≡ i → d ≡ getD xs i d
 past-end A xs d n k i h l e = sym (List·getD-eq-default xs d {n = i} (omega arith))
+
+-- row 10, from the frame's row and its page's entry
+pub blocked-is : (s : State) (i p : ℕ) (f : Frame) (e : Entry) → f ≡ frameOf s i → p ≡ f .page → e ≡ entryOf (s .index) p
+    → (not (eqb p 0) && ltb (e .durable) (e .last)) ≡ frameBlocked s i
+blocked-is s i p f e ef ep ee = rw (ee, ep, ef)

@@ -2,6 +2,8 @@
 ghost use mathlib.Core.Path.{_≡_};
 ghost use Prim.Native.Nat.{_-_, _<_};
 ghost use Rattle.model.specs.State.{frameOf, holderFrom, holder, held};
+ghost use Rattle.model.specs.Refusals.{frameBlocked};
+use crate::entries;
 use model::state::State;
 
 // The row of frame f, counted from 1; past the table an empty one.
@@ -46,4 +48,14 @@ pub fn held(s: State, page: u32) -> bool
     ensures { λ r. ⌜ r ≡ held s page ⌝ }
 {
     0 < holder(s, page)
+}
+
+// Whether the page of frame f may not leave it: its last number is above its last durable one. An empty frame is free.
+pub fn blocked(s: State, f: u32) -> bool
+    ensures { λ r. ⌜ r ≡ frameBlocked s f ⌝ }
+{
+    let row = frame(s, f);
+    let page = crate::wide(row.page);
+    let e = entries::entry(s, page);
+    (page != 0) & (e.durable < e.last)
 }

@@ -1,4 +1,4 @@
--- What a call does not touch: Begin, Load and Change leave the volume as it was, Force, Write, Backup and Note the memory.
+-- What a call does not touch: Begin, Load, Change and Release leave the volume as it was, Force, Write, Backup, Release and Note the memory.
 use Prim.Native.Nat.{ℕ}
 use mathlib.Core.Path.{_≡_, refl, sym}
 use mathlib.Core.Bool.{Bool, cond}
@@ -7,8 +7,8 @@ use lib.Dec.{eqb}
 use Rattle.laws.proofs.Tables.{byCases}
 use Rattle.model.specs.Tables.{Row, firstOf}
 use Rattle.model.specs.Calls.{nothing, Outcome, volumeAfter, unchanged, decided, noteStored}
-use Rattle.model.specs.Calls.{beginOf, loadOf, changeCall, forceOf, writeOf, backupOf, noteCall}
-use Rattle.model.specs.Refusals.{beginRows, loadRows, changeRows, forceRows, writeRows, backupRows, noteRows, pageDirty}
+use Rattle.model.specs.Calls.{beginOf, loadOf, changeCall, forceOf, writeOf, backupOf, releaseOf, noteCall}
+use Rattle.model.specs.Refusals.{beginRows, loadRows, changeRows, forceRows, writeRows, backupRows, releaseRows, noteRows, pageDirty}
 use Rattle.model.specs.declared.change.Change.{Change}
 use Rattle.model.specs.declared.answer.Answer.{Answer}
 use Rattle.model.specs.declared.state.State.{State}
@@ -52,6 +52,14 @@ module _ (v m : List ℕ) (s : State) where
   pub backup-memory : (page slot : ℕ) → m ≡ backupOf v m s page slot .memory
   unfolding backupOf
   backup-memory page slot = same-memory (backupRows v m s page slot) _ refl
+
+  pub release-volume : (page : ℕ) → v ≡ volumeAfter v (releaseOf v m s page .stored)
+  unfolding releaseOf
+  release-volume page = same-volume (releaseRows v m s page) _ refl
+
+  pub release-memory : (page : ℕ) → m ≡ releaseOf v m s page .memory
+  unfolding releaseOf
+  release-memory page = same-memory (releaseRows v m s page) _ refl
 
   noted : (p : PendingNote) → noteStored v m s p .memory ≡ m
   noted Absent = refl

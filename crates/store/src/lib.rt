@@ -1,4 +1,4 @@
-// The page store: a state, and the ten calls of document 01 on it, Make under either heading. Make, Restart and Inspect
+// The page store: a state, and the calls on it, Make under either heading. Make, Restart and Inspect
 // take no state; the others take it by value and give the next one back. `perform` makes any of those by a command: it
 // is the step that histories, and so the theorems about them, are made of.
 //
@@ -10,7 +10,7 @@ ghost use Rattle.store.specs.Store.{wrapped, performed};
 ghost use Rattle.model.specs.declared.geometry.Heading.the-variants.{First, Second};
 ghost use Rattle.model.specs.Calls.{replyOf, volumeAfter};
 ghost use Rattle.model.specs.Calls.{makeOf, restartOf, beginOf, loadOf, changeCall, forceOf, writeOf, backupOf};
-ghost use Rattle.model.specs.Calls.{noteCall, inspectOf};
+ghost use Rattle.model.specs.Calls.{releaseOf, noteCall, inspectOf};
 use model::answer::Answer;
 use model::answer::Reply;
 use model::change::Change;
@@ -90,12 +90,13 @@ impl Store {
             Command::Force => self.force(volume, memory),
             Command::Write { page } => self.write(volume, memory, page),
             Command::Backup { page, slot } => self.backup(volume, memory, page, slot),
+            Command::Release { page } => self.release(volume, memory, page),
             Command::Note => self.note(volume, memory),
         }
     }
 
     // Begins a blank page in a frame. Ruled out: 12 on an empty log; a record given that will displace one that is still
-    // needed; a dirty frame's page that leaves it.
+    // needed; a page with a pending change that leaves its frame.
     pub fn begin(
         self,
         volume: &[u8],
@@ -190,6 +191,16 @@ impl Store {
     {
         let s = self.state;
         wrap(persist::backup::backup(s, volume, memory, page, slot))
+    }
+
+    // Lets go of a page: its frame is empty, nothing is stored. Ruled out: a page with a pending change let go; a dirty
+    // page refused.
+    pub fn release(self, volume: &[u8], memory: &[u8], page: u32) -> Returned
+        ensures outcome { λ r.
+            ⌜ r ≡ wrapped (replyOf (releaseOf (now (volume .entry)) (now (memory .entry)) (self .state) page)) ⌝ }
+    {
+        let s = self.state;
+        wrap(load::release::release(s, volume, memory, page))
     }
 
     // Stores the pending note and enters it in the index. Ruled out: Nothing with a note pending; a note stored in

@@ -10,8 +10,8 @@ blank-requires c κs = search needs
 held-requires : tie.Need-held-requires
 held-requires c κs = search needs
 
-frame-requires : tie.Need-frame-requires
-frame-requires c κs = search needs
+blocked-requires : tie.Need-blocked-requires
+blocked-requires c κs = search needs
 
 first-requires : tie.Need-first-requires
 first-requires c κs = search needs
@@ -33,7 +33,7 @@ returns c =
     let l = c .before .before .before .before .before in
     let s = l .before .before .before .before in
     own-is (s .args .g) (s .args .count) (s .args .s) (s .args .page) (s .args .frame) _ _ _ _ _ _ _ _ (l .before .before .blank .ensures)
-    (l .before .held .ensures) (l .frame .ensures) (c .before .before .before .before .first .ensures) (c .before .before .before .first2 .ensures)
+    (l .before .held .ensures) (l .blocked .ensures) (c .before .before .before .before .first .ensures) (c .before .before .before .first2 .ensures)
     (c .before .before .first3 .ensures) (c .before .first4 .ensures) (c .first5 .ensures)
 
 pub own-spec : {M : Type 1} → statement M
@@ -42,7 +42,7 @@ own-spec =
     (tie.spec
     blank-requires
     held-requires
-    frame-requires
+    blocked-requires
     first-requires
     first-requires-2
     first-requires-3

@@ -8,8 +8,8 @@ use Rattle.append.proofs.begin.own.Tie as tie
 blank-requires : tie.Need-blank-requires
 blank-requires c κs = search needs
 
-frame-requires : tie.Need-frame-requires
-frame-requires c κs = search needs
+blocked-requires : tie.Need-blocked-requires
+blocked-requires c κs = search needs
 
 refusal-requires : tie.Need-refusal-requires
 refusal-requires c κs = search needs
@@ -31,7 +31,7 @@ returns c =
     let l = c .before .before .before .before in
     let s = l .before .before .before .before .before in
     begin-own (s .args .g) (now (s .args .volume)) (s .args .count) (s .args .s) (s .args .page) (s .args .frame) _ _ _ _ _ _ _ (l .before .before .blank .ensures)
-    (l .before .frame .ensures)
+    (l .before .blocked .ensures)
     (l .refusal .ensures) (c .before .before .before .first .ensures) (c .before .before .first2 .ensures) (c .before .first3 .ensures)
     (c .first4 .ensures)
 
@@ -40,7 +40,7 @@ own-spec =
     tie.close
     (tie.spec
     blank-requires
-    frame-requires
+    blocked-requires
     refusal-requires
     first-requires
     first-requires-2

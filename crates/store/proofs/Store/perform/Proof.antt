@@ -1,5 +1,5 @@
 -- `store::Store::perform` meets its contract: the call's own, and what that call does not touch.
-use Rattle.store.proofs.Steps.{begin-volume, load-volume, change-volume, force-memory, write-memory, backup-memory, note-memory}
+use Rattle.store.proofs.Steps.{begin-volume, load-volume, change-volume, force-memory, write-memory, backup-memory, release-volume, release-memory, note-memory}
 use borrow.Author.Needs.{needs}
 use Rattle.store.proofs.Store.perform.Statement.{statement}
 use Rattle.store.proofs.Store.perform.Tie as tie
@@ -39,6 +39,12 @@ enum-known-command-5 c = search needs
 
 backup-requires : tie.Need-backup-requires
 backup-requires c κs = search needs
+
+enum-known-command-6 : tie.Need-enum-known-command-6
+enum-known-command-6 c = search needs
+
+release-requires : tie.Need-release-requires
+release-requires c κs = search needs
 
 enum-told-2 : tie.Need-enum-told-2
 enum-told-2 c = search needs
@@ -126,6 +132,17 @@ same-length-14 c = search needs
 
 returns-7 : tie.Need-returns-7
 returns-7 c =
+    let k = c .before .before .before .before in
+    rw (k .command6 .given .1) (c .release .ensures, (release-memory _ _ _ _, release-volume _ _ _ _))
+
+same-length-15 : tie.Need-same-length-15
+same-length-15 c = search needs
+
+same-length-16 : tie.Need-same-length-16
+same-length-16 c = search needs
+
+returns-8 : tie.Need-returns-8
+returns-8 c =
     let k = c .before .before .before .before .before in
     let e = c .before .before .note .ensures in
     rw (k .enum-told2 .given .1) (e .0, (note-memory _ _ _, e .1))
@@ -146,6 +163,8 @@ perform-spec =
     write-requires
     enum-known-command-5
     backup-requires
+    enum-known-command-6
+    release-requires
     enum-told-2
     note-requires
     same-length
@@ -168,4 +187,7 @@ perform-spec =
     returns-6
     same-length-13
     same-length-14
-    returns-7)
+    returns-7
+    same-length-15
+    same-length-16
+    returns-8)

@@ -1,0 +1,34 @@
+-- Which calls keep a well-formed state well formed (document 01: sound), on any volume and memory, in a history or not: all but Force and
+-- Note. A Force goes by the page that the oldest pending record names as it lies in memory, and a Note by the page and lsn of the pending
+-- note: in a history these agree with the index, elsewhere they need not. The value of the type is proved in the crate `laws`.
+use Prim.Native.Nat.{ℕ}
+use mathlib.Core.Path.{_≡_}
+use mathlib.Core.Bool.{Bool, true, false}
+use mathlib.Core.List.{List}
+use lib.ListN.{length}
+use Rattle.model.specs.Geometry.{geometryOf}
+use Rattle.model.specs.State.{frameCount, wellFormed}
+use Rattle.model.specs.Calls.{volumeAfter, Call, begin, load, change, force, write, backup, release, note, outcomeOf}
+use Rattle.model.specs.Demand1.{Arrays}
+use Rattle.model.specs.declared.state.State.{State}
+
+-- the call enters in the index what it stores
+abbrev pub entersIndex : Call → Bool
+entersIndex (begin page frame fill) = false
+entersIndex (load page frame) = false
+entersIndex (change page c payload) = false
+entersIndex force = true
+entersIndex (write page) = false
+entersIndex (backup page slot) = false
+entersIndex (release page) = false
+entersIndex note = true
+
+-- the state that a call leaves, judged by the volume that it leaves and the frames of the memory lent
+pub record StaysFormed (c : Call) (v m : List ℕ) (s : State) : Type 0 where
+  pub arrays : Arrays (outcomeOf c v m s .state)
+  pub state : wellFormed (geometryOf (volumeAfter v (outcomeOf c v m s .stored))) (frameCount (length m)) (outcomeOf c v m s .state) ≡ true
+
+abbrev pub KeepsWellFormed : Type 0
+KeepsWellFormed =
+    (c : Call) → entersIndex c ≡ false → (v m : List ℕ) (s : State) → Arrays s → wellFormed (geometryOf v) (frameCount (length m)) s ≡ true
+    → StaysFormed c v m s
