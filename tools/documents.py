@@ -48,16 +48,20 @@ def orders():
     return {call: [int(n) for n in re.findall(r"\d+", row)] for names, row in rows for call in names.split(", ")}
 
 
+# rows that calls share, before or behind their own
+SHARED = ("state", "log", "scan", "whole")
+
+
 def defined_orders():
     """What Refusals.antt has for each call: the numbers of its rows, each once."""
-    text = re.sub(r"--.*", "", read("crates/model/specs/Refusals.antt"))
+    text = re.sub(r"--.*", "", read("crates/model/specs/Reading.antt") + read("crates/model/specs/Refusals.antt"))
     bodies = {name: body for name, body in re.findall(r"^(\w+)Rows(?! :)(.*(?:\n .*)*)", text, re.M)}
 
     def numbers(body):
         words = re.findall(r"\b(\w+)Rows\b|, (\d+)\)", body)
         return list(itertools.chain(*(numbers(bodies[other]) if other else [int(n)] for other, n in words)))
 
-    return {name: list(dict.fromkeys(numbers(body))) for name, body in bodies.items() if name != "state"}
+    return {name: list(dict.fromkeys(numbers(body))) for name, body in bodies.items() if name not in SHARED}
 
 
 def check_refusals():

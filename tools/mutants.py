@@ -36,7 +36,11 @@ use lib.Dec.{T}
 use lib.Text.{eqt}
 use Rattle.cases.specs.Opened.{opened}
 use Rattle.cases.specs.Rows.{Row, same}
-use Rattle.cases.specs.All.{diskRows, callRows, rows}
+use Rattle.cases.specs.All.{rows, diskRows, callRows, laterRows}
+use Rattle.cases.specs.Forecasts.{forecastRows}
+use Rattle.cases.specs.Archives.{archiveRows}
+use Rattle.cases.specs.Mirrors.{mirrorRows}
+use Rattle.cases.specs.Neighbours.{neighbourRows}
 use Rattle.cases.specs.Worked.{Worked, computes}
 use Rattle.cases.specs.Histories.{histories}
 
@@ -49,6 +53,8 @@ history : String → List Worked → Bool
 history n [] = true
 history n (w ∷ ws) = let rest = history n ws in let here = cond (computes w) rest false in cond (eqt (w .name) n) here rest
 """
+# what a row's test unfolds: the table's parts, and all that they compute with
+OPENED = "opened rows diskRows callRows laterRows forecastRows archiveRows mirrorRows neighbourRows histories"
 # errors that say that an edit is no definition, and nothing of what it means
 NOT_READ = re.compile(
     r"Parse|cannot be named|not in scope|unknown name|was not admitted|cannot be unfolded|has no `|components"
@@ -105,7 +111,7 @@ def write_probe(to, rows, names):
     text = PROBE
     for i, name in enumerate(names):
         kind, of = ("row", "rows") if name in rows else ("history", "histories")
-        text += f'\ncaught-{i} : T ({kind} "{name}" {of})\nunfolding opened diskRows callRows rows histories {kind}\ncaught-{i} = tt\n'
+        text += f'\ncaught-{i} : T ({kind} "{name}" {of})\nunfolding {OPENED} {kind}\ncaught-{i} = tt\n'
     (to / "crates/cases/proofs/Probe.antt").write_text(text)
 
 
@@ -127,7 +133,7 @@ def try_cases(to, rows, names):
     status, errors, out = check("cases", to)
     caught = []
     for path, text in errors:
-        hit = re.match(r"`caught-(\d+)`: (?:expected type|computed as far as they go, the two types are `Prim.⊥`|.*type mismatch)", text)
+        hit = re.match(r"`caught-(\d+)`: (?:expected type|.*type mismatch|.*the two types are `Prim\.⊥` \(expected\))", text)
         if path.endswith("/Probe.antt") and hit and "step limit" not in text:
             caught.append(names[int(hit.group(1))])
         elif "step limit" not in text:

@@ -5,7 +5,11 @@ use mathlib.Core.Bool.{Bool, true, false, _&&_}
 use mathlib.Core.List.{List, [], _∷_, _++_}
 use lib.Dec.{T, eqb, eqb→eq}
 use Rattle.cases.specs.Rows.{Row, same, every, Hold}
-use Rattle.cases.specs.All.{diskRows, callRows, rows}
+use Rattle.cases.specs.All.{diskRows, callRows, laterRows, rows}
+use Rattle.cases.specs.Forecasts.{forecastRows}
+use Rattle.cases.specs.Archives.{archiveRows}
+use Rattle.cases.specs.Mirrors.{mirrorRows}
+use Rattle.cases.specs.Neighbours.{neighbourRows}
 use Rattle.cases.specs.Rings.{ringRows, ringEvents}
 
 pub left : (a b : Bool) → T (a && b) → T a
@@ -40,9 +44,29 @@ call-cases : Hold callRows
 unfolding callRows
 call-cases = all callRows tt
 
+forecast-cases : Hold forecastRows
+unfolding forecastRows
+forecast-cases = all forecastRows tt
+
+archive-cases : Hold archiveRows
+unfolding archiveRows
+archive-cases = all archiveRows tt
+
+mirror-cases : Hold mirrorRows
+unfolding mirrorRows
+mirror-cases = all mirrorRows tt
+
+neighbour-cases : Hold neighbourRows
+unfolding neighbourRows
+neighbour-cases = all neighbourRows tt
+
 pub cases : Hold rows
-unfolding rows
-cases = joined diskRows callRows disk-cases call-cases
+unfolding rows laterRows
+cases =
+    joined diskRows (callRows ++ laterRows) disk-cases
+    (joined callRows laterRows call-cases
+    (joined forecastRows (archiveRows ++ (mirrorRows ++ neighbourRows)) forecast-cases
+    (joined archiveRows (mirrorRows ++ neighbourRows) archive-cases (joined mirrorRows neighbourRows mirror-cases neighbour-cases))))
 
 pub ring-cases : Hold ringRows
 unfolding ringRows

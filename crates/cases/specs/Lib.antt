@@ -15,4 +15,8 @@ pub mod Allowed
 pub mod Naive
 pub mod Traps
 pub mod Rings
+pub mod Forecasts
+pub mod Archives
+pub mod Mirrors
+pub mod Neighbours
 pub mod All

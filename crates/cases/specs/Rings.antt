@@ -1,5 +1,6 @@
--- The small table of the ring: what the scan finds in four slots, in order: n is the record of that number, 0 a zero slot, 99 a torn one.
--- Each row gives the count, the run start, whether the log is valid, and whether record 1 has left.
+-- The small table of the ring: what the scan finds in four slots, in order: n is the record of that number, 0 a zero
+-- slot, 99 a torn one. Each row gives the count, the run start, whether the log is valid, and whether record 1 has
+-- left.
 use Prim.Native.Nat.{ℕ, suc, _+_, _-_}
 use mathlib.Core.Bool.{Bool, true, false, cond}
 use mathlib.Core.List.{List, [], _∷_, _++_}

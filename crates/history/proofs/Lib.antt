@@ -30,3 +30,5 @@ pub mod LetGo
 pub mod Facts
 pub mod Health
 pub mod Lost
+pub mod Archive
+pub mod Mirror

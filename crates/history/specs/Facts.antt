@@ -1,5 +1,5 @@
--- Facts of every legal history, beside demands 2 and 3: which refusals never come, that the state is well formed, that every image that
--- was stored is a replay, and what the index says. Their values are in proofs/.
+-- Facts of every legal history, beside demands 2 and 3: which refusals never come, that the state is well formed, that
+-- every image that was stored is a replay, and what the index says. Their values are in proofs/.
 use Prim.Native.Nat.{ℕ, _≤_}
 use mathlib.Core.Path.{_≡_}
 use mathlib.Core.Logic.{_≢_}
@@ -67,7 +67,8 @@ pub record StoredImage (h : History) (x : List ℕ) : Type 0 where
   pub valid : validImage (headingOf h) page x ≡ true
   pub is-replay : IsReplay page (durableOf h) x
 
--- a page's own image: where it is valid it is a replay, and no newer than the page's last durable change; so its class is never Ahead
+-- a page's own image: where it is valid it is a replay, and no newer than the page's last durable change; so its class
+-- is never Ahead
 pub record OwnImage (h : History) (p : ℕ) : Type 0 where
   pub is-replay : validImage (headingOf h) p (item (headingOf h) (volumeOf h) (pageAt p)) ≡ true → IsReplay p (durableOf h) (item (headingOf h) (volumeOf h) (pageAt p))
   pub not-above : validImage (headingOf h) p (item (headingOf h) (volumeOf h) (pageAt p)) ≡ true
@@ -97,7 +98,8 @@ pub record Counts (h : History) (s : State) : Type 0 where
   pub pending : s .pending ≡ length (logOf h .pending)
   pub few : length (logOf h .pending) ≤ 16
 
--- of page p, over the durable and the pending changes: its last number; and a frame that holds it holds its replay, check bytes zero
+-- of page p, over the durable and the pending changes: its last number; and a frame that holds it holds its replay,
+-- check bytes zero
 pub record LivePage (h : History) (m : List ℕ) (s : State) (p : ℕ) : Type 0 where
   pub last : entryOf (s .index) p .last ≡ lastPlace p (durableOf h ++ logOf h .pending)
   pub frame : held s p ≡ true
@@ -105,7 +107,8 @@ pub record LivePage (h : History) (m : List ℕ) (s : State) (p : ℕ) : Type 0 
 
 -- ---- a page that leaves its frame (document 02, §5)
 
--- Release, of a page in a frame: it goes exactly if all the page's changes are durable, and is 10 otherwise; then the page is in no frame
+-- Release, of a page in a frame: it goes exactly if all the page's changes are durable, and is 10 otherwise; then the
+-- page is in no frame
 pub record Releases (h : History) (m : List ℕ) (s : State) (p : ℕ) : Type 0 where
   pub free : lastPlace p (durableOf h ++ logOf h .pending) ≡ lastPlace p (durableOf h) → refusalOf (releaseOf (volumeOf h) m s p .answer) ≡ 0
   pub blocked : lastPlace p (durableOf h ++ logOf h .pending) ≢ lastPlace p (durableOf h) → refusalOf (releaseOf (volumeOf h) m s p .answer) ≡ 10
@@ -115,9 +118,10 @@ pub record Releases (h : History) (m : List ℕ) (s : State) (p : ℕ) : Type 0 
 abbrev pub reload : History → List ℕ → State → Call → ℕ → ℕ → Outcome
 reload h m s c p f = loadOf (volumeOf h) (outcomeOf c (volumeOf h) m s .memory) (outcomeOf c (volumeOf h) m s .state) p f
 
--- "A user who opens that page must see the same text either way". A call took page p out of its frame: Release, or a Load or a Begin into
--- that frame. The volume is as it was, and so is every inspection. A Load of the page into any frame, where it is not refused, gives the
--- 256 bytes that the frame had. It is refused for its frame alone, or 23; and 23 only where record 1 has left and the page's proviso fails.
+-- "A user who opens that page must see the same text either way". A call took page p out of its frame: Release, or a
+-- Load or a Begin into that frame. The volume is as it was, and so is every inspection. A Load of the page into any
+-- frame, where it is not refused, gives the 256 bytes that the frame had. It is refused for its frame alone, or 23; and
+-- 23 only where record 1 has left and the page's proviso fails.
 pub record LetGo (h : History) (m : List ℕ) (s : State) (c : Call) (p : ℕ) : Type 0 where
   pub volume : volumeAfter (volumeOf h) (outcomeOf c (volumeOf h) m s .stored) ≡ volumeOf h
   pub text : (f : ℕ) → refusalOf (reload h m s c p f .answer) ≡ 0 → frameBytes (reload h m s c p f .memory) f ≡ frameBytes m (holder s p)

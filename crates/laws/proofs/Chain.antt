@@ -17,7 +17,7 @@ use Rattle.model.specs.Repair.{View, chainRecord, walkFrom, walkOf, ownStart, b
 use Rattle.model.specs.declared.geometry.Geometry.{Geometry}
 
 -- a record that may be read names a lower number
-chain-falls : (p n : ℕ) (r : List ℕ) → chainRecord p n r ≡ true → recordOf r .prev < n
+pub chain-falls : (p n : ℕ) (r : List ℕ) → chainRecord p n r ≡ true → recordOf r .prev < n
 unfolding chainRecord
 chain-falls p n r h =
     let e = recordOf r in

@@ -20,3 +20,14 @@ pub mod Demand1
 pub mod StaysFormed
 pub mod Health
 pub mod Detection
+pub mod Walks
+pub mod Scans
+pub mod Forecast
+pub mod Scanned
+pub mod Sections
+pub mod Archive
+pub mod Area
+pub mod Mirror
+pub mod Noted
+pub mod Neighbours
+pub mod Same

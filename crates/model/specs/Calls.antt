@@ -1,5 +1,6 @@
--- The calls: what each answers, and what it makes of state, memory, volume and buffer. States document 01, "The calls". A call's outcome
--- holds at most one item to store, so that no call stores more, and a crash within it has one thing to tear.
+-- The calls: what each answers, and what it makes of state, memory, volume and buffer. States document 01, "The calls".
+-- A call's outcome holds at most one item to store, so that no call stores more, and a crash within it has one thing to
+-- tear.
 use Prim.Native.Nat.{ℕ, zero, suc, _+_, _-_, _*_}
 use mathlib.Core.Bool.{Bool, true, false, cond, _&&_, not}
 use mathlib.Core.List.{List, [], _∷_, _++_}
@@ -89,8 +90,9 @@ appendedMemory m s p c payload f image =
 
 -- ---- the calls
 
--- Begin: "first format of a blank page, added as a pending record, its frame dirty"; a page in the frame makes way, dirty or not, but not
--- one whose last number is above its last durable one: that is 10 (document 02, §5, in place of "a clean page in the frame makes way")
+-- Begin: "first format of a blank page, added as a pending record, its frame dirty"; a page in the frame makes way,
+-- dirty or not, but not one whose last number is above its last durable one: that is 10 (document 02, §5, in place of
+-- "a clean page in the frame makes way")
 unfoldable pub beginOf : List ℕ → List ℕ → State → ℕ → ℕ → ℕ → Outcome
 beginOf v m s page frame fill =
     decided (beginRows v m s page frame) m s
@@ -138,8 +140,8 @@ changeCall v m s page c payload =
       stored = nothing;
     })
 
--- the state once the oldest pending record, of page p, is stored: "its number, durable + 1, becomes its page's newest durable (no entry
--- changes if that page isn't 1 to P)"
+-- the state once the oldest pending record, of page p, is stored: "its number, durable + 1, becomes its page's newest
+-- durable (no entry changes if that page isn't 1 to P)"
 unfoldable pub forcedState : State → ℕ → ℕ → State
 forcedState s pages p =
     record {
@@ -198,8 +200,8 @@ backupOf v m s page slot =
       stored = oneItem (slotAt slot) (sealImage g x);
     })
 
--- Release (document 02, §5: letting go of a page): "the frame is then empty, its bytes as they were"; nothing is stored, so that the image
--- on disk stays old, and a later Load repairs it. A clean page may be let go too
+-- Release (document 02, §5: letting go of a page): "the frame is then empty, its bytes as they were"; nothing is
+-- stored, so that the image on disk stays old, and a later Load repairs it. A clean page may be let go too
 unfoldable pub releaseOf : List ℕ → List ℕ → State → ℕ → Outcome
 releaseOf v m s page =
     decided (releaseRows v m s page) m s
@@ -225,7 +227,8 @@ restartState v =
     let g = geometryOf v in
     record { durable = durableCount g v; pending = 0; notes = noteCount g v; note = Absent; frames = replicate 16 emptyFrame; index = indexOf g v }
 
--- Restart: "reads the volume, stores nothing, zeroes the memory, gives the state"; "A refused Restart gives a state of zeros"
+-- Restart: "reads the volume, stores nothing, zeroes the memory, gives the state"; "A refused Restart gives a state of
+-- zeros"
 unfoldable pub restartOf : List ℕ → List ℕ → Outcome
 restartOf v m =
     decided (restartRows v m) m zeroState
@@ -236,8 +239,8 @@ pub record Made : Type 0 where
   pub answer : Answer
   pub volume : List ℕ
 
--- Make: "writes headings and zeros", the heading first of them. A call asks for the second heading; the first is left for histories that
--- begin with it.
+-- Make: "writes headings and zeros", the heading first of them. A call asks for the second heading; the first is left
+-- for histories that begin with it.
 unfoldable pub makeOf : Heading → List ℕ → ℕ → ℕ → ℕ → ℕ → Made
 makeOf h v p b l n =
     let no = firstOf (makeRows v p b l n) in

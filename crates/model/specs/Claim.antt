@@ -23,7 +23,8 @@ use Rattle.model.specs.History.{Power, off, on, Machine, Event, freshMac
 use Rattle.model.specs.declared.geometry.Heading.{Heading}
 use Rattle.model.specs.declared.state.State.{State}
 
--- A whole history: what Make was given, and the events after it. "A history may still begin with the Make of the first heading."
+-- A whole history: what Make was given, and the events after it. "A history may still begin with the Make of the first
+-- heading."
 pub record History : Type 0 where
   pub heading : Heading
   pub found : List ℕ
@@ -54,8 +55,8 @@ durableOf h = logOf h .durable
 
 -- ---- the proviso
 
--- page p's start is there: no backup is noted, or the slot's image is valid as p's with the noted number, or the own image is with a number
--- at or above it
+-- page p's start is there: no backup is noted, or the slot's image is valid as p's with the noted number, or the own
+-- image is with a number at or above it
 abbrev pub startStands : Geometry → List ℕ → Entry → ℕ → Bool
 startStands g v e p =
     eqb (e .slot) 0

@@ -1,9 +1,9 @@
--- What the byte sum detects, as types. States of document 02, section 3: "A change within one 16-bit word of such an image, ahead of the
--- check, must now always be caught". Stronger than asked: the two bytes may stand at any place, even or odd, and in an item of any size. The
--- values of these types are proved in the crate `laws`.
+-- What the byte sum detects, as types. States of document 02, section 3: "A change within one 16-bit word of such an
+-- image, ahead of the check, must now always be caught". Stronger than asked: the two bytes may stand at any place,
+-- even or odd, and in an item of any size. The values of these types are proved in the crate `laws`.
 --
--- It says nothing of changes in two words (three bytes changed by +1, -2, +1 leave both sums), nor of the word sum, under which a word of 0000
--- and one of FFFF weigh alike: `cases` computes an example of each.
+-- It says nothing of changes in two words (three bytes changed by +1, -2, +1 leave both sums), nor of the word sum,
+-- under which a word of 0000 and one of FFFF weigh alike: `cases` computes an example of each.
 use Prim.Native.Nat.{ℕ, _+_, _≤_, _<_}
 use mathlib.Core.Path.{_≡_}
 use mathlib.Core.Logic.{_≢_}
@@ -24,7 +24,8 @@ use Rattle.model.specs.declared.answer.Class.the-variants.{Failed}
 abbrev pub withWord : List ℕ → ℕ → ℕ → ℕ → List ℕ
 withWord x at u w = splice x at (u ∷ w ∷ [])
 
--- bytes u, w in place of the two at `at`, ahead of the check that stands behind the first n bytes, are an error: something changed
+-- bytes u, w in place of the two at `at`, ahead of the check that stands behind the first n bytes, are an error:
+-- something changed
 pub record WordError (n : ℕ) (x : List ℕ) (at u w : ℕ) : Type 0 where
   pub size : n ≤ length x
   pub ahead : at + 2 ≤ n
@@ -43,7 +44,8 @@ pub record Detection : Type 0 where
   -- the check of an item of any size
   pub item : (n : ℕ) (x : List ℕ) (at u w : ℕ) → WordError n x at u w → sumHolds byteSum n x ≡ true
       → sumHolds byteSum n (withWord x at u w) ≡ false
-  -- the image: its sum is wrong, it is valid as no page's, its class is Failed whatever the index says, and a history allows it as damage
+  -- the image: its sum is wrong, it is valid as no page's, its class is Failed whatever the index says, and a history
+  -- allows it as damage
   pub image : (g : Geometry) (x : List ℕ) (at u w : ℕ) → ImageError g x at u w → imageSealed g (withWord x at u w) ≡ false
   pub invalid : (g : Geometry) (x : List ℕ) (at u w : ℕ) → ImageError g x at u w → (p : ℕ) → validImage g p (withWord x at u w) ≡ false
   pub class : (g : Geometry) (x : List ℕ) (at u w : ℕ) → ImageError g x at u w

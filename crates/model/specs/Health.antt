@@ -1,6 +1,6 @@
--- What an answer tells of a page's health: when two inspections are the same, and what class, start and count say of each other. States
--- document 02, §8. The comparison of two stores goes on using body and number only (`Claim.Agree`): with `Same` it would be false, since
--- damage may differ.
+-- What an answer tells of a page's health: when two inspections are the same, and what class, start and count say of
+-- each other. States document 02, §8. The comparison of two stores goes on using body and number only (`Claim.Agree`):
+-- with `Same` it would be false, since damage may differ.
 use Prim.Native.Nat.{ℕ, _≤_}
 use mathlib.Core.Path.{_≡_}
 use mathlib.Core.Logic.{_≢_, _⊎_, _↔_}
@@ -56,7 +56,8 @@ pub record Examined : Type 0 where
   pub buffer : List ℕ
   pub report : List ℕ
 
--- an inspection that also tells class, start and count; a report of another length is refused as a buffer of another length is
+-- an inspection that also tells class, start and count; a report of another length is refused as a buffer of another
+-- length is
 unfoldable pub examineOf : List ℕ → ℕ → List ℕ → List ℕ → Examined
 examineOf v page buffer report =
     let o = inspectOf v page buffer in
@@ -66,7 +67,8 @@ examineOf v page buffer report =
 
 -- ---- sameness
 
--- "Sameness now includes class, start and count": the answers are equal, refusals too, and bytes 4 to 251 where not refused
+-- "Sameness now includes class, start and count": the answers are equal, refusals too, and bytes 4 to 251 where not
+-- refused
 pub record Same (a b : Inspected) : Type 0 where
   pub answer : a .answer ≡ b .answer
   pub bytes : refusalOf (a .answer) ≡ 0 → part (a .buffer) 4 248 ≡ part (b .buffer) 4 248
@@ -76,9 +78,10 @@ pub record Untouched (r : Repair) : Type 0 where
   pub start : r .start ≡ Own
   pub count : r .count ≡ 0
 
--- On any bytes: "start own with 0 replayed is answered exactly for Good", and Failed exactly for an image that is not valid. Of a view it takes a
--- durable record: with none, an own image with number 0 is Good and the walk has no start. No answer meets that: row 7 of Inspect, and of Load
--- row 7 with a well-formed state, in which a page in no frame has no pending record.
+-- On any bytes: "start own with 0 replayed is answered exactly for Good", and Failed exactly for an image that is not
+-- valid. Of a view it takes a durable record: with none, an own image with number 0 is Good and the walk has no start.
+-- No answer meets that: row 7 of Inspect, and of Load row 7 with a well-formed state, in which a page in no frame has
+-- no pending record.
 pub record Health : Type 0 where
   pub view : (g : Geometry) (p : ℕ) (w : View) → 1 ≤ w .durable → (repairOf g p w .class ≡ Good) ↔ Untouched (repairOf g p w)
   pub inspects : (v : List ℕ) (p : ℕ) (buffer : List ℕ) (r : Repair) → inspectOf v p buffer .answer ≡ Repaired r → (r .class ≡ Good) ↔ Untouched r

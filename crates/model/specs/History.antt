@@ -1,5 +1,5 @@
--- Histories: the machine, its events and its steps, and which events may come. States document 01's paragraphs "For 2 and 3 they have a
--- history" and "A cut falls between calls or within one", and the damage that demand 3 speaks of.
+-- Histories: the machine, its events and its steps, and which events may come. States document 01's paragraphs "For 2
+-- and 3 they have a history" and "A cut falls between calls or within one", and the damage that demand 3 speaks of.
 use Prim.Native.Nat.{ℕ, zero, suc, _+_}
 use mathlib.Core.Bool.{Bool, true, false, cond, _&&_, _||_, not}
 use mathlib.Core.List.{List, [], _∷_, _++_}
@@ -21,19 +21,22 @@ use Rattle.model.specs.declared.geometry.Heading.{Heading}
 use Rattle.model.specs.declared.state.Entry.{Entry}
 use Rattle.model.specs.declared.state.State.{State}
 
--- Memory and state live only while the power is on (document 01: after Make, a cut or a refused Restart there are none).
+-- Memory and state live only while the power is on (document 01: after Make, a cut or a refused Restart there are
+-- none).
 pub data Power : Type 0 where
   off : Power
   on : List ℕ → State → Power
 
--- The machine: its volume, its power, and, for the claim only, every item that calls stored, the newest first. Damage adds nothing to it.
+-- The machine: its volume, its power, and, for the claim only, every item that calls stored, the newest first. Damage
+-- adds nothing to it.
 pub record Machine : Type 0 where
   pub volume : List ℕ
   pub power : Power
   pub past : List StoredItem
 
--- An event: a Restart with the memory lent (where the power is on it gets the memory as it is); a call; a crash (document 01: a cut) between
--- calls or within one, with what it left of the item; damage to a page's or a slot's image.
+-- An event: a Restart with the memory lent (where the power is on it gets the memory as it is); a call; a crash
+-- (document 01: a cut) between calls or within one, with what it left of the item; damage to a page's or a slot's
+-- image.
 pub data Event : Type 0 where
   restart : List ℕ → Event
   perform : Call → Event
@@ -124,8 +127,8 @@ unfoldable pub validAsNoted : Geometry → ℕ → List ℕ → ℕ → List Ent
 validAsNoted g b xs p [] = false
 validAsNoted g b xs p (e ∷ es) = (eqb (e .slot) b && validImage g (suc p) xs) || validAsNoted g b xs (suc p) es
 
--- an image passes in its place: a page's own as that page's; in a slot that the index gives a page, as that page's; in any other slot, as
--- any page's. "For damage, the index is what the volume's notes give."
+-- an image passes in its place: a page's own as that page's; in a slot that the index gives a page, as that page's; in
+-- any other slot, as any page's. "For damage, the index is what the volume's notes give."
 abbrev pub passesAt : Geometry → List Entry → Place → List ℕ → Bool
 passesAt g index (pageAt p) xs = validImage g p xs
 passesAt g index (slotAt b) xs = cond (slotUsed b index) (validAsNoted g b xs 0 index) (validSomewhere g xs)

@@ -1,5 +1,5 @@
--- The refusals of the calls: document 01's table, with document 02's rows, turned on its side, one list of rows a call, in the order in which they are tested. The
--- answer is the first row that holds.
+-- The refusals of the calls: document 01's table, with document 02's rows, turned on its side, one list of rows a call,
+-- in the order in which they are tested. The answer is the first row that holds.
 use Prim.Native.Nat.{ℕ, _+_}
 use mathlib.Core.Bool.{Bool, true, false, _&&_, not}
 use mathlib.Core.List.{List, [], _∷_}
@@ -10,8 +10,9 @@ use Rattle.model.specs.Geometry.{geometryOf, validCounts, validVolume, l
 use Rattle.model.specs.Change.{fits}
 use Rattle.model.specs.Item.{imageLsn}
 use Rattle.model.specs.Index.{entryOf, slotUsed}
-use Rattle.model.specs.Scan.{durableCount, firstHeld, validLog, validNotes, indexOf}
+use Rattle.model.specs.Scan.{durableCount, firstHeld, indexOf}
 use Rattle.model.specs.Repair.{viewOf, walkOf, isBroken, isBelow}
+use Rattle.model.specs.Reading.{logRows}
 use Rattle.model.specs.State.{frameCount, validMemory, frameBytes, frameOf, logFull, notesFull, notePending, holder, held, blank, wellFormed}
 use Rattle.model.specs.declared.geometry.Geometry.{Geometry}
 use Rattle.model.specs.declared.change.Change.{Change}
@@ -23,8 +24,8 @@ use Rattle.model.specs.declared.state.State.{State}
 abbrev pub pagePending : State → ℕ → Bool
 pagePending s p = ltb (entryOf (s .index) p .durable) (entryOf (s .index) p .last)
 
--- 10: frame f's page has its last number above its last durable one (document 02, §5). An empty frame is free: page 0 has no entry, and
--- `entryOf` would read page 1's
+-- 10: frame f's page has its last number above its last durable one (document 02, §5). An empty frame is free: page 0
+-- has no entry, and `entryOf` would read page 1's
 abbrev pub frameBlocked : State → ℕ → Bool
 frameBlocked s f = not (eqb (frameOf s f .page) 0) && pagePending s (frameOf s f .page)
 
@@ -58,9 +59,7 @@ unfoldable pub makeRows : List ℕ → ℕ → ℕ → ℕ → ℕ → List Row
 makeRows v p b l n = (not (validCounts p b l n && eqb (length v) (lengthFor p b l n)), 1) ∷ []
 
 unfoldable pub restartRows : List ℕ → List ℕ → List Row
-restartRows v m =
-    let g = geometryOf v in
-    (not (validVolume v), 1) ∷ (not (validMemory (length m)), 2) ∷ (not (validLog g v), 17) ∷ (not (validNotes g v), 18) ∷ []
+restartRows v m = (not (validVolume v), 1) ∷ (not (validMemory (length m)), 2) ∷ logRows v []
 
 unfoldable pub beginRows : List ℕ → List ℕ → State → ℕ → ℕ → List Row
 beginRows v m s page frame =
@@ -113,5 +112,5 @@ noteRows v m s = stateRows v m s []
 unfoldable pub inspectRows : List ℕ → ℕ → ℕ → List Row
 inspectRows v page size =
     let g = geometryOf v in
-    (not (validVolume v), 1) ∷ (not (eqb size 256), 2) ∷ (not (within (g .pages) page), 3) ∷ (not (validLog g v), 17) ∷ (not (validNotes g v), 18)
-    ∷ (eqb (entryOf (indexOf g v) page .durable) 0, 7) ∷ (foundBelow g v page, 23) ∷ []
+    (not (validVolume v), 1) ∷ (not (eqb size 256), 2) ∷ (not (within (g .pages) page), 3)
+    ∷ logRows v ((eqb (entryOf (indexOf g v) page .durable) 0, 7) ∷ (foundBelow g v page, 23) ∷ [])

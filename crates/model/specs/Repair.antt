@@ -1,5 +1,5 @@
--- A page's class, the chain walk and the rebuilt page. States document 01, "Reading the disk": the four classes; the walk (own image, else
--- the noted backup, else the record); the replay, oldest first; and refusal 19's condition.
+-- A page's class, the chain walk and the rebuilt page. States document 01, "Reading the disk": the four classes; the
+-- walk (own image, else the noted backup, else the record); the replay, oldest first; and refusal 19's condition.
 use Prim.Native.Nat.{ℕ, zero, suc}
 use mathlib.Core.Bool.{Bool, true, false, cond, _&&_}
 use mathlib.Core.List.{List, [], _∷_}
@@ -19,15 +19,15 @@ use Rattle.model.specs.declared.answer.Stop.{Stop}
 use Rattle.model.specs.declared.answer.Stop.the-variants.{Own, Backup, Format, Broken, Below}
 use Rattle.model.specs.declared.answer.Repair.{Repair}
 
--- "Good if n is the newest durable number; Behind if below that and at least the last written number; Stale if below the last
--- written number"; document 02, §8: "a passing own image above the newest durable number gets a class of its own, Ahead". So Failed is
--- exactly an image that is not valid
+-- "Good if n is the newest durable number; Behind if below that and at least the last written number; Stale if below
+-- the last written number"; document 02, §8: "a passing own image above the newest durable number gets a class of its
+-- own, Ahead". So Failed is exactly an image that is not valid
 unfoldable pub classOf : Bool → ℕ → ℕ → ℕ → Class
 classOf valid n durable written =
     cond valid (cond (eqb n durable) Good (cond (ltb durable n) Ahead (cond (ltb n written) Stale Behind))) Failed
 
--- All that a page's repair depends on: its own image, its durable and written lsn, the noted backup's lsn (0: none) and image, and the
--- log's records by number, with the number that the run starts at.
+-- All that a page's repair depends on: its own image, its durable and written lsn, the noted backup's lsn (0: none) and
+-- image, and the log's records by number, with the number that the run starts at.
 pub record View : Type 0 where
   pub own : List ℕ
   pub durable : ℕ
@@ -60,14 +60,15 @@ ownStart g p w = cond (validImage g p (w .own)) (imageLsn (w .own)) 0
 abbrev pub backupStart : Geometry → ℕ → View → ℕ
 backupStart g p w = cond (validImage g p (w .copy) && eqb (imageLsn (w .copy)) (w .backup)) (w .backup) 0
 
--- record n as the walk for page p may read it (19 is that it may not): check, number, page and layout are right, the previous number is
--- below its own, and 0 only in a format
+-- record n as the walk for page p may read it (19 is that it may not): check, number, page and layout are right, the
+-- previous number is below its own, and 0 only in a format
 unfoldable pub chainRecord : ℕ → ℕ → List ℕ → Bool
 chainRecord p n r =
     let e = recordOf r in
     all (sealed 60 r ∷ eqb (e .lsn) n ∷ eqb (e .page) p ∷ recordLayout r ∷ ltb (e .prev) n ∷ firstIsFormat e ∷ [])
 
--- where the walk stopped, and the numbers of the records to replay, newest first. A format at which it stopped is one of them.
+-- where the walk stopped, and the numbers of the records to replay, newest first. A format at which it stopped is one
+-- of them.
 pub record Walk : Type 0 where
   pub stop : Stop
   pub chain : List ℕ

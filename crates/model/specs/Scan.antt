@@ -1,5 +1,5 @@
--- The scan of a volume's log and notes, and the index that they give. States document 01, "Restart: records 1 to n have right checks, ..",
--- for any bytes, without memory or state. Restart, Inspect and the program share it.
+-- The scan of a volume's log and notes, and the index that they give. States document 01, "Restart: records 1 to n have
+-- right checks, ..", for any bytes, without memory or state. Restart, Inspect and the program share it.
 use Prim.Native.Nat.{ℕ, zero, suc, _+_, _-_, _*_}
 use mathlib.Core.Bool.{Bool, true, false, cond, _&&_, _||_, not}
 use mathlib.Core.List.{List, [], _∷_, map}
@@ -29,7 +29,8 @@ noteRecord g v n = noteOf (item g v (noteSlot g n))
 abbrev pub larger : ℕ → ℕ → ℕ
 larger a b = cond (leb a b) b a
 
--- "the highest number in any whole slot (0: none)", of the first `count` slots: items of c bytes and their checksum, that start with their number
+-- "the highest number in any whole slot (0: none)", of the first `count` slots: items of c bytes and their checksum,
+-- that start with their number
 unfoldable pub highest : ℕ → (ℕ → List ℕ) → ℕ → ℕ
 highest c slot zero = 0
 highest c slot (suc i) = let rest = highest c slot i in larger rest (cond (sealed c (slot (suc i))) (field 4 0 (slot (suc i))) 0)
@@ -58,13 +59,13 @@ unfoldable pub logIndex : Geometry → List ℕ → ℕ → ℕ → List Entry
 logIndex g v f zero = emptyIndex
 logIndex g v f (suc c) = enterRecord (logIndex g v f c) (logRecord g v (f + c) .page) (f + c)
 
--- the chain rule of one page, in a run from f on, for a record and the number of the page's last earlier one in the run (0: none): it names
--- that one, or, where there is none, one below the run; and only a format names none
+-- the chain rule of one page, in a run from f on, for a record and the number of the page's last earlier one in the run
+-- (0: none): it names that one, or, where there is none, one below the run; and only a format names none
 abbrev pub linked : ℕ → ℕ → LogRecord → Bool
 linked f last e = (eqb (e .prev) last || (eqb last 0 && within (f - 1) (e .prev))) && firstIsFormat e
 
--- record n, after records that gave the index, has a right check, "obeys the layout, has its slot's number and a page in range, and names
--- the page's last earlier record; a page's first is a format"
+-- record n, after records that gave the index, has a right check, "obeys the layout, has its slot's number and a page
+-- in range, and names the page's last earlier record; a page's first is a format"
 unfoldable pub recordFits : Geometry → List ℕ → ℕ → List Entry → ℕ → Bool
 recordFits g v f index n =
     let e = logRecord g v n in
@@ -72,8 +73,8 @@ recordFits g v f index n =
     (sealed 60 (item g v (logSlot g n)) ∷ recordLayout (item g v (logSlot g n)) ∷ eqb (e .lsn) n ∷ within (g .pages) (e .page)
     ∷ linked f (entryOf index (e .page) .last) e ∷ [])
 
--- what follows a section's last number n, of `count` slots: past the turn nothing is asked; before it slot n + 1 is not whole, and the run
--- starts at 1
+-- what follows a section's last number n, of `count` slots: past the turn nothing is asked; before it slot n + 1 is not
+-- whole, and the run starts at 1
 abbrev pub endsAt : ℕ → ℕ → ℕ → Bool → Bool
 endsAt count n f next = leb count n || (not next && (eqb n 0 || eqb f 1))
 
@@ -115,8 +116,8 @@ noteFollows g index e =
     cond (isWritten e) (leb (entryOf index (e .page) .written) (e .lsn))
     (all (leb (entryOf index (e .page) .backup) (e .lsn) ∷ within (g .slots) (e .slot) ∷ not (slotUsed (e .slot) index) ∷ []))
 
--- note k, after notes that gave the index: its check and layout, "its place's number and a page in range", and it "names a durable record of
--- its page", which is looked up only from the run's start on
+-- note k, after notes that gave the index: its check and layout, "its place's number and a page in range", and it
+-- "names a durable record of its page", which is looked up only from the run's start on
 unfoldable pub noteFits : Geometry → List ℕ → List Entry → ℕ → Bool
 noteFits g v index k =
     let e = noteRecord g v k in
@@ -125,7 +126,8 @@ noteFits g v index k =
     (sealed 12 (item g v (noteSlot g k)) ∷ noteLayout e ∷ eqb (e .number) k ∷ within (g .pages) (e .page) ∷ within n (e .lsn)
     ∷ (ltb (e .lsn) (firstHeld g v n) || eqb (logRecord g v (e .lsn) .page) (e .page)) ∷ noteFollows g index e ∷ [])
 
--- the index that a volume's log and notes give: "a page with no record in the run gets last = durable = its last backup note's number"
+-- the index that a volume's log and notes give: "a page with no record in the run gets last = durable = its last backup
+-- note's number"
 abbrev pub indexOf : Geometry → List ℕ → List Entry
 indexOf g v =
     let k = noteCount g v in

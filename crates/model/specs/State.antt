@@ -1,5 +1,6 @@
--- The memory, the state, and when a state is well formed (document 01: sound). States document 01, "Memory, lost at a cut, ..", and "A state
--- is sound if ..", clause by clause, for any state: it is judged from the state, the geometry and the number of frames alone.
+-- The memory, the state, and when a state is well formed (document 01: sound). States document 01, "Memory, lost at a
+-- cut, ..", and "A state is sound if ..", clause by clause, for any state: it is judged from the state, the geometry
+-- and the number of frames alone.
 use Prim.Native.Nat.{ℕ, zero, suc, _+_, _-_, _*_, _/_, _%_}
 use mathlib.Core.Bool.{Bool, true, false, cond, _&&_, _||_, not}
 use mathlib.Core.List.{List, [], _∷_}
@@ -66,7 +67,8 @@ lastNumber s = s .durable + s .pending
 abbrev pub lastNote : State → ℕ
 lastNote s = s .notes
 
--- record j is not known to be spare: it is pending, or stands whole in its slot and its page has no noted backup at or above it
+-- record j is not known to be spare: it is pending, or stands whole in its slot and its page has no noted backup at or
+-- above it
 unfoldable pub recordNeeded : Geometry → List ℕ → State → ℕ → Bool
 recordNeeded g v s j =
     let r = item g v (logSlot g j) in
@@ -92,7 +94,8 @@ noteLike g v j i = eqb (noteRecord g v i .page) (noteRecord g v j .page) && eqb 
 unfoldable pub noteNeeded : Geometry → List ℕ → ℕ → ℕ → Bool
 noteNeeded g v k j = noteWhole g v j && every (k - j) (λ i. not (noteWhole g v (suc (j + i)) && noteLike g v j (suc (j + i))))
 
--- 14: there is no note slot; or the last number is given; or, in a ring, the note that the next one would displace is needed
+-- 14: there is no note slot; or the last number is given; or, in a ring, the note that the next one would displace is
+-- needed
 unfoldable pub notesFull : Geometry → List ℕ → State → Bool
 notesFull g v s =
     let k = lastNote s in
@@ -120,8 +123,8 @@ blank s p = eqb (entryOf (s .index) p .last) 0
 
 -- ---- well formed
 
--- "an owed note obeys the layout, its own number notes + 1, its page 1 to P, a backup's slot 1 to B, its page log number at most the
--- durable count"; notes are "below N if one is owed"
+-- "an owed note obeys the layout, its own number notes + 1, its page 1 to P, a backup's slot 1 to B, its page log
+-- number at most the durable count"; notes are "below N if one is owed"
 unfoldable pub pendingNoteFits : Geometry → ℕ → ℕ → PendingNote → Bool
 pendingNoteFits g notes durable Absent = true
 pendingNoteFits g notes durable (Present n) =
@@ -133,8 +136,8 @@ pendingNoteFits g notes durable (Present n) =
 abbrev pub firstHolder : State → ℕ → Bool
 firstHolder s i = every i (λ j. not (eqb (frameRow s j .page) (frameRow s i .page)))
 
--- of frame i, counted from 0: "frame pages are 0 to P, none twice and no page in a frame blank"; "empty frames are clean, as are all past
--- F, which are empty"
+-- of frame i, counted from 0: "frame pages are 0 to P, none twice and no page in a frame blank"; "empty frames are
+-- clean, as are all past F, which are empty"
 unfoldable pub frameFits : Geometry → ℕ → State → ℕ → Bool
 frameFits g frames s i =
     let f = frameRow s i in
@@ -143,8 +146,8 @@ frameFits g frames s i =
     (leb (f .page) (g .pages) ∷ (empty || firstHolder s i) ∷ (empty || not (blank s (f .page))) ∷ (not empty || not (f .dirty))
     ∷ (ltb i frames || empty) ∷ [])
 
--- "newest is at most durable + pending, newest durable at most newest and the durable count, written and backup numbers at most newest
--- durable, the slot at most B"; "a page in no frame has its newest equal to its newest durable"
+-- "newest is at most durable + pending, newest durable at most newest and the durable count, written and backup numbers
+-- at most newest durable, the slot at most B"; "a page in no frame has its newest equal to its newest durable"
 unfoldable pub entryFits : Geometry → State → ℕ → Entry → Bool
 entryFits g s p e =
     all

@@ -1,6 +1,7 @@
--- Which calls keep a well-formed state well formed (document 01: sound), on any volume and memory, in a history or not: all but Force and
--- Note. A Force goes by the page that the oldest pending record names as it lies in memory, and a Note by the page and lsn of the pending
--- note: in a history these agree with the index, elsewhere they need not. The value of the type is proved in the crate `laws`.
+-- Which calls keep a well-formed state well formed (document 01: sound), on any volume and memory, in a history or not:
+-- all but Force and Note. A Force goes by the page that the oldest pending record names as it lies in memory, and a
+-- Note by the page and lsn of the pending note: in a history these agree with the index, elsewhere they need not. The
+-- value of the type is proved in the crate `laws`.
 use Prim.Native.Nat.{ℕ}
 use mathlib.Core.Path.{_≡_}
 use mathlib.Core.Bool.{Bool, true, false}
