@@ -42,11 +42,12 @@ scan: volume-given
 	@$(MAKE) --no-print-directory scan-program
 	@./target/bin/scan < "$$VOLUME"
 
-# make demo-check         the program on the sample volume, under each heading, against what it must print
+# make demo-check         the program on the sample volumes against what it must print, the room left on standard error
 demo-check: scan-program
-	@for name in demo demo-first; do \
+	@for name in demo demo-first turned; do \
 	    python3 tools/sample.py $$name target/$$name.vol && cmp target/$$name.vol samples/$$name.vol \
-	    && ./target/bin/scan < samples/$$name.vol | diff - samples/demo.txt || exit 1; \
+	    && ./target/bin/scan < samples/$$name.vol 2> target/$$name-room.txt | diff - samples/$${name%-first}.txt \
+	    && diff target/$$name-room.txt samples/$$name-room.txt || exit 1; \
 	done
 
 # make c-test             the C function: K6 to K12, every refusal, full and smallest volumes, the stack it takes

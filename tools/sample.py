@@ -3,6 +3,7 @@
 
     python3 tools/sample.py demo FILE         six pages: good, behind, stale, failed twice (backup, format) and blank
     python3 tools/sample.py demo-first FILE   the same under the first heading
+    python3 tools/sample.py turned FILE       two pages of a log that has turned: records 3 to 10 in 8 slots
     python3 tools/sample.py k6 FILE           the worked case K6 with page 2 good, under the first heading
 
 A second reader of the format, on purpose: it shares no code with the store.
@@ -108,13 +109,33 @@ def demo(heading):
     return volume(heading, pages, slots, log, notes, 16, 8)
 
 
+def turned():
+    """A log ring past its first turn: records 1 and 2 have left it. Page 2's image is torn."""
+    line = [b"07:00 round begun", b"07:10 round ended"]
+    body = {at: line[at % 2].ljust(244, b" ") for at in range(1, 11)}
+    chain = {1: [3, 5, 6, 8, 9], 2: [4, 7, 10]}
+    before = {n: (links[i - 1] if i else page) for page, links in chain.items() for i, n in enumerate(links)}
+    owner = {n: page for page, links in chain.items() for n in links}
+    log = {n: record(n, before[n], owner[n], PUT, payload=line[n % 2]) for n in owner}
+    notes = [
+        note(1, 1, BACKED_UP, 1, 3),
+        note(2, 2, BACKED_UP, 2, 4),
+        note(3, 1, BACKED_UP, 3, 5),
+        note(4, 1, WRITTEN, 0, 9),
+        note(5, 2, WRITTEN, 0, 10),
+    ]
+    pages = [image(SECOND, 1, 9, body[9]), torn(image(SECOND, 2, 10, body[10]))]
+    slots = [image(SECOND, 1, 3, body[3]), image(SECOND, 2, 4, body[4]), image(SECOND, 1, 5, body[5])]
+    return volume(SECOND, pages, slots, [log[n] for n in (9, 10, 3, 4, 5, 6, 7, 8)], notes, 8, 6)
+
+
 def k6():
     log = [record(1, 0, 1, FORMAT, fill=7), record(2, 0, 2, FORMAT, fill=9), record(3, 1, 1, PUT, payload=b"AB")]
     return volume(FIRST, [image(FIRST, 1, 1, b"\7" * 244), image(FIRST, 2, 2, b"\t" * 244)], [b"\0" * 256], log, [], 4, 4)
 
 
 def main():
-    makers = {"demo": lambda: demo(SECOND), "demo-first": lambda: demo(FIRST), "k6": k6}
+    makers = {"demo": lambda: demo(SECOND), "demo-first": lambda: demo(FIRST), "turned": turned, "k6": k6}
     if len(sys.argv) != 3 or sys.argv[1] not in makers:
         sys.exit(__doc__)
     with open(sys.argv[2], "wb") as out:

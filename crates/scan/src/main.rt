@@ -1,6 +1,9 @@
 // The program of a field engineer: reads one volume of at most 32,768 bytes from standard input and prints, a line for
 // each page, how Inspect found it: a page that the log can no longer rebuild does not hide the others. Any other refusal, or a longer
-// input, is the only line. All that matters is in `inspect`, which is proved; this file only prints.
+// input, is the only line. All that matters is in `inspect`, which is proved; this file only prints. What room is left goes
+// to standard error, behind the last page's line.
+mod room;
+
 use libc::STDIN_FILENO;
 use model::answer::Answer;
 use model::answer::Repair;
@@ -64,4 +67,5 @@ fn main() {
         page += 1;
     }
     print_page(volume, page);
+    room::tell(volume);
 }
