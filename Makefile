@@ -21,12 +21,15 @@ CHECK = python3 tools/prove.py check
 STATICLIB = python3 tools/prove.py staticlib
 
 # make scan VOLUME=file   the program on a volume of your own (at most 32,768 bytes)
-.PHONY: scan volume-given scan-program demo-check
+# make forecast VOLUME=file   how many log records each page's repair could replay at most (at most 32,768 bytes)
+.PHONY: scan forecast scan-program demo-check
 export VOLUME
-volume-given:
-	@test -n "$${VOLUME:-}" || { echo "say which volume: make scan VOLUME=file"; exit 2; }
-	@test -e "$$VOLUME" || { echo "make scan: there is no file $$VOLUME"; exit 2; }
-	@test -f "$$VOLUME" && test -r "$$VOLUME" || { echo "make scan: $$VOLUME cannot be read as a file"; exit 2; }
+# The file that a target is given by name, as VOLUME=file.
+define GIVEN
+@test -n "$${$(1):-}" || { echo "say which file: make $@ $(1)=file"; exit 2; }
+@test -e "$$$(1)" || { echo "make $@: there is no file $$$(1)"; exit 2; }
+@test -f "$$$(1)" && test -r "$$$(1)" || { echo "make $@: $$$(1) cannot be read as a file"; exit 2; }
+endef
 
 scan-program:
 	@$(CHECK) scan
@@ -38,9 +41,15 @@ demo: scan-program
 	@echo "\$$ scan < samples/demo.vol"
 	@./target/bin/scan < samples/demo.vol
 
-scan: volume-given
+scan:
+	$(call GIVEN,VOLUME)
 	@$(MAKE) --no-print-directory scan-program
 	@./target/bin/scan < "$$VOLUME"
+
+forecast:
+	$(call GIVEN,VOLUME)
+	@$(CHECK) forecast
+	@./target/bin/forecast < "$$VOLUME"
 
 # make demo-check         the program on the sample volumes against what it must print, the room left on standard error
 demo-check: scan-program
@@ -49,11 +58,15 @@ demo-check: scan-program
 	    && ./target/bin/scan < samples/$$name.vol 2> target/$$name-room.txt | diff - samples/$${name%-first}.txt \
 	    && diff target/$$name-room.txt samples/$$name-room.txt || exit 1; \
 	done
+	@python3 tools/sample.py visit target/visit.vol && cmp target/visit.vol crates/forecast/stdin
 
-# make c-test             the C function: K6 to K12, every refusal, full and smallest volumes, the stack it takes
+# make c-test             the C functions: K6 to K12, every refusal, full, smallest and random volumes, the stack they take
 # make example-check      the program that README quotes, on the sample volume, against what it must print
 .PHONY: inspect-library c-test example-check
 CC_TEST = gcc -Wall -Wextra -Werror -std=c11 -O2 -Iinclude
+# A test on random volumes, built with these libraries and run.
+C_TEST = $(CC_TEST) tests/c/$(1)_test.c tests/c/history.c tests/c/volume.c \
+    $(patsubst %,target/staticlib/lib%.a,$(2)) -o target/c/$(1)_test && ./target/c/$(1)_test
 inspect-library:
 	@$(STATICLIB) inspect
 	@mkdir -p target/c
@@ -63,6 +76,8 @@ c-test: inspect-library
 	@$(CC_TEST) -pthread tests/c/stack_test.c tests/c/volume.c target/staticlib/libinspect.a -o target/c/stack_test
 	@./target/c/inspect_test
 	@./target/c/stack_test
+	@$(STATICLIB) estimate
+	@$(call C_TEST,forecast,estimate inspect)
 
 example-check: inspect-library
 	@$(CC_TEST) examples/show.c target/staticlib/libinspect.a -o target/c/show

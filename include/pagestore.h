@@ -1,12 +1,12 @@
-/* Inspection of a page store's volume, for C.
+/* Inspection of a page store's volume, and the forecast of its repairs, for C.
  *
- * Link with the static library that `rt staticlib inspect` writes (libinspect.a, for x86-64). The function is proved
- * for every input: it ends, touches no byte outside the two buffers, never writes to the volume, and answers exactly as
- * docs/FORMAT.md says.
+ * Link with the static library that `rt staticlib NAME` writes (libNAME.a, for x86-64): `inspect` for inspection,
+ * `estimate` for the forecast. Each function is proved for every input: it ends, touches no byte outside the buffers it
+ * is lent, never writes to the volume, and answers exactly as docs/FORMAT.md says.
  *
  * The caller guarantees what C cannot check: `volume` points to `volume_len` readable bytes and `buffer` to
- * `buffer_len` writable bytes, the two do not overlap, nothing else writes to them during the call, and the stack has
- * room for PAGESTORE_STACK bytes. A null pointer is allowed only with length 0.
+ * `buffer_len` writable bytes (likewise the others), no two overlap, nothing else writes to them during the call, and
+ * the stack has room for PAGESTORE_STACK bytes. A null pointer is allowed only with length 0.
  */
 #ifndef PAGESTORE_H
 #define PAGESTORE_H
@@ -27,7 +27,7 @@ extern "C" {
 /* The most bytes of stack that a call takes, whatever the volume. Measured (tests/c/stack_test.c), not proved. */
 #define PAGESTORE_STACK 8192u
 
-/* Answers of pagestore_inspect: the refusals of docs/FORMAT.md, section 6. */
+/* Answers: the refusals of docs/FORMAT.md, section 6. */
 #define PAGESTORE_OK 0u              /* the buffer holds the page's repaired image, checksum set */
 #define PAGESTORE_BAD_VOLUME 1u      /* magic, counts or length of the volume are wrong */
 #define PAGESTORE_BAD_BUFFER 2u      /* the buffer is not 256 bytes long */
@@ -69,6 +69,16 @@ uint32_t pagestore_inspect(const uint8_t *volume, size_t volume_len, uint32_t pa
  * report as they were. The report overlaps neither the volume nor the buffer. */
 uint32_t pagestore_examine(const uint8_t *volume, size_t volume_len, uint32_t page, uint8_t *buffer, size_t buffer_len,
                            uint32_t *report, size_t report_len);
+
+/* The forecast (docs/FORMAT.md, section 4): for page p, at 2 * (p - 1), the most records that its repair replays if its
+ * noted backup is sound, and behind it the most if it is not. No image is read. */
+#define PAGESTORE_FORECAST_SIZE 128u
+#define PAGESTORE_FIGURE_NONE 4294967295u /* no bound: the walk would end in PAGESTORE_PAGE_LOST */
+
+/* Writes the figures, PAGESTORE_FORECAST_SIZE numbers (`figures_len` counts numbers, not bytes), and returns
+ * PAGESTORE_OK; or returns the refusal (BAD_VOLUME, BAD_BUFFER, BAD_LOG, BAD_NOTES) and leaves them as they were.
+ * Figures past the last page are 0. */
+uint32_t pagestore_forecast(const uint8_t *volume, size_t volume_len, uint32_t *figures, size_t figures_len);
 
 #ifdef __cplusplus
 }

@@ -2,8 +2,8 @@
 """Holds the documents against the sources; prints each difference, and exits with 1 where there is one.
 
 The refusals stand in docs/FORMAT.md, section 6. README's short table, the constants of include/pagestore.h and the
-order of the rows in crates/model/specs/Refusals.antt must be the same. README quotes examples/show.c. Every function,
-definition, must-fail edit and file that the documents name is there. No line has more than 120 columns.
+order of the rows in crates/model/specs (Reading, Refusals, Bounds) must be the same. README quotes examples/show.c.
+Every function, definition, must-fail edit and file that the documents name is there. No line has more than 120 columns.
 """
 import itertools
 import re
@@ -49,19 +49,28 @@ def orders():
 
 
 # rows that calls share, before or behind their own
-SHARED = ("state", "log", "scan", "whole")
+SHARED = ("state", "log", "whole")
+
+# definitions that bear another name than their call
+CALLED = {"scan": "forecast", "tell": "forecastfigures"}
+
+# the calls that have a function for C, and the crates whose functions are public
+FOR_C = ("Inspect", "ForecastFigures")
+FACES = ("store", "inspect", "estimate")
 
 
 def defined_orders():
-    """What Refusals.antt has for each call: the numbers of its rows, each once."""
-    text = re.sub(r"--.*", "", read("crates/model/specs/Reading.antt") + read("crates/model/specs/Refusals.antt"))
+    """What the definitions have for each call: the numbers of its rows, each once."""
+    files = ("Reading", "Refusals", "Bounds")
+    text = re.sub(r"--.*", "", "".join(read(f"crates/model/specs/{name}.antt") for name in files))
     bodies = {name: body for name, body in re.findall(r"^(\w+)Rows(?! :)(.*(?:\n .*)*)", text, re.M)}
 
     def numbers(body):
         words = re.findall(r"\b(\w+)Rows\b|, (\d+)\)", body)
         return list(itertools.chain(*(numbers(bodies[other]) if other else [int(n)] for other, n in words)))
 
-    return {name: list(dict.fromkeys(numbers(body))) for name, body in bodies.items() if name not in SHARED}
+    own = {CALLED.get(name, name): body for name, body in bodies.items() if name not in SHARED}
+    return {name: list(dict.fromkeys(numbers(body))) for name, body in own.items()}
 
 
 def check_refusals():
@@ -69,10 +78,10 @@ def check_refusals():
     if list(known) != sorted(set(known)) or list(known)[:19] != list(range(1, 20)):
         yield "docs/FORMAT.md, section 6: the numbers are not 1 to 19 and rising ones"
     for call in sorted({call.lower() for call in order} ^ set(defined)):
-        yield f"refusals of {call}: only in one of docs/FORMAT.md and Refusals.antt"
+        yield f"refusals of {call}: only in one of docs/FORMAT.md and the definitions"
     for call, rows in order.items():
         if defined.get(call.lower(), rows) != rows:
-            yield f"refusals of {call}: docs/FORMAT.md has {rows}, Refusals.antt {defined[call.lower()]}"
+            yield f"refusals of {call}: docs/FORMAT.md has {rows}, the definitions {defined[call.lower()]}"
     listed = itertools.chain(*table(read("README.md"), [""] * 4))
     short = dict(cell.split(" ", 1) for cell in listed if cell)
     for number, (words, _) in known.items():
@@ -81,12 +90,13 @@ def check_refusals():
     yield from (f"README.md, refusal {number}: not in docs/FORMAT.md" for number in short)
     answers = read("include/pagestore.h").partition("/* Answers")[2].partition("\n\n")[0]
     constants = {int(n): name for name, n in re.findall(r"#define (\w+) (\d+)u", answers)}
-    wanted = {0: "PAGESTORE_OK"} | {n: known[n][1] for n in order.get("Inspect", []) if n in known}
+    given = sorted(set(itertools.chain(*(order.get(call, []) for call in FOR_C))))
+    wanted = {0: "PAGESTORE_OK"} | {n: known[n][1] for n in given if n in known}
     if constants != wanted:
         yield f"include/pagestore.h has the answers {constants}, docs/FORMAT.md {wanted}"
     for number, (_, name) in known.items():
-        if name and number not in order.get("Inspect", []):
-            yield f"docs/FORMAT.md, refusal {number}: {name}, and Inspect does not give it"
+        if name and number not in given:
+            yield f"docs/FORMAT.md, refusal {number}: {name}, and no function for C gives it"
 
 
 # ---- what the documents name
@@ -183,12 +193,13 @@ def asking(crate):
 
 def check_requirements():
     listed = {row[0].strip("`"): row[1] for row in merged(table(read("docs/DECISIONS.md"), ["function", "asks"]))}
-    found = {path: asked for crate in crates.needed("store") for path, asked in asking(crate)}
+    found = {path: asked for face in FACES for crate in crates.needed(face) for path, asked in asking(crate)}
     for path in sorted(set(found) | set(listed)):
         asked = found.get(path, "nothing").replace(" ;", ";")
         if listed.get(path) != asked:
             yield f"docs/DECISIONS.md: {path} asks: {asked}"
-        if path in found and path.split("::")[0] in ("store", "inspect"):
+        crate = path.split("::")[0]
+        if path in found and (crate in ("store", "inspect") or (crate in FACES and path.count("::") == 1)):
             yield f"{path}: a public function that asks something"
 
 

@@ -7,7 +7,7 @@ A script is a list of cells of 64 bytes, each a call with its arguments, or a ch
 or a length behind the store's back. Both drivers print a line for each cell: the answer, and a hash of the volume,
 the memory, the lent buffer and the state. The lines must be the same. At the first difference the script is saved under
 target/fuzz/ and the run ends with status 1. It also does if a generator fails, if some kind of script was not played at
-all, or if a run of a minute or more leaves a kind of answer out.
+all, or if a run of a minute or more leaves out a kind of answer, or a case that the scripts of some kind are for.
 """
 import argparse
 import collections
@@ -26,10 +26,12 @@ DRIVERS = {"proved": os.path.join(ROOT, "target", "bin", "drive"), "reference": 
 SAVED = os.path.join(ROOT, "target", "fuzz")
 
 # What a run asks for now: scripts of each kind, answers of each sort. A request that adds an operation or an answer adds it here.
-KINDS = ["history", "ring", "arbitrary"]  # written in an instant, played in turn
+KINDS = ["history", "ring", "arbitrary", "reading"]  # written in an instant, played in turn
+AIMED = ["reading"]  # of these, the kinds with a list of cases that all their scripts together have to reach
 SEARCHED = ["mixed", "turning"]  # searched for until every answer is reached; made beside the others
 EXPECTED = [f"REFUSED {n}" for n in [*range(1, 20), 23]] + ["NOTHING", "OK"]
 EXPECTED += ["GOOD", "BEHIND", "STALE", "FAILED", "AHEAD"] + ["OWN", "BACKUP", "FORMAT"]
+EXPECTED += ["FORECAST"]
 
 CELL = 64
 CELLS = 2000  # of a script that is written in an instant
@@ -68,6 +70,10 @@ def decode(cell):
         16: f"fill buffer {a} with {kind}",
         17: f"release page {page}",
         21: "make with the first heading, P {} B {} L {} N {}".format(*counts),
+        22: "forecast",
+        27: {0: "the volume goes to the second buffer", 1: "the lent buffer goes to the second buffer",
+             2: f"size of the second buffer {a}"}.get(kind, f"unknown second {kind}"),
+        28: f"poke the second buffer, {poke}",
     }
     return words.get(op, f"unknown op {op}")
 
@@ -135,12 +141,16 @@ def show_difference(path, kind, seed, proved, reference):
 def count(lines, reached):
     for line in lines:
         answer = line.split(" v=")[0]
-        words = answer.split(" ")
-        if re.fullmatch(r"[A-Z]+ [A-Z]+ \d+", answer):
-            reached[words[0]] += 1
-            reached[words[1]] += 1
-        else:
-            reached[answer] += 1
+        for name in [answer] if answer.startswith("REFUSED") else re.findall("[A-Z]+", answer):
+            reached[name] += 1
+
+
+def left_out(kind, path):
+    """The cases that scripts of this kind are for and this one, just played, does not reach."""
+    command = [os.path.join(REFERENCE, "coverage"), "--kind", kind, "--script", path]
+    with open(output("reference"), "rb") as lines:
+        told = subprocess.run(command, stdin=lines, capture_output=True, text=True, check=True).stdout
+    return set(re.findall(r"^ *missing (.*)$", told, re.MULTILINE))
 
 
 class Run:
@@ -151,6 +161,7 @@ class Run:
         self.scripts = collections.Counter()
         self.cells = 0
         self.reached = collections.Counter()
+        self.left_out = {}
         self.searched_kinds = itertools.cycle(SEARCHED)
         self.search = None
         self.start_search()
@@ -172,6 +183,9 @@ class Run:
         self.scripts[kind] += 1
         self.cells += len(proved)
         count(proved, self.reached)
+        if kind in AIMED:
+            missed = left_out(kind, self.path(kind))
+            self.left_out[kind] = self.left_out.get(kind, missed) & missed
         return True
 
     def written(self, process, kind, seed):
@@ -237,6 +251,7 @@ def main():
     if absent:
         print("no script of kind: " + ", ".join(absent))
     missing = [name for name in EXPECTED if not run.reached[name]]
+    missing += [f"{case} ({kind})" for kind in AIMED for case in sorted(run.left_out.get(kind, []))]
     if missing:
         print("not reached: " + ", ".join(missing))
     return 1 if absent or (missing and options.seconds >= COVERED_FROM) else 0

@@ -4,6 +4,7 @@
     python3 tools/sample.py demo FILE         six pages: good, behind, stale, failed twice (backup, format) and blank
     python3 tools/sample.py demo-first FILE   the same under the first heading
     python3 tools/sample.py turned FILE       two pages of a log that has turned: records 3 to 10 in 8 slots
+    python3 tools/sample.py visit FILE        five pages of such a log, for the forecast: records 3 to 10 in 8 slots
     python3 tools/sample.py k6 FILE           the worked case K6 with page 2 good, under the first heading
 
 A second reader of the format, on purpose: it shares no code with the store.
@@ -129,13 +130,40 @@ def turned():
     return volume(SECOND, pages, slots, [log[n] for n in (9, 10, 3, 4, 5, 6, 7, 8)], notes, 8, 6)
 
 
+def visit():
+    """A log ring past its first turn. Page 1 is good, page 2 torn with a backup below the run, page 3 blank, page 4
+    behind, and page 5 lost: its records have left the log, and neither its image nor its backup is there."""
+    line = b"08:00 visit planned"
+    body = line.ljust(244, b" ")
+    log = [
+        record(9, 8, 1, PUT, payload=line),
+        record(10, 4, 2, PUT, payload=line),
+        record(3, 0, 1, FORMAT, fill=32),
+        record(4, 2, 2, PUT, payload=line),
+        record(5, 0, 4, FORMAT, fill=32),
+        record(6, 5, 4, PUT, payload=line),
+        record(7, 6, 4, PUT, payload=line),
+        record(8, 3, 1, PUT, payload=line),
+    ]
+    pages = [image(SECOND, 1, 9, body), torn(image(SECOND, 2, 10, body)), b"\0" * 256, image(SECOND, 4, 6, body)]
+    slots = [image(SECOND, 1, 8, body), image(SECOND, 2, 2, b" " * 244), torn(image(SECOND, 5, 1, b" " * 244))]
+    notes = [note(1, 5, BACKED_UP, 3, 1), note(2, 2, BACKED_UP, 2, 2), note(3, 1, BACKED_UP, 1, 8)]
+    return volume(SECOND, [*pages, b"\0" * 256], slots, log, notes, 8, 4)
+
+
 def k6():
     log = [record(1, 0, 1, FORMAT, fill=7), record(2, 0, 2, FORMAT, fill=9), record(3, 1, 1, PUT, payload=b"AB")]
     return volume(FIRST, [image(FIRST, 1, 1, b"\7" * 244), image(FIRST, 2, 2, b"\t" * 244)], [b"\0" * 256], log, [], 4, 4)
 
 
 def main():
-    makers = {"demo": lambda: demo(SECOND), "demo-first": lambda: demo(FIRST), "turned": turned, "k6": k6}
+    makers = {
+        "demo": lambda: demo(SECOND),
+        "demo-first": lambda: demo(FIRST),
+        "turned": turned,
+        "visit": visit,
+        "k6": k6,
+    }
     if len(sys.argv) != 3 or sys.argv[1] not in makers:
         sys.exit(__doc__)
     with open(sys.argv[2], "wb") as out:

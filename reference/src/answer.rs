@@ -69,6 +69,8 @@ pub enum Answer {
     /// Force, Write or Note had nothing to store.
     Nothing,
     Rebuilt(Rebuild),
+    /// A hash of the figures.
+    Forecast(u64),
     Refused(Refusal),
 }
 
@@ -102,6 +104,7 @@ impl fmt::Display for Answer {
             Answer::Done => write!(out, "OK"),
             Answer::Nothing => write!(out, "NOTHING"),
             Answer::Rebuilt(rebuild) => rebuild.fmt(out),
+            Answer::Forecast(hash) => write!(out, "FORECAST {hash}"),
             Answer::Refused(refusal) => write!(out, "REFUSED {}", refusal.number()),
         }
     }

@@ -15,7 +15,7 @@ use crate::script::Script;
 use crate::world::World;
 
 /// A mutation and the calls that look at it.
-type Episode = fn(&mut World, &mut Rng);
+pub type Episode = fn(&mut World, &mut Rng);
 
 const EPISODES: [(Episode, usize); 19] = [
     (episodes::wrong_length, 5),
@@ -77,7 +77,8 @@ pub fn one_bench(script: Script, geometry: Geometry, end: usize, rng: &mut Rng) 
     world.script
 }
 
-fn grow(world: &mut World, style: &Style, events: usize, rng: &mut Rng) {
+/// Lets the history go on.
+pub fn grow(world: &mut World, style: &Style, events: usize, rng: &mut Rng) {
     for _ in 0..events {
         let event = style.next(world, rng);
         world.apply(&event);
@@ -86,7 +87,7 @@ fn grow(world: &mut World, style: &Style, events: usize, rng: &mut Rng) {
 
 /// Mostly gives a world after a cut a memory that fits and a state, and often one whose
 /// frames are all dirty an empty memory.
-fn revive(world: &mut World, rng: &mut Rng) {
+pub fn revive(world: &mut World, rng: &mut Rng) {
     if frame_count(world.script.driver.memory_len).is_none() {
         world.script.resize_memory(memory_len_for(rng.between(1, 4)));
     }

@@ -27,6 +27,7 @@ pub enum Call {
     Note,
     Inspect { page: u16 },
     Release { page: u16 },
+    Forecast,
 }
 
 /// What a cell asks of the driver.
@@ -39,7 +40,20 @@ pub enum Op {
     SetState { position: u32, value: u32 },
     Lose,
     Fill { target: u32, byte: u8 },
+    Second(Second),
+    PokeSecond { at: u32, count: u8, bytes: Payload },
     Skip,
+}
+
+/// What the second buffer gets, and with it its length in use.
+#[derive(Clone, Copy, Debug, PartialEq, Eq)]
+pub enum Second {
+    /// The lent part of the volume buffer.
+    Volume,
+    /// The lent part of the lent buffer.
+    Lent,
+    /// Nothing but this length.
+    Length(u32),
 }
 
 impl Call {
@@ -58,6 +72,7 @@ impl Call {
             Call::Note => 9,
             Call::Inspect { .. } => 10,
             Call::Release { .. } => 17,
+            Call::Forecast => 22,
         }
     }
 }
@@ -86,6 +101,7 @@ pub fn decode(cell: &Cell) -> Op {
         9 => Call::Note,
         10 => Call::Inspect { page },
         17 => Call::Release { page },
+        22 => Call::Forecast,
         11 => {
             return Op::Sizes {
                 volume: number_a,
@@ -98,9 +114,20 @@ pub fn decode(cell: &Cell) -> Op {
         14 => return Op::SetState { position: number_a, value: number_b },
         15 => return Op::Lose,
         16 => return Op::Fill { target: number_a, byte: cell[1] },
+        27 => return decode_second(cell[1], number_a),
+        28 => return Op::PokeSecond { at: number_a, count: cell[8], bytes },
         _ => return Op::Skip,
     };
     Op::Call(call)
+}
+
+fn decode_second(kind: u8, length: u32) -> Op {
+    match kind {
+        0 => Op::Second(Second::Volume),
+        1 => Op::Second(Second::Lent),
+        2 => Op::Second(Second::Length(length)),
+        _ => Op::Skip,
+    }
 }
 
 /// P, B, L and N of a Make.
@@ -142,9 +169,23 @@ pub fn encode(op: &Op) -> Cell {
             cell[1] = byte;
             put_u32(&mut cell, NUMBER_A, target);
         }
+        Op::Second(second) => encode_second(second, &mut cell),
+        Op::PokeSecond { at, count, bytes } => encode_poke(28, at, count, &bytes, &mut cell),
         Op::Skip => {}
     }
     cell
+}
+
+fn encode_second(second: Second, cell: &mut Cell) {
+    cell[0] = 27;
+    match second {
+        Second::Volume => {}
+        Second::Lent => cell[1] = 1,
+        Second::Length(length) => {
+            cell[1] = 2;
+            put_u32(cell, NUMBER_A, length);
+        }
+    }
 }
 
 fn encode_poke(code: u8, at: u32, count: u8, bytes: &Payload, cell: &mut Cell) {
@@ -179,7 +220,7 @@ fn encode_call(call: &Call, cell: &mut Cell) {
         Call::Write { page } | Call::Inspect { page } | Call::Release { page } => {
             put_u16(cell, 2, page)
         }
-        Call::Restart | Call::Force | Call::Note => {}
+        Call::Restart | Call::Force | Call::Note | Call::Forecast => {}
     }
 }
 

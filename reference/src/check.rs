@@ -1,15 +1,15 @@
 //! Runs histories through the store and the book and looks for a contradiction.
 
-use crate::answer::{Answer, Class, Rebuild, Refusal, Start};
-use crate::book::{Book, Replay};
-use crate::bytes::{all_zero, u16_at, u32_at};
-use crate::calls::inspect;
+use crate::answer::{Answer, Class, Refusal};
+use crate::book::Book;
+use crate::bytes::all_zero;
 use crate::cell::Call;
+use crate::check_inspect::same;
 use crate::check_ring::RingView;
 use crate::check_same::{check_left, held_pages, pushes_out, Held};
 use crate::geometry::{frame_count, frame_place};
 use crate::history::{choose_geometry, choose_ring, Style};
-use crate::image::{BODY, CHECKSUM};
+use crate::image::CHECKSUM;
 use crate::note::NoteKind;
 use crate::restart::recover;
 use crate::rng::Rng;
@@ -195,12 +195,12 @@ impl Checker {
         })
     }
 
-    fn ring<'a>(&'a self, noted: &'a State) -> RingView<'a> {
+    pub fn ring<'a>(&'a self, noted: &'a State) -> RingView<'a> {
         RingView { world: &self.world, book: &self.book, noted }
     }
 
     /// What log and notes have lost, and the proviso where nothing was damaged.
-    fn check_ring(&self, noted: &State) -> Result<(), String> {
+    pub fn check_ring(&self, noted: &State) -> Result<(), String> {
         let ring = self.ring(noted);
         ring.check_spare()?;
         ring.check_notes(&self.notes, self.notes_base)?;
@@ -209,59 +209,8 @@ impl Checker {
         ensure(safe || self.damaged, || "a history without damage fails the proviso".into())
     }
 
-    /// Inspect for every page: 7 exactly if blank, 23 if it is beyond repair, else the
-    /// replay's number and body.
-    fn inspect_all(&self) -> Result<(), String> {
-        let noted = self.noted()?;
-        self.check_ring(&noted)?;
-        for page in 1..=self.world.geometry.pages as u16 {
-            let mut buffer = [0xA5; 256];
-            let answer = inspect(self.world.volume(), page, &mut buffer);
-            self.ring(&noted).check_below(page, &answer)?;
-            match (answer, self.book.replay(page)) {
-                (Answer::Refused(Refusal::Blank), None) => {
-                    ensure(buffer == [0xA5; 256], || "a refused Inspect wrote".into())?
-                }
-                (Answer::Refused(Refusal::BelowRun), Some(_)) => {
-                    ensure(buffer == [0xA5; 256], || "a refused Inspect wrote".into())?
-                }
-                (Answer::Rebuilt(rebuild), replay @ Some(_)) => {
-                    same(&buffer, replay, "Inspect", page)?;
-                    ensure(self.world.item_sealed(&buffer), || "Inspect set no checksum".into())?;
-                    self.check_rebuild(page, &rebuild, &buffer)?;
-                }
-                (answer, replay) => {
-                    let number = replay.map(|replay| replay.number);
-                    return Err(format!("Inspect of page {page}: {answer}, book {number:?}"));
-                }
-            }
-        }
-        Ok(())
-    }
-
-    /// Class, start and count replayed, told from the book, the own image and the notes.
-    fn check_rebuild(&self, page: u16, rebuild: &Rebuild, image: &[u8]) -> Result<(), String> {
-        let own = &self.world.volume()[self.world.geometry.page(page.into())];
-        let good = own[..252] == image[..252] && self.world.item_sealed(own);
-        ensure(good == (rebuild.class == Class::Good), || format!("page {page}: {rebuild}"))?;
-        ensure(rebuild.class != Class::Ahead, || format!("a history made page {page} {rebuild}"))?;
-        let untouched = rebuild.start == Start::Own && rebuild.replayed == 0;
-        ensure(good == untouched, || format!("page {page}: {rebuild}"))?;
-        let places = self.book.places(page);
-        let after = |number: u32| places.iter().filter(|&&place| place > number).count();
-        let is_format = |&&place: &&u32| self.book.entry(place).change.is_format();
-        let last_format = places.iter().rev().find(is_format).copied().unwrap_or(1);
-        let noted = self.noted()?.entry(page).backup_lsn;
-        let expected = match rebuild.start {
-            Start::Own => after(u32_at(own, 4)),
-            Start::Backup => after(noted),
-            Start::Format => after(last_format) + 1,
-        };
-        ensure(rebuild.replayed == expected, || format!("page {page}: {rebuild}, {places:?}"))
-    }
-
     /// What a Restart would give now.
-    fn noted(&self) -> Result<State, String> {
+    pub fn noted(&self) -> Result<State, String> {
         recover(self.world.volume(), &self.world.geometry)
             .map_err(|refusal| format!("a history's volume breaks the restart rule: {refusal:?}"))
     }
@@ -283,20 +232,6 @@ impl Checker {
             self.events.iter().enumerate().map(|(at, event)| format!("{at:4} {event:?}")).collect();
         format!("{text}\n{:?}\n{}", self.world.geometry, events.join("\n"))
     }
-}
-
-/// Whether bytes 4 to 251 of an image are the replay's, and the page number is right.
-fn same(image: &[u8], replay: Option<Replay>, what: &str, page: u16) -> Result<(), String> {
-    let Some(replay) = replay else {
-        return Err(format!("{what} of page {page}, which the book calls blank"));
-    };
-    ensure(u16_at(image, 0) == page && u16_at(image, 2) == 0, || {
-        format!("{what} of page {page}: first bytes {:?}", &image[..4])
-    })?;
-    ensure(u32_at(image, 4) == replay.number, || {
-        format!("{what} of page {page}: number {}, book {}", u32_at(image, 4), replay.number)
-    })?;
-    ensure(image[BODY] == replay.body, || format!("{what} of page {page}: body differs"))
 }
 
 pub fn ensure(holds: bool, text: impl FnOnce() -> String) -> Result<(), String> {

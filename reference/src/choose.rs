@@ -18,6 +18,7 @@ pub enum Kind {
     Note,
     Inspect,
     Release,
+    Forecast,
 }
 
 /// What the choice of arguments looks at.
@@ -56,6 +57,7 @@ impl Chooser<'_> {
                 page: self.page(rng, |page| self.state.entry(page).newest_durable != 0),
             },
             Kind::Release => Call::Release { page: self.page(rng, |page| self.releasable(page)) },
+            Kind::Forecast => Call::Forecast,
         }
     }
 
@@ -80,7 +82,7 @@ impl Chooser<'_> {
             Call::Write { page } | Call::Inspect { page } | Call::Release { page } => {
                 *page = some_page
             }
-            Call::Make { .. } | Call::Restart | Call::Force | Call::Note => {}
+            Call::Make { .. } | Call::Restart | Call::Force | Call::Note | Call::Forecast => {}
         }
         call
     }

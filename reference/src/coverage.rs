@@ -2,6 +2,7 @@
 
 use crate::answer::{Answer, Refusal};
 use crate::cell::{decode, Call, Cell, Op};
+use crate::coverage_reading::{cases, reading_targets};
 use crate::coverage_table::{name_of, ROWS};
 use crate::driver::Driver;
 use crate::fault::Fault;
@@ -13,7 +14,7 @@ use crate::walk::rebuild;
 use std::collections::{BTreeMap, BTreeSet};
 
 /// Stands for the call where a hit is the cause of a refusal.
-const CAUSE: &str = "cause";
+pub const CAUSE: &str = "cause";
 
 /// Causes that only a ring has: runs, lost starts, numbers to the largest.
 const RING_ONLY: &[&str] = &[
@@ -40,12 +41,12 @@ const STRAIGHT_ONLY: &[&str] = &["LogEnd", "NotesEnd"];
 /// A call's name and an answer without its count, or `CAUSE` and a cause.
 pub type Hit = (&'static str, String);
 
-/// An answer as it is counted: a rebuild without the count replayed.
+/// An answer as it is counted: a refusal with its number, else the words without numbers.
 pub fn label(answer: &str) -> String {
-    let words: Vec<&str> = answer.split(' ').collect();
-    match words[..] {
-        [class, start, _] => format!("{class} {start}"),
-        _ => answer.to_string(),
+    let is_number = |word: &&str| word.starts_with(|letter: char| letter.is_ascii_digit());
+    match answer.starts_with("REFUSED") {
+        true => answer.to_string(),
+        false => answer.split(' ').filter(|word| !is_number(word)).collect::<Vec<_>>().join(" "),
     }
 }
 
@@ -53,9 +54,7 @@ pub fn label(answer: &str) -> String {
 pub fn targets(ring: bool) -> BTreeSet<Hit> {
     let mut all = BTreeSet::new();
     for row in ROWS {
-        let refusals = row.refusals.iter().filter(|&&number| ring || number != 23);
-        all.extend(refusals.map(|number| (row.name, format!("REFUSED {number}"))));
-        all.extend(row.answers.iter().map(|answer| (row.name, answer.to_string())));
+        all.extend(row.hits().filter(|(_, answer)| ring || answer != "REFUSED 23"));
     }
     all
 }
@@ -73,6 +72,17 @@ pub fn causes(ring: bool) -> BTreeSet<Hit> {
     let faults = faults.filter(|cause| wanted(cause, false));
     let clauses = clauses.filter(|cause| wanted(cause, true));
     faults.chain(clauses).map(|cause| (CAUSE, cause)).collect()
+}
+
+/// What scripts of a kind are to reach; None if they need not reach anything.
+pub fn sought(kind: &str) -> Option<BTreeSet<Hit>> {
+    let with_causes = |ring| targets(ring).union(&causes(ring)).cloned().collect();
+    match kind {
+        "mixed" => Some(with_causes(false)),
+        "turning" => Some(with_causes(true)),
+        "reading" => Some(reading_targets()),
+        _ => None,
+    }
 }
 
 /// The call of a cell, if it is one.
@@ -95,6 +105,7 @@ pub fn hits(cells: &[Cell]) -> BTreeSet<Hit> {
         let state = driver.state;
         let answer = driver.call(&call);
         all.insert((name_of(&call), label(&answer.to_string())));
+        all.extend(cases(&driver, &call, &answer).iter().map(|case| (CAUSE, case.to_string())));
         if let Answer::Refused(refusal) = answer {
             all.extend(cause(&driver, &state, &call, refusal).map(|cause| (CAUSE, cause)));
         }
@@ -116,7 +127,8 @@ fn cause(driver: &Driver, state: &State, call: &Call, refusal: Refusal) -> Optio
             let broken = state.broken_clauses(&geometry, frame_count(driver.memory_len)?);
             (broken.len() == 1).then(|| broken[0].to_string())
         }
-        (Refusal::LogBroken | Refusal::NotesBroken, _) => {
+        // Restart's and Inspect's: the others take over what a restart finds.
+        (Refusal::LogBroken | Refusal::NotesBroken, Call::Restart | Call::Inspect { .. }) => {
             recover(driver.volume(), &geometry).err().map(named)
         }
         (Refusal::BelowRun, _) => Some(named(Fault::BelowRun)),

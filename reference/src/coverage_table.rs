@@ -1,6 +1,7 @@
 //! Every call with every answer that it can give.
 
 use crate::cell::Call;
+use crate::coverage::Hit;
 use crate::heading::Heading;
 
 /// A call's name, the refusals that it can give, and its other answers.
@@ -8,6 +9,15 @@ pub struct Row {
     pub name: &'static str,
     pub refusals: &'static [u8],
     pub answers: &'static [&'static str],
+}
+
+impl Row {
+    /// The call with each of its answers.
+    pub fn hits(&self) -> impl Iterator<Item = Hit> + '_ {
+        let refusals = self.refusals.iter().map(|number| format!("REFUSED {number}"));
+        let answers = self.answers.iter().map(|answer| answer.to_string());
+        refusals.chain(answers).map(|answer| (self.name, answer))
+    }
 }
 
 /// The class and start pairs there are: Good is always own, Failed and Ahead never.
@@ -42,7 +52,11 @@ pub const ROWS: &[Row] = &[
     Row { name: "release", refusals: &[1, 2, 3, 8, 10], answers: OK },
 ];
 
-/// The name of a call in the table.
+/// The calls that take volumes but no state.
+pub const READING_ROWS: &[Row] =
+    &[Row { name: "forecast", refusals: &[1, 17, 18], answers: &["FORECAST"] }];
+
+/// The name of a call in the tables.
 pub fn name_of(call: &Call) -> &'static str {
     match call {
         Call::Make { heading: Heading::Second, .. } => "make",
@@ -57,5 +71,6 @@ pub fn name_of(call: &Call) -> &'static str {
         Call::Note => "note",
         Call::Inspect { .. } => "inspect",
         Call::Release { .. } => "release",
+        Call::Forecast => "forecast",
     }
 }

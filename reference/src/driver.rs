@@ -2,14 +2,16 @@
 
 use crate::answer::Answer;
 use crate::calls::{inspect, make, restart};
-use crate::cell::{decode, Call, Cell, Op, CELL_LEN, MAX_CELLS};
+use crate::cell::{decode, Call, Cell, Op, Second, CELL_LEN, MAX_CELLS};
+use crate::forecast::forecast;
 use crate::record::PAYLOAD_LEN;
 use crate::state::State;
 use std::io::{self, Write};
 
 pub const VOLUME_BUFFER: usize = 131_200;
 pub const MEMORY_BUFFER: usize = 5_376;
-pub const LENT_BUFFER: usize = 512;
+pub const LENT_BUFFER: usize = 65_920;
+pub const SECOND_BUFFER: usize = VOLUME_BUFFER;
 
 /// The buffers with the lengths in use, and the state.
 #[derive(Clone)]
@@ -17,9 +19,12 @@ pub struct Driver {
     pub volume: Vec<u8>,
     pub memory: Vec<u8>,
     pub lent: Vec<u8>,
+    /// A volume, an archive or events to read; no call writes it.
+    pub second: Vec<u8>,
     pub volume_len: usize,
     pub memory_len: usize,
     pub lent_len: usize,
+    pub second_len: usize,
     pub state: State,
 }
 
@@ -29,9 +34,11 @@ impl Default for Driver {
             volume: vec![0; VOLUME_BUFFER],
             memory: vec![0; MEMORY_BUFFER],
             lent: vec![0; LENT_BUFFER],
+            second: vec![0; SECOND_BUFFER],
             volume_len: 0,
             memory_len: 1_280,
             lent_len: 256,
+            second_len: 0,
             state: State::zero(),
         }
     }
@@ -48,6 +55,10 @@ impl Driver {
 
     pub fn lent(&self) -> &[u8] {
         &self.lent[..self.lent_len]
+    }
+
+    pub fn second(&self) -> &[u8] {
+        &self.second[..self.second_len]
     }
 
     /// Runs a cell; None if it is skipped.
@@ -74,11 +85,27 @@ impl Driver {
                 0 => self.volume.fill(byte),
                 1 => self.memory.fill(byte),
                 2 => self.lent.fill(byte),
+                3 => self.second.fill(byte),
                 _ => return None,
             },
+            Op::Second(second) => self.set_second(second),
+            Op::PokeSecond { at, count, bytes } => poke(&mut self.second, at, count, &bytes),
             Op::Skip => return None,
         }
         Some(Answer::Done)
+    }
+
+    fn set_second(&mut self, second: Second) {
+        let source = match second {
+            Second::Volume => &self.volume[..self.volume_len],
+            Second::Lent => &self.lent[..self.lent_len],
+            Second::Length(length) => {
+                self.second_len = (length as usize).min(SECOND_BUFFER);
+                return;
+            }
+        };
+        self.second[..source.len()].copy_from_slice(source);
+        self.second_len = source.len();
     }
 
     /// A driver with the lent parts of the buffers only, to try a call on.
@@ -87,6 +114,7 @@ impl Driver {
             volume: self.volume().to_vec(),
             memory: self.memory().to_vec(),
             lent: self.lent().to_vec(),
+            second: self.second().to_vec(),
             ..*self
         }
     }
@@ -112,6 +140,7 @@ impl Driver {
             Call::Inspect { page } => {
                 (state, inspect(volume, page, &mut self.lent[..self.lent_len]))
             }
+            Call::Forecast => (state, forecast_answer(volume)),
         };
         self.state = state;
         answer
@@ -127,6 +156,17 @@ impl Driver {
             bytes(self.lent()),
             hash(self.state.numbers().into_iter().map(u64::from)),
         )
+    }
+}
+
+fn forecast_answer(volume: &[u8]) -> Answer {
+    let number = |figure: Option<u32>| u64::from(figure.unwrap_or(u32::MAX));
+    match forecast(volume) {
+        Ok(rows) => {
+            let numbers = rows.iter().flat_map(|row| [number(row.sound), number(row.unsound)]);
+            Answer::Forecast(hash(numbers))
+        }
+        Err(refusal) => Answer::Refused(refusal),
     }
 }
 

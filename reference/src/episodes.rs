@@ -1,7 +1,7 @@
 //! Mutations of lengths, headings, states and arguments, each with calls that look at it.
 
 use crate::bytes::{put_u32, u32_at};
-use crate::cell::{Call, Cell, Op, CELL_LEN};
+use crate::cell::{Call, Cell, Op, Second, CELL_LEN};
 use crate::choose::{payload, Kind};
 use crate::geometry::{IMAGE_LEN, MAX_FRAMES};
 use crate::heading::{Heading, HEADING_LEN};
@@ -11,7 +11,7 @@ use crate::rng::Rng;
 use crate::state::{FRAMES_AT, INDEX_AT, NUMBERS};
 use crate::world::World;
 
-const ALL_KINDS: [Kind; 10] = [
+const ALL_KINDS: [Kind; 11] = [
     Kind::Restart,
     Kind::Begin,
     Kind::Load,
@@ -22,6 +22,7 @@ const ALL_KINDS: [Kind; 10] = [
     Kind::Note,
     Kind::Inspect,
     Kind::Release,
+    Kind::Forecast,
 ];
 
 /// A call of this kind, mostly with arguments that suit the state.
@@ -76,7 +77,7 @@ pub fn wrong_length(world: &mut World, rng: &mut Rng) {
     match rng.below(3) {
         0 => volume = shift(rng, volume, &[1, 4, 16, 64, 256, volume, volume - 3, volume - 7]),
         1 => memory = shift(rng, memory, &[1, 64, 128, 256, 512, memory - 1_024, memory, 5_376]),
-        _ => buffer = rng.pick(&[0, 1, 255, 257, 512]),
+        _ => buffer = rng.pick(&[0, 1, 255, 257, 512, 65_920, 65_921]),
     }
     world.script.sizes(volume, memory, buffer);
     if buffer != IMAGE_LEN {
@@ -236,12 +237,28 @@ pub fn odd_cells(world: &mut World, rng: &mut Rng) {
     cell[0] = 5;
     cell[1] = rng.pick(&[0, 4, 255]);
     world.script.emit_cell(cell);
-    world.script.emit(Op::Fill { target: 3, byte: 0 });
+    world.script.emit(Op::Fill { target: 4, byte: 0 });
     let bytes = payload(rng);
     world.script.emit(Op::Poke { at: 131_190, count: 200, bytes });
     world.script.emit(Op::PokeMemory { at: 5_370, count: 44, bytes });
     world.script.emit(Op::Poke { at: u32::MAX, count: 44, bytes });
+    odd_second_cells(world, rng);
     for (position, value) in [(360, 0), (3, 3), (6, 256), (8, 65_536), (9, 2), (u32::MAX, 1)] {
         world.script.emit(Op::SetState { position, value });
     }
+}
+
+/// Cells of the second buffer at its edges, and one that is skipped.
+fn odd_second_cells(world: &mut World, rng: &mut Rng) {
+    let bytes = payload(rng);
+    let length = rng.pick(&[0, 1, 256, 131_199, 131_200, 131_201, u32::MAX]);
+    world.script.emit(Op::Fill { target: 3, byte: rng.byte() });
+    world.script.emit(Op::PokeSecond { at: 131_190, count: 200, bytes });
+    world.script.emit(Op::PokeSecond { at: u32::MAX, count: 1, bytes });
+    for second in [Second::Volume, Second::Lent, Second::Length(length)] {
+        world.script.emit(Op::Second(second));
+    }
+    let mut cell: Cell = [0; CELL_LEN];
+    (cell[0], cell[1]) = (27, rng.pick(&[3, 255]));
+    world.script.emit_cell(cell);
 }

@@ -3,7 +3,7 @@
 
 use crate::arbitrary::one_bench;
 use crate::cell::{Cell, MAX_CELLS};
-use crate::coverage::{causes, hits, targets, Hit};
+use crate::coverage::{hits, sought, Hit};
 use crate::geometry::Geometry;
 use crate::heading::Heading;
 use crate::history::{choose_geometry, choose_ring, one_history};
@@ -20,7 +20,7 @@ const ROUNDS: [(usize, usize); 6] =
 /// The script, on rings or on volumes that don't turn, and the answers that it does not reach.
 pub fn mixed_script(rng: &mut Rng, cells: usize, ring: bool) -> (Vec<Cell>, BTreeSet<Hit>) {
     let most = cells.min(MAX_CELLS);
-    let mut missing: BTreeSet<Hit> = targets(ring).union(&causes(ring)).cloned().collect();
+    let mut missing = sought(if ring { "turning" } else { "mixed" }).unwrap_or_default();
     let mut all = full_size_piece(rng, ring);
     remove(&mut missing, &all);
     for (gain, tries) in ROUNDS {

@@ -11,13 +11,18 @@ use std::ops::RangeInclusive;
 /// The state that a volume's records and notes give.
 pub fn recover(volume: &[u8], geometry: &Geometry) -> Result<State, Fault> {
     let log = Log::read(volume, geometry)?;
+    index_of(volume, geometry, &log)
+}
+
+/// The same with the log read already.
+pub fn index_of(volume: &[u8], geometry: &Geometry, log: &Log) -> Result<State, Fault> {
     let mut state = State::zero();
     state.durable = *log.run.end();
     for (page, newest) in (1u16..).zip(log.newest_numbers()) {
         let entry = state.entry_mut(page);
         (entry.newest, entry.newest_durable) = (newest, newest);
     }
-    replay_notes(volume, geometry, &log, &mut state)?;
+    replay_notes(volume, geometry, log, &mut state)?;
     for entry in &mut state.index {
         settle_without_record(entry)?;
     }
@@ -71,9 +76,9 @@ impl Log {
         newest
     }
 
-    /// The page of record `number`, which is in the run.
-    fn owner(&self, number: u32) -> u16 {
-        self.records[(number - self.run.start()) as usize].page
+    /// Record `number`, if it is in the run.
+    pub fn record(&self, number: u32) -> Option<&Record> {
+        self.records.get(number.checked_sub(*self.run.start())? as usize)
     }
 }
 
@@ -100,8 +105,8 @@ fn check_note(note: &Note, geometry: &Geometry, log: &Log, state: &State) -> Res
     require(page_in_range(note.page, geometry), Fault::NotePage)?;
     require(note.lsn != 0, Fault::NoteZero)?;
     require(note.lsn <= state.durable, Fault::NoteAboveLog)?;
-    let known = log.run.contains(&note.lsn);
-    require(!known || log.owner(note.lsn) == note.page, Fault::NoteRecord)?;
+    let named = log.record(note.lsn);
+    require(named.is_none_or(|record| record.page == note.page), Fault::NoteRecord)?;
     let entry = state.entry(note.page);
     match note.kind {
         NoteKind::Written => {

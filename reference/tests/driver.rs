@@ -1,6 +1,6 @@
 //! The script driver: lines, hashes, skipped cells, buffers.
 
-use reference::cell::{decode, encode, Call, Cell, Op};
+use reference::cell::{decode, encode, Call, Cell, Op, Second};
 use reference::driver::{drive, Driver};
 use reference::heading::Heading;
 use reference::record::Change;
@@ -48,6 +48,10 @@ fn ops_survive_encoding() {
         Op::PokeMemory { at: 5, count: 4, bytes },
         Op::SetState { position: 359, value: u32::MAX },
         Op::Fill { target: 2, byte: 9 },
+        Op::Second(Second::Volume),
+        Op::Second(Second::Lent),
+        Op::Second(Second::Length(70_001)),
+        Op::PokeSecond { at: 70_000, count: 3, bytes },
         Op::Lose,
         Op::Skip,
     ] {
@@ -82,8 +86,34 @@ fn pokes_stay_inside_the_buffers() {
 fn sizes_are_cut_to_the_buffers() {
     let mut driver = Driver::default();
     driver.run(&Op::Sizes { volume: u32::MAX, memory: u32::MAX, buffer: u32::MAX });
-    assert_eq!((driver.volume_len, driver.memory_len, driver.lent_len), (131_200, 5_376, 512));
-    assert!(driver.run(&Op::Fill { target: 3, byte: 1 }).is_none());
+    assert_eq!((driver.volume_len, driver.memory_len, driver.lent_len), (131_200, 5_376, 65_920));
+    assert!(driver.run(&Op::Fill { target: 4, byte: 1 }).is_none());
+}
+
+#[test]
+fn the_second_buffer() {
+    let mut driver = Driver::default();
+    assert_eq!((driver.second.len(), driver.second_len), (131_200, 0));
+    driver.run(&Op::Sizes { volume: 3, memory: 1_280, buffer: 2 });
+    for (target, byte) in [(0, 1), (2, 2), (3, 3)] {
+        assert!(driver.run(&Op::Fill { target, byte }).is_some());
+    }
+    driver.run(&Op::Second(Second::Volume));
+    assert_eq!((driver.second(), driver.second[3]), (&[1, 1, 1][..], 3));
+    driver.run(&Op::Second(Second::Lent));
+    assert_eq!((driver.second(), driver.second[2]), (&[2, 2][..], 1));
+    driver.run(&Op::PokeSecond { at: 1, count: 2, bytes: [9; 44] });
+    assert_eq!(driver.second(), [2, 9]);
+    for (length, expected) in [(5, 5), (131_200, 131_200), (u32::MAX, 131_200), (0, 0)] {
+        driver.run(&Op::Second(Second::Length(length)));
+        assert_eq!(driver.second_len, expected);
+    }
+    assert_eq!(driver.second[..5], [2, 9, 9, 3, 3]);
+    driver.run(&Op::PokeSecond { at: 131_199, count: 44, bytes: [9; 44] });
+    assert_eq!(driver.second[131_198..], [3, 9]);
+    let mut cell = [0; 64];
+    (cell[0], cell[1]) = (27, 3);
+    assert_eq!(decode(&cell), Op::Skip);
 }
 
 #[test]

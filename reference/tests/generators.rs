@@ -2,9 +2,10 @@
 
 use reference::arbitrary::arbitrary_script;
 use reference::check::check_history;
-use reference::coverage::{causes, hits, targets};
+use reference::coverage::{hits, sought};
 use reference::driver::drive;
 use reference::history::{history_script, ring_script};
+use reference::reading::reading_script;
 use reference::rng::Rng;
 use std::collections::BTreeSet;
 
@@ -35,11 +36,19 @@ fn scripts_give_only_answers_that_the_table_knows() {
         reached.extend(hits(&history_script(&mut Rng::new(seed), 1_000)));
         reached.extend(hits(&ring_script(&mut Rng::new(seed), 1_000)));
     }
-    let known: BTreeSet<_> = [true, false]
-        .into_iter()
-        .flat_map(|ring| targets(ring).into_iter().chain(causes(ring)))
-        .collect();
+    let kinds = ["mixed", "turning", "reading"];
+    let known: BTreeSet<_> = kinds.into_iter().flat_map(sought).flatten().collect();
     assert!(reached.is_subset(&known), "{:?}", reached.difference(&known));
+}
+
+#[test]
+fn reading_scripts_reach_all_that_they_are_for() {
+    let mut missing = sought("reading").unwrap();
+    for seed in 0..8 {
+        let reached = hits(&reading_script(&mut Rng::new(seed), 2_000));
+        missing = missing.difference(&reached).cloned().collect();
+    }
+    assert!(missing.is_empty(), "{missing:?}");
 }
 
 #[test]
@@ -49,7 +58,7 @@ fn random_cells_never_panic() {
         let mut script = vec![0; 64 * 300];
         rng.fill(&mut script);
         for cell in script.chunks_mut(64) {
-            cell[0] = rng.between(0, 17) as u8;
+            cell[0] = rng.between(0, 31) as u8;
             for at in [3, 5, 13, 14, 15, 61, 62, 63] {
                 cell[at] = if rng.chance(800) { 0 } else { cell[at] };
             }

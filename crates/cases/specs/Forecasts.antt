@@ -26,10 +26,10 @@ forecasted v p = let f = forecastRow v p in f .refusal ∷ f .count ∷ []
 abbrev pub three : List StoredItem → List ℕ
 three xs = smallVolume (oneItem (recordAt 1) (recordNo 1) ∷ oneItem (recordAt 2) (recordNo 2) ∷ oneItem (recordAt 3) (recordNo 3) ∷ xs)
 
-abbrev backedUp : ℕ → List StoredItem
+abbrev pub backedUp : ℕ → List StoredItem
 backedUp n = oneItem (slotAt 1) (image 1 n body1) ∷ oneItem (noteAt 1) (backupNote 1 1 1 n) ∷ []
 
-abbrev ownAt : ℕ → StoredItem
+abbrev pub ownAt : ℕ → StoredItem
 ownAt n = oneItem (pageAt 1) (image 1 n body1)
 
 -- the answer of inspection, and the figure

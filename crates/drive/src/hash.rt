@@ -4,7 +4,7 @@ use model::state::Frame;
 use model::state::PendingNote;
 use model::state::State;
 
-fn step(h: u32, x: u32) -> u32 {
+pub fn step(h: u32, x: u32) -> u32 {
     ((h as u64 * 257 + x as u64 + 1) % 4294967291) as u32
 }
 

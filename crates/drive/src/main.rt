@@ -3,6 +3,7 @@
 // implementation, so nothing is proved of it but that it is safe and ends.
 mod calls;
 mod cell;
+mod forecast;
 mod hash;
 mod numbers;
 mod printed;
@@ -13,17 +14,21 @@ use crate::session::Said;
 use crate::session::Session;
 use crate::session::Turn;
 use libc::STDIN_FILENO;
-use model::answer::Answer;
 
 // Does what a cell says.
-fn turn(b: Session, c: &[u8], volume: &mut [u8], memory: &mut [u8], lent: &mut [u8]) -> Turn {
-    let op = cell::op(c);
-    if (op == 1) | (op == 10) | (op == 21) {
-        calls::plain(b, c, volume, lent)
-    } else if ((2 <= op) & (op <= 9)) | (op == 17) {
-        calls::stateful(b, c, volume, memory)
-    } else {
-        setup::turn(b, c, volume, memory, lent)
+fn turn(
+    b: Session,
+    c: &[u8],
+    volume: &mut [u8],
+    memory: &mut [u8],
+    lent: &mut [u8],
+    second: &mut [u8],
+) -> Turn {
+    match cell::op(c) {
+        1 | 10 | 21 => calls::plain(b, c, volume, lent),
+        2..=9 | 17 => calls::stateful(b, c, volume, memory),
+        22 => forecast::turn(b, volume),
+        _ => setup::turn(b, c, volume, memory, lent, second),
     }
 }
 
@@ -33,10 +38,12 @@ fn lent_hash(buffer: &[u8], size: usize) -> u32 {
     hash::bytes(&buffer[0..n])
 }
 
-fn line(a: Answer, b: Session, volume: &[u8], memory: &[u8], lent: &[u8]) {
+fn report(said: Said, b: Session, volume: &[u8], memory: &[u8], lent: &[u8]) {
+    if !printed::said(said) {
+        return;
+    }
     let store = b.store;
     let s = store.state;
-    printed::answer(a);
     printed::hashes(
         lent_hash(volume, b.volume),
         lent_hash(memory, b.memory),
@@ -45,16 +52,16 @@ fn line(a: Answer, b: Session, volume: &[u8], memory: &[u8], lent: &[u8]) {
     );
 }
 
-fn report(said: Said, b: Session, volume: &[u8], memory: &[u8], lent: &[u8]) {
-    match said {
-        Said::Skip => printed::skip(),
-        Said::Told(a) => line(a, b, volume, memory, lent),
-    }
-}
-
 // One cell: done, and its line printed.
-fn step(b: Session, c: &[u8], volume: &mut [u8], memory: &mut [u8], lent: &mut [u8]) -> Session {
-    let t = turn(b, c, volume, memory, lent);
+fn step(
+    b: Session,
+    c: &[u8],
+    volume: &mut [u8],
+    memory: &mut [u8],
+    lent: &mut [u8],
+    second: &mut [u8],
+) -> Session {
+    let t = turn(b, c, volume, memory, lent, second);
     let said = t.said;
     let next = t.session;
     report(said, next, volume, memory, lent);
@@ -64,13 +71,15 @@ fn step(b: Session, c: &[u8], volume: &mut [u8], memory: &mut [u8], lent: &mut [
 fn main() {
     let mut volume = [0u8; 131200];
     let mut memory = [0u8; 5376];
-    let mut lent = [0u8; 512];
+    let mut lent = [0u8; 65920];
+    let mut second = [0u8; 131200];
     let store = session::empty();
     let mut b = Session {
         store,
         volume: 0,
         memory: 1280,
         lent: 256,
+        second: 0,
     };
     let mut left: u32 = 4096;
     while 0 < left {
@@ -78,7 +87,7 @@ fn main() {
         if io::read_full(STDIN_FILENO, &mut cell) < 64 {
             return;
         }
-        b = step(b, &cell, &mut volume, &mut memory, &mut lent);
+        b = step(b, &cell, &mut volume, &mut memory, &mut lent, &mut second);
         left -= 1;
     }
 }

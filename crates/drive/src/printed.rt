@@ -1,14 +1,25 @@
 // What is printed for a cell: an answer, then the hashes of volume, memory, lent buffer and state.
-use model::answer::Answer;
+use crate::session::Said;
 use print::number;
 use print::say;
 
-pub fn skip() {
-    say(b"SKIP\n");
+// A word and a number.
+fn told(word: &[u8], n: u32) {
+    say(word);
+    number(n);
 }
 
-pub fn answer(a: Answer) {
-    print::answer(a, b"NOTHING", b"OK");
+// Prints what is said of a cell; false where that is the whole line.
+pub fn said(s: Said) -> bool {
+    match s {
+        Said::Skip => {
+            say(b"SKIP\n");
+            return false;
+        }
+        Said::Told(a) => print::answer(a, b"NOTHING", b"OK"),
+        Said::Forecast(h) => told(b"FORECAST ", h),
+    }
+    true
 }
 
 pub fn hashes(v: u32, m: u32, u: u32, s: u32) {

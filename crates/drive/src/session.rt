@@ -1,4 +1,4 @@
-// What a script works on, apart from its three buffers: the store, and how much of each buffer is lent to a call.
+// What a script works on, apart from its four buffers: the store, and how much of each buffer is lent to a call.
 ghost use Prim.Native.Nat.{_≤_};
 use model::answer::Answer;
 use state::next;
@@ -10,12 +10,14 @@ pub struct Session {
     pub volume: usize,
     pub memory: usize,
     pub lent: usize,
+    pub second: usize,
 }
 
-// What is said of a cell: nothing, where it is skipped, or an answer.
+// What is said of a cell: nothing, where it is skipped, an answer, or what a call that takes no state gives.
 pub enum Said {
     Skip,
     Told(Answer),
+    Forecast(u32),
 }
 
 pub struct Turn {
@@ -25,7 +27,7 @@ pub struct Turn {
 
 // The smaller one.
 pub fn least(a: usize, b: usize) -> usize
-    ensures { λ r. ⌜ r ≤ b ⌝ }
+    ensures { λ r. ⌜ (r ≤ a) × (r ≤ b) ⌝ }
 {
     if a < b { a } else { b }
 }
@@ -43,6 +45,19 @@ pub fn with_store(b: Session, store: Store) -> Session {
         volume: b.volume,
         memory: b.memory,
         lent: b.lent,
+        second: b.second,
+    }
+}
+
+// The session with so much of the second buffer lent.
+pub fn with_second(b: Session, n: usize) -> Session {
+    let store = b.store;
+    Session {
+        store,
+        volume: b.volume,
+        memory: b.memory,
+        lent: b.lent,
+        second: n,
     }
 }
 
@@ -51,9 +66,12 @@ pub fn skipped(session: Session) -> Turn {
     Turn { said, session }
 }
 
-pub fn told(session: Session, a: Answer) -> Turn {
-    let said = Said::Told(a);
+pub fn say(session: Session, said: Said) -> Turn {
     Turn { said, session }
+}
+
+pub fn told(session: Session, a: Answer) -> Turn {
+    say(session, Said::Told(a))
 }
 
 pub fn done(session: Session) -> Turn {

@@ -1,4 +1,4 @@
-// The cells that set up what calls work on, ops 11 to 16: sizes, bytes and numbers of any kind.
+// The cells that set up what calls work on, ops 11 to 16, 27 and 28: sizes, bytes and numbers of any kind.
 use crate::cell;
 use crate::numbers;
 use crate::session;
@@ -16,6 +16,28 @@ fn sizes(b: Session, c: &[u8], volume: &[u8], memory: &[u8], lent: &[u8]) -> Ses
         volume: session::least(cell::first(c) as usize, volume.len()),
         memory: session::least(cell::second(c) as usize, memory.len()),
         lent: session::least(field::u32_at(c, 16) as usize, lent.len()),
+        second: b.second,
+    }
+}
+
+// Copies the first n bytes of a buffer to the front of another, as many as both have, and says how many.
+fn carry(dst: &mut [u8], src: &[u8], n: usize) -> usize {
+    let most = session::least(n, src.len());
+    let k = session::least(most, dst.len());
+    part::copy(&mut dst[0..k], &src[0..k]);
+    k
+}
+
+// What the second buffer holds for the calls that read it: the volume's lent part, the lent buffer's, or so many of its own bytes.
+fn take(b: Session, c: &[u8], volume: &[u8], lent: &[u8], second: &mut [u8]) -> Turn {
+    match cell::kind(c) {
+        0 => session::done(session::with_second(b, carry(second, volume, b.volume))),
+        1 => session::done(session::with_second(b, carry(second, lent, b.lent))),
+        2 => {
+            let n = session::least(cell::first(c) as usize, second.len());
+            session::done(session::with_second(b, n))
+        }
+        _ => session::skipped(b),
     }
 }
 
@@ -51,7 +73,14 @@ fn set(b: Session, c: &[u8]) -> Turn {
 }
 
 // Fills a whole buffer.
-fn fill(b: Session, c: &[u8], volume: &mut [u8], memory: &mut [u8], lent: &mut [u8]) -> Turn {
+fn fill(
+    b: Session,
+    c: &[u8],
+    volume: &mut [u8],
+    memory: &mut [u8],
+    lent: &mut [u8],
+    second: &mut [u8],
+) -> Turn {
     let x = cell::kind(c);
     match cell::first(c) {
         0 => {
@@ -66,11 +95,22 @@ fn fill(b: Session, c: &[u8], volume: &mut [u8], memory: &mut [u8], lent: &mut [
             part::fill(lent, x);
             session::done(b)
         }
+        3 => {
+            part::fill(second, x);
+            session::done(b)
+        }
         _ => session::skipped(b),
     }
 }
 
-pub fn turn(b: Session, c: &[u8], volume: &mut [u8], memory: &mut [u8], lent: &mut [u8]) -> Turn {
+pub fn turn(
+    b: Session,
+    c: &[u8],
+    volume: &mut [u8],
+    memory: &mut [u8],
+    lent: &mut [u8],
+    second: &mut [u8],
+) -> Turn {
     match cell::op(c) {
         11 => session::done(sizes(b, c, volume, memory, lent)),
         12 => {
@@ -86,7 +126,12 @@ pub fn turn(b: Session, c: &[u8], volume: &mut [u8], memory: &mut [u8], lent: &m
             part::fill(memory, 0);
             session::done(session::with_store(b, session::empty()))
         }
-        16 => fill(b, c, volume, memory, lent),
+        16 => fill(b, c, volume, memory, lent, second),
+        27 => take(b, c, volume, lent, second),
+        28 => {
+            poke(c, second);
+            session::done(b)
+        }
         _ => session::skipped(b),
     }
 }

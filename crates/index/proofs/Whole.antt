@@ -41,10 +41,10 @@ refuses v r n e h some = (e ∙ sym h, (λ z. absurd (some (sym e ∙ z)), λ z.
 
 -- a clean scan's counts with its index are all that it gives
 pub gives : (v : List ℕ) (r : Counts) (index : List Entry) → r ≡ countsOf v → index ≡ scannedIndex v
-    → _≡_ {A = Scanned} (record { refusal = r .refusal; durable = r .durable; notes = r .notes; index = index }) (scannedOf v)
+    → _≡_ {A = Scanned} (record { refusal = r .refusal; first = r .first; durable = r .durable; notes = r .notes; index = index }) (scannedOf v)
 gives v r index e i =
-    ap (λ (k : Counts). record { refusal = k .refusal; durable = k .durable; notes = k .notes; index = index }) e
-    ∙ ap (λ (l : List Entry). record { refusal = 0; durable = durableCount (geometryOf v) v; notes = noteCount (geometryOf v) v; index = l }) i
+    ap (λ (k : Counts). record { refusal = k .refusal; first = k .first; durable = k .durable; notes = k .notes; index = index }) e
+    ∙ ap (λ (l : List Entry). record { refusal = 0; first = countsOf v .first; durable = countsOf v .durable; notes = countsOf v .notes; index = l }) i
 
 -- and with one page's entry
 pub finds : (v : List ℕ) (r : Counts) (page : ℕ) (e : Entry) (last written slots backup : List ℕ) → r ≡ countsOf v

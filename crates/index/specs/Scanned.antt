@@ -35,7 +35,14 @@ countsOf v =
 
 abbrev pub scannedOf : List ℕ → Scanned
 scannedOf v =
-    record { refusal = 0; durable = durableCount (geometryOf v) v; notes = noteCount (geometryOf v) v; index = scannedIndex v }
+    let g = geometryOf v in
+    record {
+      refusal = 0;
+      first = firstHeld g v (durableCount g v);
+      durable = durableCount g v;
+      notes = noteCount g v;
+      index = scannedIndex v;
+    }
 
 abbrev pub foundOf : List ℕ → ℕ → Found
 foundOf v page = record { refusal = 0; first = countsOf v .first; entry = entryOf (scannedIndex v) page }

@@ -21,9 +21,10 @@ pub struct Counts {
     pub notes: u32,
 }
 
-// What a scan gives: its counts, and the index.
+// What a scan gives: its counts with the log's run start, and the index.
 pub struct Scanned {
     pub refusal: u32,
+    pub first: u64,
     pub durable: u32,
     pub notes: u32,
     pub index: [Entry; 64],
@@ -96,6 +97,7 @@ pub fn scan(volume: &[u8]) -> Scanned
     let index = columns::gather(&last, &written, &slots, &backup);
     Scanned {
         refusal: counts.refusal,
+        first: counts.first,
         durable: counts.durable,
         notes: counts.notes,
         index,

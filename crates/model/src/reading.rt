@@ -6,10 +6,24 @@ pub struct Figure {
     pub count: u32,
 }
 
-// The forecast of a volume: 0 or the refusal, and a figure for each page; zeros past the last page and where it is refused.
+// The forecast of a volume: 0 or the refusal, and a figure for each page; zeros past the last page and where it is
+// refused.
 pub struct Forecast {
     pub refusal: u32,
     pub pages: [Figure; 64],
+}
+
+// Two figures for a page, from the log and notes alone: where its noted backup is sound, and where it is not.
+pub struct Bound {
+    pub sound: Figure,
+    pub unsound: Figure,
+}
+
+// The bounds of a volume's repairs: 0 or the refusal, and two figures for each page; zeros past the last page and where
+// it is refused.
+pub struct Bounds {
+    pub refusal: u32,
+    pub pages: [Bound; 64],
 }
 
 // A length in bytes, or the refusal.

@@ -4,8 +4,8 @@ ghost use mathlib.Core.Bool.{true};
 ghost use Prim.Native.Nat.{_≤_};
 ghost use lib.ListN.{length};
 ghost use Rattle.model.specs.Geometry.{geometryOf, validVolume};
-ghost use Rattle.model.specs.Repair.{viewOf, ownStart, backupStart, chainRecord, isBroken, isBelow};
-ghost use Rattle.repair.specs.Walked.{Ready, logOf, walkedOf, stepOf};
+ghost use Rattle.model.specs.Repair.{viewOf, ownStart, backupStart, chainRecord, walkFrom, isBroken, isBelow};
+ghost use Rattle.repair.specs.Walked.{Ready, logOf, counted, walkedOf, stepOf};
 use codec::checksum;
 use item::image;
 use item::record;
@@ -92,15 +92,21 @@ fn look(volume: &[u8], g: Geometry, first: u64, page: u32, own: u32, backup: u32
     }
 }
 
-// The chain walk, from the newest durable number down.
-// Ruled out: an older own image, or the backup, taken at a number that is not its own (both tried); a format left out of the count.
-pub fn walk(volume: &[u8], g: Geometry, first: u64, e: Entry, page: u32) -> Walked
-    requires { ⌜ Ready (now volume) g first e page ⌝ }
-    ensures { λ r. ⌜ r ≡ walkedOf g page (viewOf g (now (volume .entry)) first e page) ⌝ }
+// The chain walk from a number down, that may stop at the own image and at the backup with these numbers; 0 is none.
+// Ruled out: a start taken at a number that is not its own (tried); a format left out of the count (tried).
+pub fn trace(
+    volume: &[u8],
+    g: Geometry,
+    first: u64,
+    page: u32,
+    own: u32,
+    backup: u32,
+    from: u32,
+) -> Walked
+    requires { ⌜ (validVolume (now volume) ≡ true) × (g ≡ geometryOf (now volume)) ⌝ }
+    ensures { λ r. ⌜ r ≡ counted (walkFrom from (logOf g (now (volume .entry))) first page own backup from) ⌝ }
 {
-    let own = own_number(volume, g, first, e, page);
-    let backup = backup_number(volume, g, first, e, page);
-    let mut n = e.durable;
+    let mut n = from;
     let mut count: u32 = 0;
     let stop = loop {
         match look(volume, g, first, page, own, backup, n) {
@@ -115,6 +121,17 @@ pub fn walk(volume: &[u8], g: Geometry, first: u64, e: Entry, page: u32) -> Walk
         }
     };
     Walked { stop, count }
+}
+
+// The chain walk, from the newest durable number down.
+// Ruled out: an older own image, or the backup, taken at a number that is not its own (both tried); a format left out of the count.
+pub fn walk(volume: &[u8], g: Geometry, first: u64, e: Entry, page: u32) -> Walked
+    requires { ⌜ Ready (now volume) g first e page ⌝ }
+    ensures { λ r. ⌜ r ≡ walkedOf g page (viewOf g (now (volume .entry)) first e page) ⌝ }
+{
+    let own = own_number(volume, g, first, e, page);
+    let backup = backup_number(volume, g, first, e, page);
+    trace(volume, g, first, page, own, backup, e.durable)
 }
 
 // The walk met a record that it may not read.

@@ -1,10 +1,10 @@
 //! Counts the answers in driver output on standard input. With `--script FILE`, the script
-//! behind that output, it counts them for each call and lists the answers and the causes of
-//! refusals that are not reached: of rings, or with `--straight 1` of volumes that don't turn.
+//! behind that output, it counts them for each call; with `--kind`, it also lists what scripts
+//! of that kind are to reach and this one does not.
 
 use reference::args::value;
 use reference::cell::Cell;
-use reference::coverage::{call_name, causes, count_output, hits, label, targets};
+use reference::coverage::{call_name, count_output, hits, label, sought};
 use reference::driver::cells;
 use std::collections::BTreeMap;
 use std::fs;
@@ -20,11 +20,12 @@ fn main() -> io::Result<()> {
         }
         return Ok(());
     }
-    by_call(&fs::read(script)?, &output, value("--straight", 0) == 0);
+    let kind: String = value("--kind", String::new());
+    by_call(&fs::read(script)?, &output, &kind);
     Ok(())
 }
 
-fn by_call(script: &[u8], output: &str, ring: bool) {
+fn by_call(script: &[u8], output: &str, kind: &str) {
     let mut counts = BTreeMap::new();
     for (cell, line) in cells(script).zip(output.lines()) {
         if let Some(name) = call_name(&cell) {
@@ -35,11 +36,8 @@ fn by_call(script: &[u8], output: &str, ring: bool) {
     for ((name, answer), count) in &counts {
         println!("{count:9} {name} {answer}");
     }
-    for (name, answer) in targets(ring).iter().filter(|hit| !counts.contains_key(hit)) {
-        println!("  missing {name} {answer}");
-    }
     let script: Vec<Cell> = cells(script).collect();
-    for (name, cause) in causes(ring).difference(&hits(&script)) {
-        println!("  missing {name} {cause}");
+    for (name, answer) in sought(kind).unwrap_or_default().difference(&hits(&script)) {
+        println!("  missing {name} {answer}");
     }
 }

@@ -1,9 +1,10 @@
-//! Writes one script: `gen --seed N --kind history|ring|arbitrary|mixed|turning --cells N`.
+//! Writes one script: `gen --seed N --kind history|ring|arbitrary|reading|mixed|turning --cells N`.
 
 use reference::arbitrary::arbitrary_script;
 use reference::args::value;
 use reference::history::{history_script, ring_script};
 use reference::mixed::mixed_script;
+use reference::reading::reading_script;
 use reference::rng::Rng;
 use std::io::{self, Write};
 use std::process::ExitCode;
@@ -16,6 +17,7 @@ fn main() -> io::Result<ExitCode> {
         "history" => history_script(&mut rng, cells),
         "ring" => ring_script(&mut rng, cells),
         "arbitrary" => arbitrary_script(&mut rng, cells),
+        "reading" => reading_script(&mut rng, cells),
         "mixed" | "turning" => {
             let (script, missing) = mixed_script(&mut rng, cells, kind == "turning");
             if !missing.is_empty() {
@@ -25,7 +27,7 @@ fn main() -> io::Result<ExitCode> {
             script
         }
         _ => {
-            eprintln!("--kind is history, ring, arbitrary, mixed or turning");
+            eprintln!("--kind is history, ring, arbitrary, reading, mixed or turning");
             return Ok(ExitCode::from(2));
         }
     };

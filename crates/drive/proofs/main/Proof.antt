@@ -1,21 +1,22 @@
 -- `drive::main` is safe and ends: the cells left fall with each turn.
+use Prim.Native.Nat.{ℕ}
 use mathlib.Core.Path.{_≡_}
-use lib.ListN.{length}
+use lib.ListN.{length, length-replicate}
 use borrow.Author.Needs.{needs}
 use Rattle.drive.proofs.main.Statement.{statement}
 use Rattle.drive.proofs.main.Tie as tie
 
 abbrev Inv-loop : tie.InvT-loop
-Inv-loop volume₀ memory₀ lent₀ d₀ left₀ volume memory lent d left = (length volume ≡ 131200) × (length memory ≡ 5376) × (length lent ≡ 512)
+Inv-loop volume₀ memory₀ lent₀ second₀ d₀ left₀ volume memory lent second d left = (length volume ≡ 131200) × (length memory ≡ 5376) × (length lent ≡ 65920) × (length second ≡ 131200)
 
 abbrev μ-loop : tie.MeasureT-loop
-μ-loop volume₀ memory₀ lent₀ d₀ left₀ volume memory lent d left = left
+μ-loop volume₀ memory₀ lent₀ second₀ d₀ left₀ volume memory lent second d left = left
 
 empty-requires : tie.Need-empty-requires Inv-loop μ-loop
 empty-requires c κs = search needs
 
 loop-holds : tie.Need-loop-holds Inv-loop μ-loop
-loop-holds c = search needs
+loop-holds c = (length-replicate {A = ℕ} 131200 0, length-replicate {A = ℕ} 5376 0, length-replicate {A = ℕ} 65920 0, length-replicate {A = ℕ} 131200 0)
 
 slice-aggregate-read-full : tie.Need-slice-aggregate-read-full Inv-loop μ-loop
 slice-aggregate-read-full c = search needs
@@ -37,6 +38,9 @@ slice-aggregate-step-3 c = search needs
 
 slice-aggregate-step-4 : tie.Need-slice-aggregate-step-4 Inv-loop μ-loop
 slice-aggregate-step-4 c = search needs
+
+slice-aggregate-step-5 : tie.Need-slice-aggregate-step-5 Inv-loop μ-loop
+slice-aggregate-step-5 c = search needs
 
 step-requires : tie.Need-step-requires Inv-loop μ-loop
 step-requires c κs = search needs
@@ -68,6 +72,7 @@ main-spec =
     slice-aggregate-step-2
     slice-aggregate-step-3
     slice-aggregate-step-4
+    slice-aggregate-step-5
     step-requires
     sub-left
     loop-less

@@ -1,0 +1,78 @@
+//! Inspections of a history's volume against the book.
+
+use crate::answer::{Answer, Class, Rebuild, Refusal, Start};
+use crate::book::Replay;
+use crate::bytes::{u16_at, u32_at};
+use crate::calls::inspect;
+use crate::check::{ensure, Checker};
+use crate::check_forecast::{check_bound, check_forecast};
+use crate::image::BODY;
+
+impl Checker {
+    /// Inspect for every page: 7 exactly if blank, 23 if it is beyond repair, else the
+    /// replay's number and body.
+    pub fn inspect_all(&self) -> Result<(), String> {
+        let noted = self.noted()?;
+        self.check_ring(&noted)?;
+        let forecast = check_forecast(&self.ring(&noted))?;
+        for page in 1..=self.world.geometry.pages as u16 {
+            let mut buffer = [0xA5; 256];
+            let answer = inspect(self.world.volume(), page, &mut buffer);
+            self.ring(&noted).check_below(page, &answer)?;
+            check_bound(&self.ring(&noted), page, &answer, &forecast[usize::from(page) - 1])?;
+            match (answer, self.book.replay(page)) {
+                (Answer::Refused(Refusal::Blank), None) => {
+                    ensure(buffer == [0xA5; 256], || "a refused Inspect wrote".into())?
+                }
+                (Answer::Refused(Refusal::BelowRun), Some(_)) => {
+                    ensure(buffer == [0xA5; 256], || "a refused Inspect wrote".into())?
+                }
+                (Answer::Rebuilt(rebuild), replay @ Some(_)) => {
+                    same(&buffer, replay, "Inspect", page)?;
+                    ensure(self.world.item_sealed(&buffer), || "Inspect set no checksum".into())?;
+                    self.check_rebuild(page, &rebuild, &buffer)?;
+                }
+                (answer, replay) => {
+                    let number = replay.map(|replay| replay.number);
+                    return Err(format!("Inspect of page {page}: {answer}, book {number:?}"));
+                }
+            }
+        }
+        Ok(())
+    }
+
+    /// Class, start and count replayed, told from the book, the own image and the notes.
+    pub fn check_rebuild(&self, page: u16, rebuild: &Rebuild, image: &[u8]) -> Result<(), String> {
+        let own = &self.world.volume()[self.world.geometry.page(page.into())];
+        let good = own[..252] == image[..252] && self.world.item_sealed(own);
+        ensure(good == (rebuild.class == Class::Good), || format!("page {page}: {rebuild}"))?;
+        ensure(rebuild.class != Class::Ahead, || format!("a history made page {page} {rebuild}"))?;
+        let untouched = rebuild.start == Start::Own && rebuild.replayed == 0;
+        ensure(good == untouched, || format!("page {page}: {rebuild}"))?;
+        let places = self.book.places(page);
+        let after = |number: u32| places.iter().filter(|&&place| place > number).count();
+        let is_format = |&&place: &&u32| self.book.entry(place).change.is_format();
+        let last_format = places.iter().rev().find(is_format).copied().unwrap_or(1);
+        let noted = self.noted()?.entry(page).backup_lsn;
+        let expected = match rebuild.start {
+            Start::Own => after(u32_at(own, 4)),
+            Start::Backup => after(noted),
+            Start::Format => after(last_format) + 1,
+        };
+        ensure(rebuild.replayed == expected, || format!("page {page}: {rebuild}, {places:?}"))
+    }
+}
+
+/// Whether bytes 4 to 251 of an image are the replay's, and the page number is right.
+pub fn same(image: &[u8], replay: Option<Replay>, what: &str, page: u16) -> Result<(), String> {
+    let Some(replay) = replay else {
+        return Err(format!("{what} of page {page}, which the book calls blank"));
+    };
+    ensure(u16_at(image, 0) == page && u16_at(image, 2) == 0, || {
+        format!("{what} of page {page}: first bytes {:?}", &image[..4])
+    })?;
+    ensure(u32_at(image, 4) == replay.number, || {
+        format!("{what} of page {page}: number {}, book {}", u32_at(image, 4), replay.number)
+    })?;
+    ensure(image[BODY] == replay.body, || format!("{what} of page {page}: body differs"))
+}

@@ -1,0 +1,81 @@
+//! Generator of volumes, sound and spoilt, for the calls that take volumes but no state.
+
+use crate::arbitrary::{grow, revive, Episode};
+use crate::cell::{Call, Cell, MAX_CELLS};
+use crate::episodes::{wrong_heading, wrong_length};
+use crate::geometry::Geometry;
+use crate::history::{choose_geometry, choose_ring, Style};
+use crate::item_episodes::{
+    copied_item, dirty_tail, edited_image, edited_note, edited_record, forged_note, forged_record,
+};
+use crate::rng::Rng;
+use crate::script::Script;
+use crate::world::World;
+
+/// What is done to a volume before it is looked at.
+const SPOILS: [(Episode, usize); 11] = [
+    (leave, 12),
+    (forget_notes, 4),
+    (wrong_length, 1),
+    (wrong_heading, 1),
+    (edited_record, 3),
+    (forged_record, 2),
+    (edited_note, 2),
+    (forged_note, 2),
+    (edited_image, 2),
+    (dirty_tail, 1),
+    (copied_item, 2),
+];
+
+/// The calls that look at it.
+const LOOKS: [(Episode, usize); 1] = [(look_ahead, 1)];
+
+/// A script of volumes at all stages of a history, each looked at by these calls.
+pub fn reading_script(rng: &mut Rng, cells: usize) -> Vec<Cell> {
+    let cells = cells.min(MAX_CELLS);
+    let mut script = Script::default();
+    while script.len() < cells {
+        let geometry = match rng.chance(600) {
+            true => choose_ring(rng),
+            false => choose_geometry(rng),
+        };
+        let end = cells.min(script.len() + rng.between(100, 300));
+        script = one_reading(script, geometry, end, rng);
+    }
+    script.cells.truncate(cells);
+    script.cells
+}
+
+/// Adds one history with looks at its volume, up to cell `end` or somewhat past it.
+fn one_reading(script: Script, geometry: Geometry, end: usize, rng: &mut Rng) -> Script {
+    let style = Style::choose(rng);
+    let mut world = World::make(script, geometry, rng.byte());
+    while world.script.len() < end {
+        let events = rng.between(1, 25);
+        grow(&mut world, &style, events, rng);
+        revive(&mut world, rng);
+        let before = world.script.driver.clone();
+        rng.weighted(&SPOILS)(&mut world, rng);
+        for _ in 0..rng.between(1, 2) {
+            rng.weighted(&LOOKS)(&mut world, rng);
+        }
+        world.script.restore(&before);
+    }
+    world.script
+}
+
+fn leave(_: &mut World, _: &mut Rng) {}
+
+/// All notes gone: the log is as it was, but no backup is known.
+fn forget_notes(world: &mut World, _: &mut Rng) {
+    let start = world.geometry.note(1).start;
+    let end = world.volume().len();
+    world.script.poke(start..end, &vec![0; end - start]);
+}
+
+fn look_ahead(world: &mut World, rng: &mut Rng) {
+    world.script.call(Call::Forecast);
+    if rng.chance(300) {
+        world.script.call(Call::Inspect { page: rng.between(1, world.geometry.pages) as u16 });
+    }
+}
