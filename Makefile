@@ -22,8 +22,10 @@ STATICLIB = python3 tools/prove.py staticlib
 
 # make scan VOLUME=file   the program on a volume of your own (at most 32,768 bytes)
 # make forecast VOLUME=file   how many log records each page's repair could replay at most (at most 32,768 bytes)
-.PHONY: scan forecast scan-program demo-check
-export VOLUME
+# make archive VOLUME=file    the volume's log archive, to standard output
+# make unarchive ARCHIVE=file   what a log archive holds: a line a page
+.PHONY: scan forecast archive unarchive scan-program demo-check
+export VOLUME ARCHIVE
 # The file that a target is given by name, as VOLUME=file.
 define GIVEN
 @test -n "$${$(1):-}" || { echo "say which file: make $@ $(1)=file"; exit 2; }
@@ -51,6 +53,17 @@ forecast:
 	@$(CHECK) forecast
 	@./target/bin/forecast < "$$VOLUME"
 
+# What is said of the proof goes to standard error: the archive alone is standard output.
+archive:
+	$(call GIVEN,VOLUME)
+	@$(CHECK) archive >&2
+	@./target/bin/archive < "$$VOLUME"
+
+unarchive:
+	$(call GIVEN,ARCHIVE)
+	@$(CHECK) unarchive
+	@./target/bin/unarchive < "$$ARCHIVE"
+
 # make demo-check         the program on the sample volumes against what it must print, the room left on standard error
 demo-check: scan-program
 	@for name in demo demo-first turned; do \
@@ -59,6 +72,8 @@ demo-check: scan-program
 	    && diff target/$$name-room.txt samples/$$name-room.txt || exit 1; \
 	done
 	@python3 tools/sample.py visit target/visit.vol && cmp target/visit.vol crates/forecast/stdin
+	@python3 tools/sample.py demo-archive target/demo.arc && cmp target/demo.arc crates/archive/stdout \
+	    && cmp target/demo.arc crates/unarchive/stdin && cmp samples/demo.vol crates/archive/stdin
 
 # make c-test             the C functions: K6 to K12, every refusal, full, smallest and random volumes, the stack they take
 # make example-check      the program that README quotes, on the sample volume, against what it must print
@@ -78,6 +93,9 @@ c-test: inspect-library
 	@./target/c/stack_test
 	@$(STATICLIB) estimate
 	@$(call C_TEST,forecast,estimate inspect)
+	@$(STATICLIB) export
+	@$(STATICLIB) extract
+	@$(call C_TEST,archive,export extract inspect)
 
 example-check: inspect-library
 	@$(CC_TEST) examples/show.c target/staticlib/libinspect.a -o target/c/show

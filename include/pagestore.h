@@ -1,8 +1,9 @@
-/* Inspection of a page store's volume, and the forecast of its repairs, for C.
+/* Inspection of a page store's volume, the forecast of its repairs and its log archive, for C.
  *
  * Link with the static library that `rt staticlib NAME` writes (libNAME.a, for x86-64): `inspect` for inspection,
- * `estimate` for the forecast. Each function is proved for every input: it ends, touches no byte outside the buffers it
- * is lent, never writes to the volume, and answers exactly as docs/FORMAT.md says.
+ * `estimate` for the forecast, `export` for the archive's length and writer, `extract` for its reader. Each function is
+ * proved for every input: it ends, touches no byte outside the buffers it is lent, never writes to one that it only
+ * reads, and answers exactly as docs/FORMAT.md says.
  *
  * The caller guarantees what C cannot check: `volume` points to `volume_len` readable bytes and `buffer` to
  * `buffer_len` writable bytes (likewise the others), no two overlap, nothing else writes to them during the call, and
@@ -28,14 +29,17 @@ extern "C" {
 #define PAGESTORE_STACK 8192u
 
 /* Answers: the refusals of docs/FORMAT.md, section 6. */
-#define PAGESTORE_OK 0u              /* the buffer holds the page's repaired image, checksum set */
+#define PAGESTORE_OK 0u              /* the buffer holds what was asked for: a page's repaired image, checksum set */
 #define PAGESTORE_BAD_VOLUME 1u      /* magic, counts or length of the volume are wrong */
-#define PAGESTORE_BAD_BUFFER 2u      /* the buffer is not 256 bytes long */
+#define PAGESTORE_BAD_BUFFER 2u      /* the buffer is not 256 bytes long; the area is not 256 times 1 to 64 */
 #define PAGESTORE_NO_SUCH_PAGE 3u    /* the page number is not 1 to P */
 #define PAGESTORE_BLANK_PAGE 7u      /* the page has no durable log record */
 #define PAGESTORE_BAD_LOG 17u        /* the log breaks the restart rule */
 #define PAGESTORE_BAD_NOTES 18u      /* the notes break the restart rule */
+#define PAGESTORE_BAD_LENGTH 21u     /* the buffer is not as long as the archive */
+#define PAGESTORE_BAD_ARCHIVE 22u    /* the archive breaks its rules, or has not as many pages as the area */
 #define PAGESTORE_PAGE_LOST 23u      /* the log has turned past the page's records; no image or backup serves */
+#define PAGESTORE_HISTORY_LOST 24u   /* the log has turned past record 1: there is no whole history to archive */
 
 /* The image: offsets, and the size of the body. */
 #define PAGESTORE_IMAGE_PAGE 0u      /* page number, 2 bytes, lowest first */
@@ -79,6 +83,30 @@ uint32_t pagestore_examine(const uint8_t *volume, size_t volume_len, uint32_t pa
  * PAGESTORE_OK; or returns the refusal (BAD_VOLUME, BAD_BUFFER, BAD_LOG, BAD_NOTES) and leaves them as they were.
  * Figures past the last page are 0. */
 uint32_t pagestore_forecast(const uint8_t *volume, size_t volume_len, uint32_t *figures, size_t figures_len);
+
+/* The log archive: all durable log records of a volume, page by page (docs/FORMAT.md, section 10). */
+
+/* The size of the largest archive: 64 pages, 1,024 log records. */
+#define PAGESTORE_ARCHIVE_MAX 65792u
+
+/* The size of the largest area: 64 images. */
+#define PAGESTORE_AREA_MAX 16384u
+
+/* The length of the volume's archive, or 0 where it is refused; pagestore_archive_write then says why. */
+uint32_t pagestore_archive_length(const uint8_t *volume, size_t volume_len);
+
+/* Writes the volume's archive into the buffer, which has exactly its length, and returns PAGESTORE_OK; or returns the
+ * refusal (BAD_VOLUME, BAD_LOG, BAD_NOTES, HISTORY_LOST, BAD_LENGTH) and leaves the buffer as it was. */
+uint32_t pagestore_archive_write(const uint8_t *volume, size_t volume_len, uint8_t *buffer, size_t buffer_len);
+
+/* Judges the archive, rebuilds every page from it into the area, 256 bytes a page, and returns PAGESTORE_OK; or returns
+ * the refusal (BAD_BUFFER, BAD_ARCHIVE) and leaves the area as it was. The images have no checksum (four zeros); a
+ * blank page is 256 zeros. */
+uint32_t pagestore_archive_read(const uint8_t *archive, size_t archive_len, uint8_t *area, size_t area_len);
+
+/* How many pages the archive has, 1 to 64, by its counts alone; 0 where they do not fit its length. The area that
+ * pagestore_archive_read takes has 256 bytes for each. */
+uint32_t pagestore_archive_pages(const uint8_t *archive, size_t archive_len);
 
 #ifdef __cplusplus
 }

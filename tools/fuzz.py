@@ -28,10 +28,11 @@ SAVED = os.path.join(ROOT, "target", "fuzz")
 # What a run asks for now: scripts of each kind, answers of each sort. A request that adds an operation or an answer adds it here.
 KINDS = ["history", "ring", "arbitrary", "reading"]  # written in an instant, played in turn
 AIMED = ["reading"]  # of these, the kinds with a list of cases that all their scripts together have to reach
+ONCE = ["full"]  # a large one of each at the start
 SEARCHED = ["mixed", "turning"]  # searched for until every answer is reached; made beside the others
-EXPECTED = [f"REFUSED {n}" for n in [*range(1, 20), 23]] + ["NOTHING", "OK"]
+EXPECTED = [f"REFUSED {n}" for n in [*range(1, 20), 21, 22, 23, 24]] + ["NOTHING", "OK"]
 EXPECTED += ["GOOD", "BEHIND", "STALE", "FAILED", "AHEAD"] + ["OWN", "BACKUP", "FORMAT"]
-EXPECTED += ["FORECAST"]
+EXPECTED += ["FORECAST", "LENGTH", "PAGES 0", "PAGES"]
 
 CELL = 64
 CELLS = 2000  # of a script that is written in an instant
@@ -71,9 +72,13 @@ def decode(cell):
         17: f"release page {page}",
         21: "make with the first heading, P {} B {} L {} N {}".format(*counts),
         22: "forecast",
+        23: "length of the archive",
+        24: "archive into the lent buffer",
+        25: "archive in the second buffer read into the lent buffer",
         27: {0: "the volume goes to the second buffer", 1: "the lent buffer goes to the second buffer",
              2: f"size of the second buffer {a}"}.get(kind, f"unknown second {kind}"),
         28: f"poke the second buffer, {poke}",
+        29: "pages of the archive in the second buffer",
     }
     return words.get(op, f"unknown op {op}")
 
@@ -141,7 +146,8 @@ def show_difference(path, kind, seed, proved, reference):
 def count(lines, reached):
     for line in lines:
         answer = line.split(" v=")[0]
-        for name in [answer] if answer.startswith("REFUSED") else re.findall("[A-Z]+", answer):
+        with_number = answer.startswith("REFUSED") or answer == "PAGES 0"
+        for name in [answer] if with_number else re.findall("[A-Z]+", answer):
             reached[name] += 1
 
 
@@ -208,6 +214,8 @@ class Run:
         return self.script(kind, seed)
 
     def until(self, end):
+        if not all(map(self.play, ONCE)):
+            return False
         for kind in itertools.cycle(KINDS):
             if time.monotonic() >= end and self.scripts[kind]:
                 break
@@ -243,7 +251,7 @@ def main():
         run.stop()
     if not same:
         return 1
-    asked = KINDS + SEARCHED
+    asked = KINDS + ONCE + SEARCHED
     kinds = ", ".join(f"{run.scripts[kind]} {kind}" for kind in sorted(asked))
     print(f"{sum(run.scripts.values())} scripts ({kinds}), {run.cells} cells, every line the same")
     print("reached: " + ", ".join(f"{name} {run.reached[name]}" for name in EXPECTED))

@@ -3,6 +3,7 @@
 
     python3 tools/sample.py demo FILE         six pages: good, behind, stale, failed twice (backup, format) and blank
     python3 tools/sample.py demo-first FILE   the same under the first heading
+    python3 tools/sample.py demo-archive FILE the log archive of either
     python3 tools/sample.py turned FILE       two pages of a log that has turned: records 3 to 10 in 8 slots
     python3 tools/sample.py visit FILE        five pages of such a log, for the forecast: records 3 to 10 in 8 slots
     python3 tools/sample.py k6 FILE           the worked case K6 with page 2 good, under the first heading
@@ -70,24 +71,31 @@ FORMAT, PUT, SLIDE = 1, 2, 3
 WRITTEN, BACKED_UP = 1, 2
 
 
-def demo(heading):
-    """A ward's handover pages after a night of power cuts."""
-    spaces = b" " * 244
-    line = [b"06:00 all calm", b"06:10 bed 4 moved", b"06:20 dose given"]
-    log = [
+LINES = [b"06:00 all calm", b"06:10 bed 4 moved", b"06:20 dose given"]
+
+
+def demo_log():
+    """The durable log records of a ward's handover pages."""
+    return [
         record(1, 0, 1, FORMAT, fill=32),
         record(2, 0, 2, FORMAT, fill=32),
         record(3, 0, 3, FORMAT, fill=32),
         record(4, 0, 4, FORMAT, fill=32),
         record(5, 0, 5, FORMAT, fill=32),
-        record(6, 1, 1, PUT, payload=line[0]),
-        record(7, 2, 2, PUT, payload=line[0]),
-        record(8, 3, 3, PUT, payload=line[1]),
-        record(9, 4, 4, PUT, payload=line[1]),
-        record(10, 5, 5, SLIDE, payload=line[2]),
-        record(11, 7, 2, SLIDE, payload=line[2]),
-        torn(record(12, 6, 1, PUT, offset=40, payload=b"lost at the cut")),
+        record(6, 1, 1, PUT, payload=LINES[0]),
+        record(7, 2, 2, PUT, payload=LINES[0]),
+        record(8, 3, 3, PUT, payload=LINES[1]),
+        record(9, 4, 4, PUT, payload=LINES[1]),
+        record(10, 5, 5, SLIDE, payload=LINES[2]),
+        record(11, 7, 2, SLIDE, payload=LINES[2]),
     ]
+
+
+def demo(heading):
+    """Those pages after a night of power cuts."""
+    spaces = b" " * 244
+    line = LINES
+    log = [*demo_log(), torn(record(12, 6, 1, PUT, offset=40, payload=b"lost at the cut"))]
 
     def body(*lines):
         return b"".join(lines).ljust(244, b" ")
@@ -108,6 +116,12 @@ def demo(heading):
         note(4, 4, BACKED_UP, 1, 9),
     ]
     return volume(heading, pages, slots, log, notes, 16, 8)
+
+
+def demo_archive():
+    """The log archive of those pages: a section a page, each after its count."""
+    sections = [[r for r in demo_log() if r[8:10] == struct.pack("<H", page)] for page in range(1, 7)]
+    return b"".join(struct.pack("<I", len(records)) + b"".join(records) for records in sections)
 
 
 def turned():
@@ -160,6 +174,7 @@ def main():
     makers = {
         "demo": lambda: demo(SECOND),
         "demo-first": lambda: demo(FIRST),
+        "demo-archive": demo_archive,
         "turned": turned,
         "visit": visit,
         "k6": k6,

@@ -26,7 +26,11 @@ pub enum Refusal {
     LogBroken = 17,
     NotesBroken = 18,
     ChainBroken = 19,
+    ArchiveBuffer = 21,
+    ArchiveBroken = 22,
     BelowRun = 23,
+    /// The whole history is wanted, and record 1 has left the log.
+    HistoryLost = 24,
 }
 
 impl Refusal {
@@ -71,6 +75,10 @@ pub enum Answer {
     Rebuilt(Rebuild),
     /// A hash of the figures.
     Forecast(u64),
+    /// Bytes of an archive.
+    Length(usize),
+    /// Sections of an archive.
+    Pages(usize),
     Refused(Refusal),
 }
 
@@ -105,6 +113,8 @@ impl fmt::Display for Answer {
             Answer::Nothing => write!(out, "NOTHING"),
             Answer::Rebuilt(rebuild) => rebuild.fmt(out),
             Answer::Forecast(hash) => write!(out, "FORECAST {hash}"),
+            Answer::Length(length) => write!(out, "LENGTH {length}"),
+            Answer::Pages(pages) => write!(out, "PAGES {pages}"),
             Answer::Refused(refusal) => write!(out, "REFUSED {}", refusal.number()),
         }
     }

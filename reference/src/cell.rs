@@ -16,18 +16,49 @@ pub type Cell = [u8; CELL_LEN];
 /// A call with its arguments.
 #[derive(Clone, Copy, Debug, PartialEq, Eq)]
 pub enum Call {
-    Make { heading: Heading, counts: [u32; 4] },
+    Make {
+        heading: Heading,
+        counts: [u32; 4],
+    },
     Restart,
-    Begin { page: u16, frame: u16, fill: u8 },
-    Load { page: u16, frame: u16 },
-    Change { page: u16, change: Change, payload: Payload },
+    Begin {
+        page: u16,
+        frame: u16,
+        fill: u8,
+    },
+    Load {
+        page: u16,
+        frame: u16,
+    },
+    Change {
+        page: u16,
+        change: Change,
+        payload: Payload,
+    },
     Force,
-    Write { page: u16 },
-    Backup { page: u16, slot: u16 },
+    Write {
+        page: u16,
+    },
+    Backup {
+        page: u16,
+        slot: u16,
+    },
     Note,
-    Inspect { page: u16 },
-    Release { page: u16 },
+    Inspect {
+        page: u16,
+    },
+    Release {
+        page: u16,
+    },
     Forecast,
+    /// The length of the volume's archive.
+    Length,
+    /// The archive into the lent buffer.
+    Archive,
+    /// The second buffer's archive into the lent buffer as area.
+    Unarchive,
+    /// The pages of the second buffer's archive.
+    Pages,
 }
 
 /// What a cell asks of the driver.
@@ -73,6 +104,10 @@ impl Call {
             Call::Inspect { .. } => 10,
             Call::Release { .. } => 17,
             Call::Forecast => 22,
+            Call::Length => 23,
+            Call::Archive => 24,
+            Call::Unarchive => 25,
+            Call::Pages => 29,
         }
     }
 }
@@ -102,6 +137,10 @@ pub fn decode(cell: &Cell) -> Op {
         10 => Call::Inspect { page },
         17 => Call::Release { page },
         22 => Call::Forecast,
+        23 => Call::Length,
+        24 => Call::Archive,
+        25 => Call::Unarchive,
+        29 => Call::Pages,
         11 => {
             return Op::Sizes {
                 volume: number_a,
@@ -220,7 +259,8 @@ fn encode_call(call: &Call, cell: &mut Cell) {
         Call::Write { page } | Call::Inspect { page } | Call::Release { page } => {
             put_u16(cell, 2, page)
         }
-        Call::Restart | Call::Force | Call::Note | Call::Forecast => {}
+        // No arguments.
+        _ => {}
     }
 }
 

@@ -5,6 +5,7 @@ use crate::book::Replay;
 use crate::bytes::{u16_at, u32_at};
 use crate::calls::inspect;
 use crate::check::{ensure, Checker};
+use crate::check_archive::{check_archive, check_read_back};
 use crate::check_forecast::{check_bound, check_forecast};
 use crate::image::BODY;
 
@@ -15,11 +16,13 @@ impl Checker {
         let noted = self.noted()?;
         self.check_ring(&noted)?;
         let forecast = check_forecast(&self.ring(&noted))?;
+        let area = check_archive(&self.ring(&noted))?;
         for page in 1..=self.world.geometry.pages as u16 {
             let mut buffer = [0xA5; 256];
             let answer = inspect(self.world.volume(), page, &mut buffer);
             self.ring(&noted).check_below(page, &answer)?;
             check_bound(&self.ring(&noted), page, &answer, &forecast[usize::from(page) - 1])?;
+            area.iter().try_for_each(|area| check_read_back(area, page, &answer, &buffer))?;
             match (answer, self.book.replay(page)) {
                 (Answer::Refused(Refusal::Blank), None) => {
                     ensure(buffer == [0xA5; 256], || "a refused Inspect wrote".into())?

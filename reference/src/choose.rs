@@ -19,6 +19,7 @@ pub enum Kind {
     Inspect,
     Release,
     Forecast,
+    Length,
 }
 
 /// What the choice of arguments looks at.
@@ -58,6 +59,7 @@ impl Chooser<'_> {
             },
             Kind::Release => Call::Release { page: self.page(rng, |page| self.releasable(page)) },
             Kind::Forecast => Call::Forecast,
+            Kind::Length => Call::Length,
         }
     }
 
@@ -82,7 +84,7 @@ impl Chooser<'_> {
             Call::Write { page } | Call::Inspect { page } | Call::Release { page } => {
                 *page = some_page
             }
-            Call::Make { .. } | Call::Restart | Call::Force | Call::Note | Call::Forecast => {}
+            _ => {}
         }
         call
     }

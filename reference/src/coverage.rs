@@ -3,7 +3,7 @@
 use crate::answer::{Answer, Refusal};
 use crate::cell::{decode, Call, Cell, Op};
 use crate::coverage_reading::{cases, reading_targets};
-use crate::coverage_table::{name_of, ROWS};
+use crate::coverage_table::{is_reading, name_of, ROWS};
 use crate::driver::Driver;
 use crate::fault::Fault;
 use crate::geometry::{frame_count, Geometry};
@@ -41,10 +41,11 @@ const STRAIGHT_ONLY: &[&str] = &["LogEnd", "NotesEnd"];
 /// A call's name and an answer without its count, or `CAUSE` and a cause.
 pub type Hit = (&'static str, String);
 
-/// An answer as it is counted: a refusal with its number, else the words without numbers.
+/// An answer as it is counted: a refusal with its number, else the words without numbers
+/// (but no pages are told from some).
 pub fn label(answer: &str) -> String {
     let is_number = |word: &&str| word.starts_with(|letter: char| letter.is_ascii_digit());
-    match answer.starts_with("REFUSED") {
+    match answer.starts_with("REFUSED") || answer == "PAGES 0" {
         true => answer.to_string(),
         false => answer.split(' ').filter(|word| !is_number(word)).collect::<Vec<_>>().join(" "),
     }
@@ -105,10 +106,14 @@ pub fn hits(cells: &[Cell]) -> BTreeSet<Hit> {
         let state = driver.state;
         let answer = driver.call(&call);
         all.insert((name_of(&call), label(&answer.to_string())));
-        all.extend(cases(&driver, &call, &answer).iter().map(|case| (CAUSE, case.to_string())));
-        if let Answer::Refused(refusal) = answer {
-            all.extend(cause(&driver, &state, &call, refusal).map(|cause| (CAUSE, cause)));
-        }
+        let behind = match answer {
+            _ if is_reading(&call) => cases(&driver, &call, &answer),
+            Answer::Refused(refusal) => {
+                cause(&driver, &state, &call, refusal).into_iter().collect()
+            }
+            _ => Vec::new(),
+        };
+        all.extend(behind.into_iter().map(|cause| (CAUSE, cause)));
     }
     all
 }
@@ -127,8 +132,7 @@ fn cause(driver: &Driver, state: &State, call: &Call, refusal: Refusal) -> Optio
             let broken = state.broken_clauses(&geometry, frame_count(driver.memory_len)?);
             (broken.len() == 1).then(|| broken[0].to_string())
         }
-        // Restart's and Inspect's: the others take over what a restart finds.
-        (Refusal::LogBroken | Refusal::NotesBroken, Call::Restart | Call::Inspect { .. }) => {
+        (Refusal::LogBroken | Refusal::NotesBroken, _) => {
             recover(driver.volume(), &geometry).err().map(named)
         }
         (Refusal::BelowRun, _) => Some(named(Fault::BelowRun)),
@@ -148,8 +152,9 @@ pub fn count_output(output: &str) -> BTreeMap<String, usize> {
     for line in output.lines() {
         let answer = label(line.split(" v=").next().unwrap_or(line));
         *counts.entry(answer.clone()).or_default() += 1;
-        if let Some((class, start)) = answer.split_once(' ').filter(|(word, _)| *word != "REFUSED")
-        {
+        let words =
+            answer.split_once(' ').filter(|_| !answer.contains(|c: char| c.is_ascii_digit()));
+        if let Some((class, start)) = words {
             *counts.entry(format!("class {class}")).or_default() += 1;
             *counts.entry(format!("start {start}")).or_default() += 1;
         }

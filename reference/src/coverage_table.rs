@@ -53,8 +53,18 @@ pub const ROWS: &[Row] = &[
 ];
 
 /// The calls that take volumes but no state.
-pub const READING_ROWS: &[Row] =
-    &[Row { name: "forecast", refusals: &[1, 17, 18], answers: &["FORECAST"] }];
+pub const READING_ROWS: &[Row] = &[
+    Row { name: "forecast", refusals: &[1, 17, 18], answers: &["FORECAST"] },
+    Row { name: "length", refusals: &[1, 17, 18, 24], answers: &["LENGTH"] },
+    Row { name: "archive", refusals: &[1, 17, 18, 21, 24], answers: OK },
+    Row { name: "unarchive", refusals: &[2, 22], answers: OK },
+    Row { name: "pages", refusals: &[], answers: &["PAGES", "PAGES 0"] },
+];
+
+/// Whether a call takes volumes or archives but no state; Inspect counts with the others.
+pub fn is_reading(call: &Call) -> bool {
+    READING_ROWS.iter().any(|row| row.name == name_of(call))
+}
 
 /// The name of a call in the tables.
 pub fn name_of(call: &Call) -> &'static str {
@@ -72,5 +82,9 @@ pub fn name_of(call: &Call) -> &'static str {
         Call::Inspect { .. } => "inspect",
         Call::Release { .. } => "release",
         Call::Forecast => "forecast",
+        Call::Length => "length",
+        Call::Archive => "archive",
+        Call::Unarchive => "unarchive",
+        Call::Pages => "pages",
     }
 }

@@ -1,6 +1,7 @@
 //! The driver of the script format: buffers, a state, and a line for each cell.
 
 use crate::answer::Answer;
+use crate::archive::{archive_length, archive_pages, read_archive, write_archive};
 use crate::calls::{inspect, make, restart};
 use crate::cell::{decode, Call, Cell, Op, Second, CELL_LEN, MAX_CELLS};
 use crate::forecast::forecast;
@@ -137,13 +138,26 @@ impl Driver {
             Call::Backup { page, slot } => state.backup(volume, memory, page, slot),
             Call::Note => state.note(volume, memory),
             Call::Release { page } => state.release(volume, memory, page),
-            Call::Inspect { page } => {
-                (state, inspect(volume, page, &mut self.lent[..self.lent_len]))
-            }
-            Call::Forecast => (state, forecast_answer(volume)),
+            _ => (state, self.read(call)),
         };
         self.state = state;
         answer
+    }
+
+    /// The calls that take no memory and no state.
+    fn read(&mut self, call: &Call) -> Answer {
+        let volume = &self.volume[..self.volume_len];
+        let lent = &mut self.lent[..self.lent_len];
+        let second = &self.second[..self.second_len];
+        match *call {
+            Call::Inspect { page } => inspect(volume, page, lent),
+            Call::Forecast => forecast_answer(volume),
+            Call::Length => archive_length(volume).map_or_else(Answer::Refused, Answer::Length),
+            Call::Archive => write_archive(volume, lent),
+            Call::Unarchive => read_archive(second, lent),
+            Call::Pages => Answer::Pages(archive_pages(second)),
+            _ => unreachable!("all others take a memory, or are Make"),
+        }
     }
 
     /// The line printed for a cell that was not skipped.

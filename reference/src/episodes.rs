@@ -11,7 +11,7 @@ use crate::rng::Rng;
 use crate::state::{FRAMES_AT, INDEX_AT, NUMBERS};
 use crate::world::World;
 
-const ALL_KINDS: [Kind; 11] = [
+const ALL_KINDS: [Kind; 12] = [
     Kind::Restart,
     Kind::Begin,
     Kind::Load,
@@ -23,6 +23,7 @@ const ALL_KINDS: [Kind; 11] = [
     Kind::Inspect,
     Kind::Release,
     Kind::Forecast,
+    Kind::Length,
 ];
 
 /// A call of this kind, mostly with arguments that suit the state.

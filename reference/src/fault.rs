@@ -74,9 +74,50 @@ pub enum Fault {
     NotesNumbers,
     /// The note in the next one's slot is not spare.
     NotesNeeded,
+    /// Record 1 has left the log.
+    HistoryLost,
+    /// The buffer hasn't the archive's length.
+    ArchiveBuffer,
+    /// A section's count is missing.
+    ArchiveShort,
+    /// It is more than the bytes left hold.
+    ArchiveCount,
+    /// Bytes are left after the last section.
+    ArchiveRest,
+    ArchiveChecksum,
+    ArchiveLayout,
+    ArchivePage,
+    /// The page's low byte alone is right.
+    ArchivePageHigh,
+    /// A section's first record has the number 0.
+    ArchiveZero,
+    /// It names another.
+    ArchiveFirst,
+    ArchiveNoFormat,
+    /// A number that doesn't rise.
+    ArchiveOrder,
+    /// A record that doesn't name the one before.
+    ArchivePrevious,
 }
 
 impl Fault {
+    /// What an archive can break.
+    pub const ARCHIVE: [Fault; 12] = [
+        Fault::ArchiveShort,
+        Fault::ArchiveCount,
+        Fault::ArchiveRest,
+        Fault::ArchiveChecksum,
+        Fault::ArchiveLayout,
+        Fault::ArchivePage,
+        Fault::ArchivePageHigh,
+        Fault::ArchiveZero,
+        Fault::ArchiveFirst,
+        Fault::ArchiveNoFormat,
+        Fault::ArchiveOrder,
+        Fault::ArchivePrevious,
+    ];
+
+    /// What a volume can break, and what stands in a record's or note's way.
     pub const ALL: [Fault; 48] = [
         Fault::Heading,
         Fault::PageCount,
@@ -145,6 +186,11 @@ impl From<Fault> for Refusal {
             BelowRun => Refusal::BelowRun,
             LogEnd | LogNumbers | LogPending | LogNeeded => Refusal::LogFull,
             NoNotes | NotesEnd | NotesNumbers | NotesNeeded => Refusal::NotesFull,
+            HistoryLost => Refusal::HistoryLost,
+            ArchiveBuffer => Refusal::ArchiveBuffer,
+            ArchiveShort | ArchiveCount | ArchiveRest | ArchiveChecksum | ArchiveLayout
+            | ArchivePage | ArchivePageHigh | ArchiveZero | ArchiveFirst | ArchiveNoFormat
+            | ArchiveOrder | ArchivePrevious => Refusal::ArchiveBroken,
         }
     }
 }

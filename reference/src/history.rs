@@ -193,9 +193,10 @@ pub fn one_history(script: Script, geometry: Geometry, end: usize, rng: &mut Rng
         let event = style.next(&world, rng);
         world.apply(&event);
         if rng.chance(60) {
-            let call = match rng.below(8) {
-                0 => chooser(&world).silly(Kind::Inspect, rng),
-                1 => Call::Forecast,
+            let call = match rng.below(12) {
+                0 | 1 => chooser(&world).silly(Kind::Inspect, rng),
+                2 => Call::Forecast,
+                3 => Call::Length,
                 _ => Call::Inspect { page: rng.between(1, geometry.pages) as u16 },
             };
             world.script.call(call);

@@ -4,12 +4,15 @@
 
 pub mod answer;
 pub mod arbitrary;
+pub mod archive;
+pub mod archive_episodes;
 pub mod args;
 pub mod book;
 pub mod bytes;
 pub mod calls;
 pub mod cell;
 pub mod check;
+pub mod check_archive;
 pub mod check_forecast;
 pub mod check_inspect;
 pub mod check_ring;
@@ -24,6 +27,7 @@ pub mod edge_episodes;
 pub mod episodes;
 pub mod fault;
 pub mod forecast;
+pub mod full;
 pub mod geometry;
 pub mod heading;
 pub mod history;

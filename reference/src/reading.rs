@@ -1,6 +1,7 @@
 //! Generator of volumes, sound and spoilt, for the calls that take volumes but no state.
 
 use crate::arbitrary::{grow, revive, Episode};
+use crate::archive_episodes::archive_and_back;
 use crate::cell::{Call, Cell, MAX_CELLS};
 use crate::episodes::{wrong_heading, wrong_length};
 use crate::geometry::Geometry;
@@ -28,7 +29,7 @@ const SPOILS: [(Episode, usize); 11] = [
 ];
 
 /// The calls that look at it.
-const LOOKS: [(Episode, usize); 1] = [(look_ahead, 1)];
+const LOOKS: [(Episode, usize); 2] = [(look_ahead, 1), (archive_and_back, 3)];
 
 /// A script of volumes at all stages of a history, each looked at by these calls.
 pub fn reading_script(rng: &mut Rng, cells: usize) -> Vec<Cell> {

@@ -1,6 +1,6 @@
-//! What the calls that take volumes but no state start from: refusals 1, 17 and 18.
+//! What the calls that take volumes but no state start from: refusals 1, 17 and 18, and 24.
 
-use crate::fault::Fault;
+use crate::fault::{require, Fault};
 use crate::geometry::Geometry;
 use crate::restart::{index_of, Log};
 use crate::state::State;
@@ -19,5 +19,12 @@ impl<'a> Recovered<'a> {
         let log = Log::read(volume, &geometry)?;
         let state = index_of(volume, &geometry, &log)?;
         Ok(Recovered { volume, geometry, log, state })
+    }
+
+    /// The same where the whole history is wanted.
+    pub fn whole(volume: &'a [u8]) -> Result<Recovered<'a>, Fault> {
+        let found = Recovered::read(volume)?;
+        require(!found.log.has_lost_first(), Fault::HistoryLost)?;
+        Ok(found)
     }
 }

@@ -76,6 +76,11 @@ impl Log {
         newest
     }
 
+    /// Whether record 1 has left the log.
+    pub fn has_lost_first(&self) -> bool {
+        *self.run.end() >= 1 && *self.run.start() > 1
+    }
+
     /// Record `number`, if it is in the run.
     pub fn record(&self, number: u32) -> Option<&Record> {
         self.records.get(number.checked_sub(*self.run.start())? as usize)

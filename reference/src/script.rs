@@ -1,7 +1,7 @@
 //! A script in the making: its cells, and a driver that has run them.
 
 use crate::answer::Answer;
-use crate::cell::{decode, encode, Call, Cell, Op};
+use crate::cell::{decode, encode, Call, Cell, Op, Second};
 use crate::driver::Driver;
 use crate::record::PAYLOAD_LEN;
 use crate::state::NUMBERS;
@@ -55,6 +55,14 @@ impl Script {
         self.sizes(self.driver.volume_len, memory, self.driver.lent_len);
     }
 
+    pub fn resize_lent(&mut self, buffer: usize) {
+        self.sizes(self.driver.volume_len, self.driver.memory_len, buffer);
+    }
+
+    pub fn resize_second(&mut self, second: usize) {
+        self.emit(Op::Second(Second::Length(second as u32)));
+    }
+
     pub fn set_state(&mut self, position: usize, value: u32) {
         self.emit(Op::SetState { position: position as u32, value });
     }
@@ -62,14 +70,21 @@ impl Script {
     /// Pokes those parts of the volume at `place` that `bytes` would change.
     pub fn poke(&mut self, place: Range<usize>, bytes: &[u8]) {
         for (at, piece) in changed_pieces(&self.driver.volume[place.clone()], bytes) {
-            self.emit(poke_op(place.start + at, &piece, false));
+            self.emit(poke_op(place.start + at, &piece, Buffer::Volume));
+        }
+    }
+
+    /// The same in the second buffer.
+    pub fn poke_second(&mut self, place: Range<usize>, bytes: &[u8]) {
+        for (at, piece) in changed_pieces(&self.driver.second[place.clone()], bytes) {
+            self.emit(poke_op(place.start + at, &piece, Buffer::Second));
         }
     }
 
     /// The same in the memory.
     pub fn poke_memory(&mut self, place: Range<usize>, bytes: &[u8]) {
         for (at, piece) in changed_pieces(&self.driver.memory[place.clone()], bytes) {
-            self.emit(poke_op(place.start + at, &piece, true));
+            self.emit(poke_op(place.start + at, &piece, Buffer::Memory));
         }
     }
 
@@ -97,13 +112,20 @@ impl Script {
     }
 }
 
-fn poke_op(at: usize, piece: &[u8], in_memory: bool) -> Op {
+enum Buffer {
+    Volume,
+    Memory,
+    Second,
+}
+
+fn poke_op(at: usize, piece: &[u8], buffer: Buffer) -> Op {
     let mut bytes = [0; PAYLOAD_LEN];
     bytes[..piece.len()].copy_from_slice(piece);
     let (at, count) = (at as u32, piece.len() as u8);
-    match in_memory {
-        true => Op::PokeMemory { at, count, bytes },
-        false => Op::Poke { at, count, bytes },
+    match buffer {
+        Buffer::Volume => Op::Poke { at, count, bytes },
+        Buffer::Memory => Op::PokeMemory { at, count, bytes },
+        Buffer::Second => Op::PokeSecond { at, count, bytes },
     }
 }
 

@@ -1,6 +1,7 @@
 // Drives the store by a script of cells on standard input, at most 4,096, and prints a line for each: what the call
 // answered, and hashes of all that it may have changed. It holds the proved store against an independent
 // implementation, so nothing is proved of it but that it is safe and ends.
+mod archive;
 mod calls;
 mod cell;
 mod forecast;
@@ -28,6 +29,7 @@ fn turn(
         1 | 10 | 21 => calls::plain(b, c, volume, lent),
         2..=9 | 17 => calls::stateful(b, c, volume, memory),
         22 => forecast::turn(b, volume),
+        23..=25 | 29 => archive::turn(b, c, volume, lent, second),
         _ => setup::turn(b, c, volume, memory, lent, second),
     }
 }

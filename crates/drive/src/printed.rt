@@ -18,6 +18,8 @@ pub fn said(s: Said) -> bool {
         }
         Said::Told(a) => print::answer(a, b"NOTHING", b"OK"),
         Said::Forecast(h) => told(b"FORECAST ", h),
+        Said::Length(n) => told(b"LENGTH ", n),
+        Said::Pages(n) => told(b"PAGES ", n),
     }
     true
 }

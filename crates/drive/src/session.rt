@@ -18,6 +18,8 @@ pub enum Said {
     Skip,
     Told(Answer),
     Forecast(u32),
+    Length(u32),
+    Pages(u32),
 }
 
 pub struct Turn {

@@ -84,6 +84,18 @@ fn fill(
     }
 }
 
+// Counts what a scan finds, without the index. What a refused scan gives besides its number means nothing.
+pub fn count(volume: &[u8]) -> Counts
+    ensures refusal { λ r. ⌜ r .refusal ≡ scanRefusal (now (volume .entry)) ⌝ }
+    ensures counts { λ r. ⌜ (r .refusal ≡ 0 → r ≡ countsOf (now (volume .entry))) ⌝ }
+{
+    let mut last = [0u32; 64];
+    let mut written = [0u32; 64];
+    let mut slots = [0u8; 64];
+    let mut backup = [0u32; 64];
+    fill(volume, &mut last, &mut written, &mut slots, &mut backup)
+}
+
 // Scans a volume. What a refused scan gives besides its number means nothing.
 pub fn scan(volume: &[u8]) -> Scanned
     ensures refusal { λ r. ⌜ r .refusal ≡ scanRefusal (now (volume .entry)) ⌝ }

@@ -1,7 +1,8 @@
-//! Writes one script: `gen --seed N --kind history|ring|arbitrary|reading|mixed|turning --cells N`.
+//! Writes one script: `gen --seed N --kind history|ring|arbitrary|reading|full|mixed|turning --cells N`.
 
 use reference::arbitrary::arbitrary_script;
 use reference::args::value;
+use reference::full::full_script;
 use reference::history::{history_script, ring_script};
 use reference::mixed::mixed_script;
 use reference::reading::reading_script;
@@ -18,6 +19,7 @@ fn main() -> io::Result<ExitCode> {
         "ring" => ring_script(&mut rng, cells),
         "arbitrary" => arbitrary_script(&mut rng, cells),
         "reading" => reading_script(&mut rng, cells),
+        "full" => full_script(&mut rng),
         "mixed" | "turning" => {
             let (script, missing) = mixed_script(&mut rng, cells, kind == "turning");
             if !missing.is_empty() {
@@ -27,7 +29,7 @@ fn main() -> io::Result<ExitCode> {
             script
         }
         _ => {
-            eprintln!("--kind is history, ring, arbitrary, reading, mixed or turning");
+            eprintln!("--kind is history, ring, arbitrary, reading, full, mixed or turning");
             return Ok(ExitCode::from(2));
         }
     };
