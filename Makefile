@@ -24,8 +24,9 @@ STATICLIB = python3 tools/prove.py staticlib
 # make forecast VOLUME=file   how many log records each page's repair could replay at most (at most 32,768 bytes)
 # make archive VOLUME=file    the volume's log archive, to standard output
 # make unarchive ARCHIVE=file   what a log archive holds: a line a page
-.PHONY: scan forecast archive unarchive scan-program demo-check
-export VOLUME ARCHIVE
+# make mirror FIRST=file SECOND=file   two volumes' logs held against each other
+.PHONY: scan forecast archive unarchive mirror scan-program demo-check
+export VOLUME ARCHIVE FIRST SECOND
 # The file that a target is given by name, as VOLUME=file.
 define GIVEN
 @test -n "$${$(1):-}" || { echo "say which file: make $@ $(1)=file"; exit 2; }
@@ -64,6 +65,12 @@ unarchive:
 	@$(CHECK) unarchive
 	@./target/bin/unarchive < "$$ARCHIVE"
 
+mirror:
+	$(call GIVEN,FIRST)
+	$(call GIVEN,SECOND)
+	@$(CHECK) mirror
+	@./target/bin/mirror "$$FIRST" "$$SECOND"
+
 # make demo-check         the program on the sample volumes against what it must print, the room left on standard error
 demo-check: scan-program
 	@for name in demo demo-first turned; do \
@@ -74,6 +81,8 @@ demo-check: scan-program
 	@python3 tools/sample.py visit target/visit.vol && cmp target/visit.vol crates/forecast/stdin
 	@python3 tools/sample.py demo-archive target/demo.arc && cmp target/demo.arc crates/archive/stdout \
 	    && cmp target/demo.arc crates/unarchive/stdin && cmp samples/demo.vol crates/archive/stdin
+	@python3 tools/sample.py mirror target/mirror.vol && cmp target/mirror.vol crates/mirror/data/mirror.vol \
+	    && cmp samples/demo.vol crates/mirror/data/ward.vol
 
 # make c-test             the C functions: K6 to K12, every refusal, full, smallest and random volumes, the stack they take
 # make example-check      the program that README quotes, on the sample volume, against what it must print
@@ -96,6 +105,8 @@ c-test: inspect-library
 	@$(STATICLIB) export
 	@$(STATICLIB) extract
 	@$(call C_TEST,archive,export extract inspect)
+	@$(STATICLIB) compare
+	@$(call C_TEST,compare,compare inspect)
 
 example-check: inspect-library
 	@$(CC_TEST) examples/show.c target/staticlib/libinspect.a -o target/c/show

@@ -1,9 +1,9 @@
-/* Inspection of a page store's volume, the forecast of its repairs and its log archive, for C.
+/* Inspection of a page store's volume, the forecast of its repairs, its log archive, and two logs compared, for C.
  *
  * Link with the static library that `rt staticlib NAME` writes (libNAME.a, for x86-64): `inspect` for inspection,
- * `estimate` for the forecast, `export` for the archive's length and writer, `extract` for its reader. Each function is
- * proved for every input: it ends, touches no byte outside the buffers it is lent, never writes to one that it only
- * reads, and answers exactly as docs/FORMAT.md says.
+ * `estimate` for the forecast, `export` for the archive's length and writer, `extract` for its reader, `compare` for
+ * the comparison. Each function is proved for every input: it ends, touches no byte outside the buffers it is lent,
+ * never writes to one that it only reads, and answers exactly as docs/FORMAT.md says.
  *
  * The caller guarantees what C cannot check: `volume` points to `volume_len` readable bytes and `buffer` to
  * `buffer_len` writable bytes (likewise the others), no two overlap, nothing else writes to them during the call, and
@@ -39,7 +39,7 @@ extern "C" {
 #define PAGESTORE_BAD_LENGTH 21u     /* the buffer is not as long as the archive */
 #define PAGESTORE_BAD_ARCHIVE 22u    /* the archive breaks its rules, or has not as many pages as the area */
 #define PAGESTORE_PAGE_LOST 23u      /* the log has turned past the page's records; no image or backup serves */
-#define PAGESTORE_HISTORY_LOST 24u   /* the log has turned past record 1: there is no whole history to archive */
+#define PAGESTORE_HISTORY_LOST 24u   /* the log has turned past record 1: the whole history is not there */
 
 /* The image: offsets, and the size of the body. */
 #define PAGESTORE_IMAGE_PAGE 0u      /* page number, 2 bytes, lowest first */
@@ -107,6 +107,25 @@ uint32_t pagestore_archive_read(const uint8_t *archive, size_t archive_len, uint
 /* How many pages the archive has, 1 to 64, by its counts alone; 0 where they do not fit its length. The area that
  * pagestore_archive_read takes has 256 bytes for each. */
 uint32_t pagestore_archive_pages(const uint8_t *archive, size_t archive_len);
+
+/* Two volumes' logs held against each other (docs/FORMAT.md, section 11). The report, by place: what kind of answer it
+ * is, its number, and from PAGESTORE_COMPARE_PAGES on a number for each page 1 to 64, 1 if a record behind the common
+ * beginning is of it in either log, else 0. */
+#define PAGESTORE_COMPARE_SIZE 66u
+#define PAGESTORE_COMPARE_KIND 0u
+#define PAGESTORE_COMPARE_NUMBER 1u
+#define PAGESTORE_COMPARE_PAGES 2u   /* page p at PAGESTORE_COMPARE_PAGES + p - 1 */
+
+#define PAGESTORE_LOGS_AGREE 1u      /* the number is 0 */
+#define PAGESTORE_FIRST_LACKS 2u     /* the first log is a beginning of the second, and lacks that many records */
+#define PAGESTORE_SECOND_LACKS 3u    /* the second is one of the first */
+#define PAGESTORE_LOGS_DIFFER 4u     /* that is the number of the first record that is another change */
+
+/* Compares the logs, writes the report, which has PAGESTORE_COMPARE_SIZE numbers (`report_len` counts numbers, not
+ * bytes), and returns PAGESTORE_OK; or returns the refusal (BAD_VOLUME, BAD_BUFFER, BAD_LOG, BAD_NOTES, HISTORY_LOST),
+ * of either volume, and leaves the report as it was. */
+uint32_t pagestore_compare(const uint8_t *first, size_t first_len, const uint8_t *second, size_t second_len,
+                           uint32_t *report, size_t report_len);
 
 #ifdef __cplusplus
 }

@@ -2,7 +2,7 @@
 """Holds the documents against the sources; prints each difference, and exits with 1 where there is one.
 
 The refusals stand in docs/FORMAT.md, section 6. README's short table, the constants of include/pagestore.h and the
-order of the rows in crates/model/specs (Reading, Refusals, Bounds, Archive) must be the same. README quotes
+order of the rows in crates/model/specs (Reading, Refusals, Bounds, Archive, Mirror) must be the same. README quotes
 examples/show.c. Every function, definition, must-fail edit and file that the documents name is there. No line has more
 than 120 columns.
 """
@@ -50,19 +50,26 @@ def orders():
 
 
 # rows that calls share, before or behind their own
-SHARED = ("state", "log")
+SHARED = ("state", "log", "either", "later")
 
 # definitions that bear another name than their call
-CALLED = {"scan": "forecast", "tell": "forecastfigures", "whole": "archivelength", "read": "readarchive"}
+CALLED = {
+    "scan": "forecast",
+    "tell": "forecastfigures",
+    "whole": "archivelength",
+    "read": "readarchive",
+    "mirror": "compare",
+    "compare": "comparereport",
+}
 
 # the calls that have a function for C, and the crates whose functions are public
-FOR_C = ("Inspect", "ForecastFigures", "ArchiveLength", "Archive", "ReadArchive")
-FACES = ("store", "inspect", "estimate", "export", "extract")
+FOR_C = ("Inspect", "ForecastFigures", "ArchiveLength", "Archive", "ReadArchive", "CompareReport")
+FACES = ("store", "inspect", "estimate", "export", "extract", "compare")
 
 
 def defined_orders():
     """What the definitions have for each call: the numbers of its rows, each once."""
-    files = ("Reading", "Refusals", "Bounds", "Archive")
+    files = ("Reading", "Refusals", "Bounds", "Archive", "Mirror")
     text = re.sub(r"--.*", "", "".join(read(f"crates/model/specs/{name}.antt") for name in files))
     bodies = {name: body for name, body in re.findall(r"^(\w+)Rows(?! :)(.*(?:\n .*)*)", text, re.M)}
 

@@ -4,6 +4,7 @@
     python3 tools/sample.py demo FILE         six pages: good, behind, stale, failed twice (backup, format) and blank
     python3 tools/sample.py demo-first FILE   the same under the first heading
     python3 tools/sample.py demo-archive FILE the log archive of either
+    python3 tools/sample.py mirror FILE       a second box's volume, whose log differs from the demo's at record 9
     python3 tools/sample.py turned FILE       two pages of a log that has turned: records 3 to 10 in 8 slots
     python3 tools/sample.py visit FILE        five pages of such a log, for the forecast: records 3 to 10 in 8 slots
     python3 tools/sample.py k6 FILE           the worked case K6 with page 2 good, under the first heading
@@ -124,6 +125,12 @@ def demo_archive():
     return b"".join(struct.pack("<I", len(records)) + b"".join(records) for records in sections)
 
 
+def mirror():
+    """A second box that recorded the demo's changes by itself, under the first heading: another change from 9 on."""
+    log = [*demo_log()[:8], record(9, 8, 3, PUT, payload=LINES[0]), record(10, 4, 4, PUT, payload=LINES[1])]
+    return volume(FIRST, [b"\0" * 256] * 6, [], log, [], 12, 0)
+
+
 def turned():
     """A log ring past its first turn: records 1 and 2 have left it. Page 2's image is torn."""
     line = [b"07:00 round begun", b"07:10 round ended"]
@@ -175,6 +182,7 @@ def main():
         "demo": lambda: demo(SECOND),
         "demo-first": lambda: demo(FIRST),
         "demo-archive": demo_archive,
+        "mirror": mirror,
         "turned": turned,
         "visit": visit,
         "k6": k6,

@@ -1,5 +1,6 @@
 //! What a call answers: refusals with document 01's numbers, and results.
 
+use crate::compare::Comparison;
 use std::fmt;
 
 /// Why a call is refused. The value is the number in the table of refusals.
@@ -79,6 +80,8 @@ pub enum Answer {
     Length(usize),
     /// Sections of an archive.
     Pages(usize),
+    /// With a hash of the pages touched.
+    Compared(Comparison, u64),
     Refused(Refusal),
 }
 
@@ -106,6 +109,17 @@ impl fmt::Display for Rebuild {
     }
 }
 
+impl fmt::Display for Comparison {
+    fn fmt(&self, out: &mut fmt::Formatter) -> fmt::Result {
+        match self {
+            Comparison::Agree => write!(out, "AGREE"),
+            Comparison::FirstLacks(count) => write!(out, "FIRST {count}"),
+            Comparison::SecondLacks(count) => write!(out, "SECOND {count}"),
+            Comparison::Differs(number) => write!(out, "DIFFERS {number}"),
+        }
+    }
+}
+
 impl fmt::Display for Answer {
     fn fmt(&self, out: &mut fmt::Formatter) -> fmt::Result {
         match self {
@@ -115,6 +129,7 @@ impl fmt::Display for Answer {
             Answer::Forecast(hash) => write!(out, "FORECAST {hash}"),
             Answer::Length(length) => write!(out, "LENGTH {length}"),
             Answer::Pages(pages) => write!(out, "PAGES {pages}"),
+            Answer::Compared(comparison, hash) => write!(out, "{comparison} {hash}"),
             Answer::Refused(refusal) => write!(out, "REFUSED {}", refusal.number()),
         }
     }

@@ -57,6 +57,8 @@ pub enum Call {
     Archive,
     /// The second buffer's archive into the lent buffer as area.
     Unarchive,
+    /// The volume with the one in the second buffer.
+    Compare,
     /// The pages of the second buffer's archive.
     Pages,
 }
@@ -107,6 +109,7 @@ impl Call {
             Call::Length => 23,
             Call::Archive => 24,
             Call::Unarchive => 25,
+            Call::Compare => 26,
             Call::Pages => 29,
         }
     }
@@ -140,6 +143,7 @@ pub fn decode(cell: &Cell) -> Op {
         23 => Call::Length,
         24 => Call::Archive,
         25 => Call::Unarchive,
+        26 => Call::Compare,
         29 => Call::Pages,
         11 => {
             return Op::Sizes {

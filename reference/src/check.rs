@@ -5,8 +5,10 @@ use crate::book::Book;
 use crate::bytes::all_zero;
 use crate::cell::Call;
 use crate::check_inspect::same;
+use crate::check_pair::check_pair;
 use crate::check_ring::RingView;
 use crate::check_same::{check_left, held_pages, pushes_out, Held};
+use crate::compare::Comparison;
 use crate::geometry::{frame_count, frame_place};
 use crate::history::{choose_geometry, choose_ring, Style};
 use crate::image::CHECKSUM;
@@ -46,7 +48,9 @@ pub fn check_history(seed: u64) -> Result<Counts, String> {
         checker.step(event, at % rest == 0)?;
     }
     checker.inspect_all().map_err(|text| checker.report(&text))?;
-    Ok(checker.counts())
+    let mut counts = checker.counts();
+    counts.pairs.extend(check_pair(&checker, &mut rng)?);
+    Ok(counts)
 }
 
 /// How much a history held.
@@ -57,6 +61,8 @@ pub struct Counts {
     /// Histories in which record 1 has left the log, and pages beyond repair at their ends.
     pub turned: usize,
     pub lost: usize,
+    /// How the logs of the history and of one that followed it compared.
+    pub pairs: Vec<Comparison>,
 }
 
 impl Counts {
@@ -65,11 +71,12 @@ impl Counts {
         self.kept += other.kept;
         self.turned += other.turned;
         self.lost += other.lost;
+        self.pairs.extend(&other.pairs);
     }
 }
 
 impl Checker {
-    fn new(world: World) -> Checker {
+    pub fn new(world: World) -> Checker {
         Checker {
             world,
             book: Book::default(),
@@ -80,7 +87,7 @@ impl Checker {
         }
     }
 
-    fn step(&mut self, event: Event, inspect_all: bool) -> Result<(), String> {
+    pub fn step(&mut self, event: Event, inspect_all: bool) -> Result<(), String> {
         let waiting_before = self.book.waiting.len();
         self.events.push(event.clone());
         let owed = self.world.script.driver.state.owed;
@@ -224,10 +231,11 @@ impl Checker {
             kept: self.book.kept.len(),
             turned: ring.gone().into(),
             lost: pages.filter(|&page| ring.beyond_repair(page)).count(),
+            pairs: Vec::new(),
         }
     }
 
-    fn report(&self, text: &str) -> String {
+    pub fn report(&self, text: &str) -> String {
         let events: Vec<String> =
             self.events.iter().enumerate().map(|(at, event)| format!("{at:4} {event:?}")).collect();
         format!("{text}\n{:?}\n{}", self.world.geometry, events.join("\n"))

@@ -108,7 +108,7 @@ impl Chooser<'_> {
     }
 
     /// A frame that can be taken, sometimes only one that holds no dirty page.
-    fn free_frame(&self, rng: &mut Rng) -> u16 {
+    pub fn free_frame(&self, rng: &mut Rng) -> u16 {
         let gentle = rng.chance(500);
         one_of(rng, self.frames.max(1), |frame| {
             let frame = usize::from(frame);

@@ -4,7 +4,8 @@ use crate::answer::{Answer, Refusal};
 use crate::archive::{archive_length, sections};
 use crate::cell::Call;
 use crate::coverage::{Hit, CAUSE};
-use crate::coverage_table::READING_ROWS;
+use crate::coverage_compare::{compare_cases, COMPARE_CASES};
+use crate::coverage_table::{MIRROR_ROWS, READING_ROWS};
 use crate::driver::Driver;
 use crate::fault::Fault;
 use crate::forecast::forecast;
@@ -32,10 +33,18 @@ pub fn reading_targets() -> BTreeSet<Hit> {
     answers.chain(cases.map(|case| (CAUSE, case))).collect()
 }
 
+/// The same for the call that takes two volumes.
+pub fn mirror_targets() -> BTreeSet<Hit> {
+    let answers = MIRROR_ROWS.iter().flat_map(|row| row.hits());
+    let cases = COMPARE_CASES.iter().map(|case| (CAUSE, case.to_string()));
+    answers.chain(cases).collect()
+}
+
 /// The cases behind the answer of a call that the driver has made.
 pub fn cases(driver: &Driver, call: &Call, answer: &Answer) -> Vec<String> {
     let cases = match (call, answer) {
         (Call::Forecast, Answer::Forecast(_)) => forecast_cases(driver.volume()),
+        (Call::Compare, _) => return compare_cases(driver),
         (Call::Archive, Answer::Refused(Refusal::ArchiveBuffer)) => vec![buffer_case(driver)],
         (Call::Unarchive, Answer::Refused(Refusal::Lent)) => vec![area_case(driver.lent_len)],
         (Call::Unarchive, Answer::Done) => {

@@ -52,7 +52,7 @@ pub const ROWS: &[Row] = &[
     Row { name: "release", refusals: &[1, 2, 3, 8, 10], answers: OK },
 ];
 
-/// The calls that take volumes but no state.
+/// The calls that take a volume or an archive but no state.
 pub const READING_ROWS: &[Row] = &[
     Row { name: "forecast", refusals: &[1, 17, 18], answers: &["FORECAST"] },
     Row { name: "length", refusals: &[1, 17, 18, 24], answers: &["LENGTH"] },
@@ -61,9 +61,16 @@ pub const READING_ROWS: &[Row] = &[
     Row { name: "pages", refusals: &[], answers: &["PAGES", "PAGES 0"] },
 ];
 
+/// The call that takes two volumes.
+pub const MIRROR_ROWS: &[Row] = &[Row {
+    name: "compare",
+    refusals: &[1, 17, 18, 24],
+    answers: &["AGREE", "FIRST", "SECOND", "DIFFERS"],
+}];
+
 /// Whether a call takes volumes or archives but no state; Inspect counts with the others.
 pub fn is_reading(call: &Call) -> bool {
-    READING_ROWS.iter().any(|row| row.name == name_of(call))
+    READING_ROWS.iter().chain(MIRROR_ROWS).any(|row| row.name == name_of(call))
 }
 
 /// The name of a call in the tables.
@@ -85,6 +92,7 @@ pub fn name_of(call: &Call) -> &'static str {
         Call::Length => "length",
         Call::Archive => "archive",
         Call::Unarchive => "unarchive",
+        Call::Compare => "compare",
         Call::Pages => "pages",
     }
 }

@@ -4,6 +4,7 @@ use crate::answer::Answer;
 use crate::archive::{archive_length, archive_pages, read_archive, write_archive};
 use crate::calls::{inspect, make, restart};
 use crate::cell::{decode, Call, Cell, Op, Second, CELL_LEN, MAX_CELLS};
+use crate::compare::compare;
 use crate::forecast::forecast;
 use crate::record::PAYLOAD_LEN;
 use crate::state::State;
@@ -155,6 +156,7 @@ impl Driver {
             Call::Length => archive_length(volume).map_or_else(Answer::Refused, Answer::Length),
             Call::Archive => write_archive(volume, lent),
             Call::Unarchive => read_archive(second, lent),
+            Call::Compare => compare_answer(volume, second),
             Call::Pages => Answer::Pages(archive_pages(second)),
             _ => unreachable!("all others take a memory, or are Make"),
         }
@@ -179,6 +181,16 @@ fn forecast_answer(volume: &[u8]) -> Answer {
         Ok(rows) => {
             let numbers = rows.iter().flat_map(|row| [number(row.sound), number(row.unsound)]);
             Answer::Forecast(hash(numbers))
+        }
+        Err(refusal) => Answer::Refused(refusal),
+    }
+}
+
+fn compare_answer(first: &[u8], second: &[u8]) -> Answer {
+    match compare(first, second) {
+        Ok(compared) => {
+            let touched = hash(compared.touched.iter().map(|&touched| touched.into()));
+            Answer::Compared(compared.comparison, touched)
         }
         Err(refusal) => Answer::Refused(refusal),
     }

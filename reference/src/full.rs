@@ -27,6 +27,10 @@ pub fn full_script(rng: &mut Rng) -> Vec<Cell> {
         script.resize_lent(IMAGE_LEN * pages);
         script.call(Call::Unarchive);
     }
+    script.emit(Op::Second(Second::Volume));
+    script.call(Call::Compare);
+    script.emit(Op::PokeSecond { at: 8 + 256 * 192 + 8, count: 4, bytes: [0xFF; 44] });
+    script.call(Call::Compare);
     script.cells
 }
 

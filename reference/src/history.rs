@@ -50,6 +50,14 @@ impl Style {
         }
     }
 
+    /// Events that add no change: between those of a store that follows another.
+    pub fn quiet(rng: &mut Rng) -> Style {
+        let changes = [Kind::Begin, Kind::Change];
+        let mut style = Style { silly: 0, keep: 0, lift: 0, ..Style::choose(rng) };
+        style.weights.retain(|(kind, _)| !changes.contains(kind));
+        style
+    }
+
     /// The next event of a history that has come to `world`.
     pub fn next(&self, world: &World, rng: &mut Rng) -> Event {
         if rng.chance(self.damage) {

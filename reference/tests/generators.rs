@@ -1,11 +1,12 @@
 //! Generators and the book, briefly: determinism, cell limits, no contradiction, no panic.
 
 use reference::arbitrary::arbitrary_script;
+use reference::cell::Cell;
 use reference::check::check_history;
 use reference::coverage::{hits, sought};
 use reference::driver::drive;
 use reference::history::{history_script, ring_script};
-use reference::reading::reading_script;
+use reference::reading::{mirror_script, reading_script};
 use reference::rng::Rng;
 use std::collections::BTreeSet;
 
@@ -36,19 +37,29 @@ fn scripts_give_only_answers_that_the_table_knows() {
         reached.extend(hits(&history_script(&mut Rng::new(seed), 1_000)));
         reached.extend(hits(&ring_script(&mut Rng::new(seed), 1_000)));
     }
-    let kinds = ["mixed", "turning", "reading"];
+    let kinds = ["mixed", "turning", "reading", "mirror"];
     let known: BTreeSet<_> = kinds.into_iter().flat_map(sought).flatten().collect();
     assert!(reached.is_subset(&known), "{:?}", reached.difference(&known));
 }
 
-#[test]
-fn reading_scripts_reach_all_that_they_are_for() {
-    let mut missing = sought("reading").unwrap();
+/// What eight scripts of a kind miss of what they are for.
+fn left_out(kind: &str, script: fn(&mut Rng, usize) -> Vec<Cell>) {
+    let mut missing = sought(kind).unwrap();
     for seed in 0..8 {
-        let reached = hits(&reading_script(&mut Rng::new(seed), 2_000));
+        let reached = hits(&script(&mut Rng::new(seed), 2_000));
         missing = missing.difference(&reached).cloned().collect();
     }
     assert!(missing.is_empty(), "{missing:?}");
+}
+
+#[test]
+fn reading_scripts_reach_all_that_they_are_for() {
+    left_out("reading", reading_script);
+}
+
+#[test]
+fn mirror_scripts_reach_all_that_they_are_for() {
+    left_out("mirror", mirror_script);
 }
 
 #[test]

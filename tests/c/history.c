@@ -30,8 +30,22 @@ static void apply(uint8_t *to, const uint8_t *record) {
     if (record[10] != FORMAT) memcpy(to + offset, record + 16, length);
 }
 
+/* Which changes come: those of a number, and from a log record on those of another. */
+static struct {
+    uint32_t number, from, another;
+} chosen;
+
+void changes_of(uint32_t number, uint32_t from, uint32_t another) {
+    chosen.number = number;
+    chosen.from = from;
+    chosen.another = another;
+}
+
 /* Log record n: a random page's format, put or slide. */
 static uint32_t change(uint8_t *at, struct counts c, uint32_t n) {
+    uint32_t kept = state;
+    seed((chosen.from != 0 && chosen.from <= n ? chosen.another : chosen.number) * 4099 + n);
+    below(2);
     uint32_t page = 1 + below(c.pages), kind = last[page] == 0 || below(8) == 0 ? FORMAT : PUT + (int)below(2);
     record(at, n, last[page], page, (int)kind, kind == FORMAT ? (uint8_t)below(256) : 0, "");
     if (kind != FORMAT) {
@@ -43,6 +57,7 @@ static uint32_t change(uint8_t *at, struct counts c, uint32_t n) {
     seal(at, 60);
     apply(body[page], at);
     last[page] = n;
+    state = kept;
     return page;
 }
 
@@ -94,6 +109,7 @@ void history(uint8_t *volume, struct counts c, uint32_t durable) {
     memset(slot_of, 0, sizeof slot_of);
     notes = 0;
     make(volume, c);
+    if (chosen.number == 0) chosen.number = 1 + below(1u << 30);
     for (uint32_t n = 1; n <= durable; n++) {
         uint32_t page = change(volume + record_at(c, n), c, n);
         if (below(4) == 0) memcpy(older[page], volume + page_at(page), 256);
@@ -106,6 +122,7 @@ void history(uint8_t *volume, struct counts c, uint32_t durable) {
         if (slot_of[p] != 0 && below(3) == 0) tear(volume + slot_at(c, slot_of[p]));
     }
     memset(older, 0, sizeof older);
+    memset(&chosen, 0, sizeof chosen);
     if (durable < c.records && below(2)) memset(volume + record_at(c, durable + 1), 0x2e, 20);
 }
 

@@ -16,6 +16,10 @@ struct counts any_counts(uint32_t records);
  * noted on the way, then images torn or put back to older ones. Record 1 is in the log. */
 void history(uint8_t *volume, struct counts c, uint32_t durable);
 
+/* The next history's changes are those of this number, whatever else is random, and from log record `from` on (0: none)
+ * those of another. Two histories with as many pages and the same number have the same changes. */
+void changes_of(uint32_t number, uint32_t from, uint32_t another);
+
 /* A ring that has turned: P 2, B 2, L 4, N 4, records 2 to 5 of page 1, whose backup at 2 is noted. Page 2 is blank. */
 extern const struct counts TURNED;
 void turned(uint8_t *volume);

@@ -8,7 +8,7 @@ use Rattle.model.specs.Bytes.{part}
 use Rattle.model.specs.Geometry.{pageAt, recordAt, noteAt, emptyVolume}
 use Rattle.model.specs.Item.{encodeChange}
 use Rattle.model.specs.Calls.{StoredItem, oneItem, inspectOf}
-use Rattle.model.specs.Mirror.{mirrorOf}
+use Rattle.model.specs.Mirror.{mirrorOf, compareOf}
 use Rattle.model.specs.declared.change.Change.the-variants.{Format, Put, Slide}
 use Rattle.model.specs.declared.geometry.Heading.the-variants.{First, Second}
 use Rattle.model.specs.declared.reading.Comparison.{Comparison}
@@ -35,6 +35,10 @@ listing p (b ∷ bs) = let rest = listing (suc p) bs in cond b (p ∷ rest) rest
 
 abbrev compared : List ℕ → List ℕ → List ℕ
 compared v w = let c = mirrorOf v w in comparisonNumbers (c .answer) ++ listing 1 (c .touched)
+
+-- the refusal that the call for C answers, and what it leaves in a report of n nines
+abbrev reported : ℕ → List ℕ → List ℕ → List ℕ
+reported n v w = let o = compareOf v w (replicate n 9) in o .refusal ∷ o .report
 
 -- a volume of two pages with these records
 abbrev logged : List (List ℕ) → List ℕ
@@ -82,4 +86,15 @@ mirrorRows =
     (let forged = storedIn ours (oneItem (pageAt 1) (image 1 3 body1) ∷ []) in
     compared ours forged ++ (part (inspectOf ours 1 buffer .buffer) 8 3 ++ part (inspectOf forged 1 buffer .buffer) 8 3))
     (110 ∷ 7 ∷ 0x41 ∷ 0x42 ∷ 7 ∷ 7 ∷ 7 ∷ [])
+    ∷ row "mirror, for C: they agree, or differ"
+    (reported 66 ours ours ++ reported 66 ours (third (encodeChange 3 1 1 (Put 1 2) (0x41 ∷ 0x43 ∷ []))))
+    (0 ∷ 1 ∷ 0 ∷ replicate 64 0 ++ (0 ∷ 4 ∷ 3 ∷ 1 ∷ replicate 63 0))
+    ∷ row "mirror, for C: the first lacks, or the second"
+    (reported 66 (logged []) ours ++ reported 66 ours (logged (record1 ∷ record2 ∷ [])))
+    (0 ∷ 2 ∷ 3 ∷ 1 ∷ 1 ∷ replicate 62 0 ++ (0 ∷ 3 ∷ 1 ∷ 1 ∷ replicate 63 0))
+    ∷ row "mirror, for C: 1, then 2, then 17, and the report is left"
+    (let wrong = set ours 0 0 in
+    let log = third (encodeChange 4 1 1 (Put 1 2) (0x41 ∷ 0x42 ∷ [])) in
+    reported 3 ours wrong ++ (reported 65 log ours ++ (reported 67 ours ours ++ reported 66 ours log)))
+    (1 ∷ replicate 3 9 ++ (2 ∷ replicate 65 9 ++ (2 ∷ replicate 67 9 ++ (17 ∷ replicate 66 9))))
     ∷ []

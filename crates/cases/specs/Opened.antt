@@ -10,7 +10,7 @@ use Rattle.model.specs.Index.{emptyIndex, enterNote, slotUsed}
 use Rattle.model.specs.Scan.{restZero, highest, firstHeld, gone, firstNote, durableCount, logIndex, recordFits, validLog, noteCount, noteIndex, noteFollows, noteFits, validNotes}
 use Rattle.model.specs.Repair.{classOf, chainRecord, walkFrom, walkOf, replayChain, rebuiltBody, repairOf}
 use Rattle.model.specs.Reading.{pageRecords, tabulate}
-use Rattle.model.specs.Mirror.{commonFrom, touchedIn, mirrorRows, comparison, mirrorOf}
+use Rattle.model.specs.Mirror.{commonFrom, touchedIn, mirrorRows, comparison, mirrorOf, compareRows, compareOf}
 use Rattle.model.specs.Archive.{sectionBytes, archiveBytes, sizeOf, archiveRows, archiveOf, validSection, recordsFrom, validFrom, partedFrom, replayRecords, lastNumberIn, areaFrom, readRows, readOf, pagesFrom}
 use Rattle.model.specs.Forecast.{forecastOf}
 use Rattle.model.specs.Bounds.{boundsOf, tellBounds}
@@ -22,5 +22,5 @@ use Rattle.model.specs.History.{step, validAsNoted, storedBefore, allowed, step
 use Rattle.model.specs.Claim.{reached, logOf}
 
 unfoldable pub opened : Unit {0}
-unfolding highest firstHeld gone firstNote recordNeeded logFull noteNeeded notesFull every le bytesOf part splice allZero startsWith sameBytes checksumFrom byteSumFrom withSum sumHolds sealedRun imageSum imageSealed geometryOf validCounts validVolume emptyVolume item store changeOf changeFits applyChange validImage validSomewhere frameImage recordOf recordLayout recordBytes encodeChange applyRecord noteOf noteLayout noteBytes emptyIndex enterNote slotUsed restZero durableCount logIndex recordFits validLog noteCount noteIndex noteFollows noteFits validNotes classOf chainRecord walkFrom walkOf replayChain rebuiltBody repairOf validMemory zeroState holderFrom pendingNoteFits frameFits entryFits pageFits wellFormed makeRows restartRows beginRows loadRows changeRows forceRows writeRows backupRows releaseRows noteRows inspectRows volumeAfter appendedState appendedMemory beginOf loadOf changeCall forcedState forceOf writeOf backupOf releaseOf notedState noteCall restartState restartOf makeOf inspectOf replayOn lastPlaceFrom stepCall stepCut step validAsNoted storedBefore allowed stepLog freshMachine allAllowed run logAfter reached logOf pageRecords tabulate forecastOf boundsOf tellBounds sectionBytes archiveBytes sizeOf archiveRows archiveOf validSection recordsFrom validFrom partedFrom replayRecords lastNumberIn areaFrom readRows readOf pagesFrom commonFrom touchedIn mirrorRows comparison mirrorOf
+unfolding highest firstHeld gone firstNote recordNeeded logFull noteNeeded notesFull every le bytesOf part splice allZero startsWith sameBytes checksumFrom byteSumFrom withSum sumHolds sealedRun imageSum imageSealed geometryOf validCounts validVolume emptyVolume item store changeOf changeFits applyChange validImage validSomewhere frameImage recordOf recordLayout recordBytes encodeChange applyRecord noteOf noteLayout noteBytes emptyIndex enterNote slotUsed restZero durableCount logIndex recordFits validLog noteCount noteIndex noteFollows noteFits validNotes classOf chainRecord walkFrom walkOf replayChain rebuiltBody repairOf validMemory zeroState holderFrom pendingNoteFits frameFits entryFits pageFits wellFormed makeRows restartRows beginRows loadRows changeRows forceRows writeRows backupRows releaseRows noteRows inspectRows volumeAfter appendedState appendedMemory beginOf loadOf changeCall forcedState forceOf writeOf backupOf releaseOf notedState noteCall restartState restartOf makeOf inspectOf replayOn lastPlaceFrom stepCall stepCut step validAsNoted storedBefore allowed stepLog freshMachine allAllowed run logAfter reached logOf pageRecords tabulate forecastOf boundsOf tellBounds sectionBytes archiveBytes sizeOf archiveRows archiveOf validSection recordsFrom validFrom partedFrom replayRecords lastNumberIn areaFrom readRows readOf pagesFrom commonFrom touchedIn mirrorRows comparison mirrorOf compareRows compareOf
 opened = tt

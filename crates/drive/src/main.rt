@@ -6,6 +6,7 @@ mod calls;
 mod cell;
 mod forecast;
 mod hash;
+mod mirror;
 mod numbers;
 mod printed;
 mod session;
@@ -30,6 +31,7 @@ fn turn(
         2..=9 | 17 => calls::stateful(b, c, volume, memory),
         22 => forecast::turn(b, volume),
         23..=25 | 29 => archive::turn(b, c, volume, lent, second),
+        26 => mirror::turn(b, volume, second),
         _ => setup::turn(b, c, volume, memory, lent, second),
     }
 }

@@ -9,6 +9,12 @@ fn told(word: &[u8], n: u32) {
     number(n);
 }
 
+// A word and two numbers.
+fn compared(word: &[u8], n: u32, h: u32) {
+    told(word, n);
+    told(b" ", h);
+}
+
 // Prints what is said of a cell; false where that is the whole line.
 pub fn said(s: Said) -> bool {
     match s {
@@ -20,6 +26,10 @@ pub fn said(s: Said) -> bool {
         Said::Forecast(h) => told(b"FORECAST ", h),
         Said::Length(n) => told(b"LENGTH ", n),
         Said::Pages(n) => told(b"PAGES ", n),
+        Said::Agree(h) => told(b"AGREE ", h),
+        Said::First(n, h) => compared(b"FIRST ", n, h),
+        Said::Second(n, h) => compared(b"SECOND ", n, h),
+        Said::Differs(n, h) => compared(b"DIFFERS ", n, h),
     }
     true
 }

@@ -20,6 +20,10 @@ pub enum Said {
     Forecast(u32),
     Length(u32),
     Pages(u32),
+    Agree(u32),
+    First(u32, u32),
+    Second(u32, u32),
+    Differs(u32, u32),
 }
 
 pub struct Turn {

@@ -145,7 +145,7 @@ module _ (v : List ℕ) (h : Whole v) where
 
 -- ---- all sections
 
-tabulate-length : {A : Type 0} (n : ℕ) (f : ℕ → A) → length (tabulate n f) ≡ n
+pub tabulate-length : {A : Type 0} (n : ℕ) (f : ℕ → A) → length (tabulate n f) ≡ n
 unfolding tabulate
 tabulate-length zero f = refl
 tabulate-length (suc n) f = ap suc (tabulate-length n (λ i. f (suc i)))

@@ -29,6 +29,7 @@ pub mod Sections
 pub mod Archive
 pub mod Area
 pub mod Mirror
+pub mod Compare
 pub mod Noted
 pub mod Neighbours
 pub mod Same

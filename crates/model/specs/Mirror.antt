@@ -7,7 +7,7 @@ use Prim.Native.Nat.{ℕ, zero, suc, _+_, _-_, _≤_, _<_}
 use mathlib.Core.Path.{_≡_}
 use mathlib.Core.Logic.{_≢_, _↔_}
 use mathlib.Core.Bool.{Bool, true, false, cond, _&&_, _||_, not}
-use mathlib.Core.List.{List, [], _∷_}
+use mathlib.Core.List.{List, [], _∷_, map}
 use lib.Dec.{eqb, leb}
 use lib.ListN.{length, replicate, getD}
 use Rattle.model.specs.Tables.{Row, firstOf, every}
@@ -38,7 +38,9 @@ durableIn v = durableCount (geometryOf v) v
 -- of the next `most` records behind number k, k and how many stand before the first change that differs
 unfoldable pub commonFrom : ℕ → List ℕ → List ℕ → ℕ → ℕ
 commonFrom zero v w k = k
-commonFrom (suc most) v w k = let rest = commonFrom most v w (suc k) in cond (sameChange (recordIn v (suc k)) (recordIn w (suc k))) rest k
+commonFrom (suc most) v w k =
+    let rest = commonFrom most v w (suc k) in
+    cond (sameChange (recordIn v (suc k)) (recordIn w (suc k))) rest k
 
 abbrev pub smaller : ℕ → ℕ → ℕ
 smaller a b = cond (leb a b) a b
@@ -51,16 +53,24 @@ commonOf v w = commonFrom (smaller (durableIn v) (durableIn w)) v w 0
 unfoldable pub touchedIn : Geometry → List ℕ → ℕ → ℕ → ℕ → Bool
 touchedIn g v n k p = not (every (n - k) (λ i. not (eqb (logRecord g v (k + suc i) .page) p)))
 
--- refused by number, whichever of the two volumes gives it
+-- refused by number, whichever of the two volumes gives it: row 1, with those behind it, and 17, 18 and 24
+abbrev pub eitherRows : List ℕ → List ℕ → List Row → List Row
+eitherRows v w rows = (not (validVolume v && validVolume w), 1) ∷ rows
+
+abbrev pub laterRows : List ℕ → List ℕ → List Row
+laterRows v w =
+    (not (validLog (geometryOf v) v && validLog (geometryOf w) w), 17)
+    ∷ (not (validNotes (geometryOf v) v && validNotes (geometryOf w) w), 18)
+    ∷ (gone (geometryOf v) v || gone (geometryOf w) w, 24) ∷ []
+
 unfoldable pub mirrorRows : List ℕ → List ℕ → List Row
-mirrorRows v w =
-    (not (validVolume v && validVolume w), 1) ∷ (not (validLog (geometryOf v) v && validLog (geometryOf w) w), 17)
-    ∷ (not (validNotes (geometryOf v) v && validNotes (geometryOf w) w), 18) ∷ (gone (geometryOf v) v || gone (geometryOf w) w, 24) ∷ []
+mirrorRows v w = eitherRows v w (laterRows v w)
 
 -- of logs of n and m records with k in common
 unfoldable pub comparison : ℕ → ℕ → ℕ → Comparison
 comparison k n m =
-    cond (eqb k n) (cond (eqb k m) Comparison.Agree (FirstLacks (m - k))) (cond (eqb k m) (SecondLacks (n - k)) (Differs (suc k)))
+    cond (eqb k n) (cond (eqb k m) Comparison.Agree (FirstLacks (m - k)))
+    (cond (eqb k m) (SecondLacks (n - k)) (Differs (suc k)))
 
 unfoldable pub mirrorOf : List ℕ → List ℕ → Compared
 mirrorOf v w =
@@ -76,6 +86,46 @@ mirrorOf v w =
       touched = tabulate 64 (λ i. touchedIn g v n k (suc i) || touchedIn h w m k (suc i));
     })
     (record { answer = Refused no; touched = replicate 64 false })
+
+-- ---- the comparison as numbers, for C
+
+-- agree, first lacks, second lacks, differs
+abbrev pub kindNumber : Comparison → ℕ
+kindNumber (Refused n) = 0
+kindNumber Comparison.Agree = 1
+kindNumber (FirstLacks n) = 2
+kindNumber (SecondLacks n) = 3
+kindNumber (Differs n) = 4
+
+-- "how many records it lacks, or the first number where" they differ; 0 where they agree
+abbrev pub countNumber : Comparison → ℕ
+countNumber (Refused n) = 0
+countNumber Comparison.Agree = 0
+countNumber (FirstLacks n) = n
+countNumber (SecondLacks n) = n
+countNumber (Differs n) = n
+
+abbrev pub flag : Bool → ℕ
+flag b = cond b 1 0
+
+-- 66 numbers: the kind, the count, and 1 for each page that is listed, 0 for each other
+abbrev pub numbersOf : Compared → List ℕ
+numbersOf c = kindNumber (c .answer) ∷ countNumber (c .answer) ∷ map flag (c .touched)
+
+-- what the call leaves in a lent report
+pub record CompareReport : Type 0 where
+  pub refusal : ℕ
+  pub report : List ℕ
+
+-- a report of another length is refused behind row 1, as a buffer of another length is; a refusal leaves the report
+unfoldable pub compareRows : List ℕ → List ℕ → ℕ → List Row
+compareRows v w size = eitherRows v w ((not (eqb size 66), 2) ∷ laterRows v w)
+
+unfoldable pub compareOf : List ℕ → List ℕ → List ℕ → CompareReport
+compareOf v w report =
+    let no = firstOf (compareRows v w (length report)) in
+    cond (eqb no 0) (record { refusal = 0; report = numbersOf (mirrorOf v w) })
+    (record { refusal = no; report = report })
 
 -- ---- the claims, on any volumes
 
@@ -109,17 +159,27 @@ pub record MirrorClaim : Type 0 where
   pub table : (v w : List ℕ) → ByTable (mirrorRows v w) (mirrorRefusal (mirrorOf v w .answer))
   pub refused : (v w : List ℕ) → mirrorRefusal (mirrorOf v w .answer) ≢ 0 → mirrorOf v w .touched ≡ replicate 64 false
   -- the two volumes have equal parts in it
-  pub symmetry : (v w : List ℕ) → (mirrorOf w v .answer ≡ exchanged (mirrorOf v w .answer)) × (mirrorOf w v .touched ≡ mirrorOf v w .touched)
+  pub symmetry : (v w : List ℕ)
+      → (mirrorOf w v .answer ≡ exchanged (mirrorOf v w .answer)) × (mirrorOf w v .touched ≡ mirrorOf v w .touched)
   pub common : (v w : List ℕ) → CommonRecords v w (commonOf v w)
   -- "The pages touched at or after that number in either": a page is not listed exactly where no record behind the
   -- common beginning is of it
   pub listed : (v w : List ℕ) (p : ℕ) → mirrorRefusal (mirrorOf v w .answer) ≡ 0 → 1 ≤ p → p ≤ 64
       → (listed v w p ≡ false)
       ↔ ((n : ℕ) → commonOf v w < n
-      → (n ≤ durableIn v → logRecord (geometryOf v) v n .page ≢ p) × (n ≤ durableIn w → logRecord (geometryOf w) w n .page ≢ p))
+      → (n ≤ durableIn v → logRecord (geometryOf v) v n .page ≢ p)
+      × (n ≤ durableIn w → logRecord (geometryOf w) w n .page ≢ p))
   -- number, previous number and check need no comparison: the records are the same up to there
   pub whole : (v w : List ℕ) → mirrorRefusal (mirrorOf v w .answer) ≡ 0 → (n : ℕ) → 1 ≤ n → n ≤ commonOf v w
       → (recordOf (recordIn v n) ≡ recordOf (recordIn w n)) × (payloadOf (recordIn v n) ≡ payloadOf (recordIn w n))
+
+-- of the call for C: refused by its table, and then the report is left; else it is told a comparison, not refused
+pub record CompareClaim : Type 0 where
+  pub table : (v w report : List ℕ) → ByTable (compareRows v w (length report)) (compareOf v w report .refusal)
+  pub refused : (v w report : List ℕ) → compareOf v w report .refusal ≢ 0 → compareOf v w report .report ≡ report
+  pub told : (v w report : List ℕ) → compareOf v w report .refusal ≡ 0
+      → (mirrorRefusal (mirrorOf v w .answer) ≡ 0) × (compareOf v w report .report ≡ numbersOf (mirrorOf v w))
+  pub size : (v w : List ℕ) → length (numbersOf (mirrorOf v w)) ≡ 66
 
 -- ---- the claims about histories
 
@@ -134,13 +194,16 @@ pub record LongestCommon (k : ℕ) (xs ys : List Logged) : Type 0 where
 -- the two volumes that histories leave, compared and not refused; the counts of pages and all others may differ
 pub record MirrorHistory : Type 0 where
   -- the answer is the comparison of the two kept lists
-  pub kept : (h k : History) → Legal h → Legal k → mirrorRefusal (mirrorOf (reached h .volume) (reached k .volume) .answer) ≡ 0
+  pub kept : (h k : History) → Legal h → Legal k
+      → mirrorRefusal (mirrorOf (reached h .volume) (reached k .volume) .answer) ≡ 0
       → LongestCommon (commonOf (reached h .volume) (reached k .volume)) (durableOf h) (durableOf k)
       × (durableIn (reached h .volume) ≡ length (durableOf h)) × (durableIn (reached k .volume) ≡ length (durableOf k))
   -- a page that both have and that is not listed inspects the same, or gives 7 from both
-  pub same : (h k : History) → Legal h → Legal k → mirrorRefusal (mirrorOf (reached h .volume) (reached k .volume) .answer) ≡ 0
+  pub same : (h k : History) → Legal h → Legal k
+      → mirrorRefusal (mirrorOf (reached h .volume) (reached k .volume) .answer) ≡ 0
       → (p : ℕ) → 1 ≤ p → p ≤ h .pages → p ≤ k .pages → listed (reached h .volume) (reached k .volume) p ≡ false
       → (x y : List ℕ) → length x ≡ 256 → length y ≡ 256 → Agree h k x y p
   -- "if they agree, inspecting any page both have gives the same body, or 7 from both"
-  pub agreed : (h k : History) → Legal h → Legal k → mirrorOf (reached h .volume) (reached k .volume) .answer ≡ Comparison.Agree
-      → (p : ℕ) → 1 ≤ p → p ≤ h .pages → p ≤ k .pages → (x y : List ℕ) → length x ≡ 256 → length y ≡ 256 → Agree h k x y p
+  pub agreed : (h k : History) → Legal h → Legal k
+      → mirrorOf (reached h .volume) (reached k .volume) .answer ≡ Comparison.Agree → (p : ℕ) → 1 ≤ p → p ≤ h .pages
+      → p ≤ k .pages → (x y : List ℕ) → length x ≡ 256 → length y ≡ 256 → Agree h k x y p

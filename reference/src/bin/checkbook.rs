@@ -2,6 +2,7 @@
 
 use reference::args::value;
 use reference::check::{check_history, Counts};
+use reference::compare::Comparison;
 use std::process::ExitCode;
 
 fn main() -> ExitCode {
@@ -18,8 +19,17 @@ fn main() -> ExitCode {
         }
     }
     println!(
-        "{count} histories, {} events, {} changes kept, {} logs turned, {} pages lost: no contradiction",
+        "{count} histories, {} events, {} changes kept, {} logs turned, {} pages lost",
         sum.events, sum.kept, sum.turned, sum.lost
     );
+    let pairs =
+        |wanted: fn(&Comparison) -> bool| sum.pairs.iter().filter(|&pair| wanted(pair)).count();
+    println!(
+        "{} pairs of logs that agree, {} with one a beginning of the other, {} that differ",
+        pairs(|pair| *pair == Comparison::Agree),
+        pairs(|pair| matches!(pair, Comparison::FirstLacks(_) | Comparison::SecondLacks(_))),
+        pairs(|pair| matches!(pair, Comparison::Differs(_)))
+    );
+    println!("no contradiction");
     ExitCode::SUCCESS
 }

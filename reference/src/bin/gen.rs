@@ -1,14 +1,16 @@
-//! Writes one script: `gen --seed N --kind history|ring|arbitrary|reading|full|mixed|turning --cells N`.
+//! Writes one script: `gen --seed N --kind KIND --cells N`, the kind one of `KINDS`.
 
 use reference::arbitrary::arbitrary_script;
 use reference::args::value;
 use reference::full::full_script;
 use reference::history::{history_script, ring_script};
 use reference::mixed::mixed_script;
-use reference::reading::reading_script;
+use reference::reading::{mirror_script, reading_script};
 use reference::rng::Rng;
 use std::io::{self, Write};
 use std::process::ExitCode;
+
+const KINDS: &str = "history, ring, arbitrary, reading, mirror, full, mixed or turning";
 
 fn main() -> io::Result<ExitCode> {
     let mut rng = Rng::new(value("--seed", 1));
@@ -19,6 +21,7 @@ fn main() -> io::Result<ExitCode> {
         "ring" => ring_script(&mut rng, cells),
         "arbitrary" => arbitrary_script(&mut rng, cells),
         "reading" => reading_script(&mut rng, cells),
+        "mirror" => mirror_script(&mut rng, cells),
         "full" => full_script(&mut rng),
         "mixed" | "turning" => {
             let (script, missing) = mixed_script(&mut rng, cells, kind == "turning");
@@ -29,7 +32,7 @@ fn main() -> io::Result<ExitCode> {
             script
         }
         _ => {
-            eprintln!("--kind is history, ring, arbitrary, reading, full, mixed or turning");
+            eprintln!("--kind is {KINDS}");
             return Ok(ExitCode::from(2));
         }
     };

@@ -1,0 +1,4 @@
+pub mod Beginnings
+pub mod Marks
+pub mod Outcomes
+pub mod Reports

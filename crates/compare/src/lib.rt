@@ -1,0 +1,91 @@
+// Compare: two volumes' durable logs held against each other, without memory or state.
+ghost use mathlib.Core.Path.{_≡_};
+ghost use mathlib.Core.Bool.{cond, _||_};
+ghost use Prim.Native.Nat.{_≤_};
+ghost use lib.Dec.{eqb};
+ghost use Rattle.model.specs.Mirror as mirrors;
+ghost use Rattle.compare.specs.Volumes.{goneIn};
+
+pub mod changes;
+pub mod pages;
+pub mod report;
+
+use index::Counts;
+use model::reading::Compared;
+use model::reading::Comparison;
+use volume::heading;
+use volume::rows;
+
+// Record 1 has left a log of these counts.
+fn gone(c: Counts) -> bool
+    ensures { λ r. ⌜ r ≡ goneIn c ⌝ }
+{
+    (0 < c.durable) & (1 < c.first)
+}
+
+// The refusal: by number, whichever of the two scans gives it.
+fn refusal(a: Counts, b: Counts) -> u32
+    ensures { λ r. ⌜ r
+        ≡ cond (eqb (a .refusal) 1 || eqb (b .refusal) 1) 1 (cond (eqb (a .refusal) 17 || eqb (b .refusal) 17) 17
+        (cond (eqb (a .refusal) 18 || eqb (b .refusal) 18) 18 (cond (goneIn a || goneIn b) 24 0))) ⌝ }
+{
+    let m = a.refusal;
+    let n = b.refusal;
+    let lost = rows::first(gone(a) | gone(b), 24, 0);
+    let later = rows::first((m == 18) | (n == 18), 18, lost);
+    let log = rows::first((m == 17) | (n == 17), 17, later);
+    rows::first((m == 1) | (n == 1), 1, log)
+}
+
+// The smaller of two counts.
+fn smaller(a: u32, b: u32) -> u32
+    ensures { λ r. ⌜ r ≡ mirrors.smaller a b ⌝ }
+{
+    if a <= b { a } else { b }
+}
+
+// The answer, for logs of n and m records with k in common.
+fn answer(k: u32, n: u32, m: u32) -> Comparison
+    requires { ⌜ (k ≤ n) × (k ≤ m) ⌝ }
+    ensures { λ r. ⌜ r ≡ mirrors.comparison k n m ⌝ }
+{
+    if k == n {
+        if k == m {
+            return Comparison::Agree;
+        }
+        return Comparison::FirstLacks(m - k);
+    }
+    if k == m {
+        return Comparison::SecondLacks(n - k);
+    }
+    Comparison::Differs(k + 1)
+}
+
+// Compares two volumes' logs.
+// Ruled out: that logs agree where a payload differs (tried); a page that only the second log touches left out (tried);
+// a shorter log taken as a beginning (tried); the refusal of the first volume before a lower one of the second (tried).
+pub fn compare(first: &[u8], second: &[u8]) -> Compared
+    ensures { λ r. ⌜ r ≡ mirrors.mirrorOf (now (first .entry)) (now (second .entry)) ⌝ }
+{
+    let a = index::count(first);
+    let b = index::count(second);
+    let no = refusal(a, b);
+    let mut touched = [false; 64];
+    if no != 0 {
+        return Compared {
+            answer: Comparison::Refused(no),
+            touched,
+        };
+    }
+    let n = a.durable;
+    let m = b.durable;
+    let g = heading::geometry(first);
+    let h = heading::geometry(second);
+    let k = changes::common(first, g, second, h, smaller(n, m));
+    pages::mark_behind(first, g, k, n, &mut touched);
+    pages::mark_behind(second, h, k, m, &mut touched);
+    Compared {
+        answer: answer(k, n, m),
+        touched,
+    }
+}
