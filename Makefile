@@ -21,7 +21,7 @@ CHECK = python3 tools/prove.py check
 STATICLIB = python3 tools/prove.py staticlib
 
 # make scan VOLUME=file   the program on a volume of your own (at most 32,768 bytes)
-# make forecast VOLUME=file   how many log records each page's repair could replay at most (at most 32,768 bytes)
+# make forecast VOLUME=file   how many log records each page's repair replays (at most 32,768 bytes)
 # make archive VOLUME=file    the volume's log archive, to standard output
 # make unarchive ARCHIVE=file   what a log archive holds: a line a page
 # make mirror FIRST=file SECOND=file   two volumes' logs held against each other

@@ -74,10 +74,9 @@ uint32_t pagestore_inspect(const uint8_t *volume, size_t volume_len, uint32_t pa
 uint32_t pagestore_examine(const uint8_t *volume, size_t volume_len, uint32_t page, uint8_t *buffer, size_t buffer_len,
                            uint32_t *report, size_t report_len);
 
-/* The forecast (docs/FORMAT.md, section 4): for page p, at 2 * (p - 1), the most records that its repair replays if its
- * noted backup is sound, and behind it the most if it is not. No image is read. */
+/* The forecast (docs/FORMAT.md, section 4): for page p, at 2 * (p - 1), PAGESTORE_OK or PAGESTORE_PAGE_LOST, and behind
+ * it the count of log records that pagestore_examine would report, 0 for a blank or a lost page. No page is built. */
 #define PAGESTORE_FORECAST_SIZE 128u
-#define PAGESTORE_FIGURE_NONE 4294967295u /* no bound: the walk would end in PAGESTORE_PAGE_LOST */
 
 /* Writes the figures, PAGESTORE_FORECAST_SIZE numbers (`figures_len` counts numbers, not bytes), and returns
  * PAGESTORE_OK; or returns the refusal (BAD_VOLUME, BAD_BUFFER, BAD_LOG, BAD_NOTES) and leaves them as they were.

@@ -2,7 +2,7 @@
 """Holds the documents against the sources; prints each difference, and exits with 1 where there is one.
 
 The refusals stand in docs/FORMAT.md, section 6. README's short table, the constants of include/pagestore.h and the
-order of the rows in crates/model/specs (Reading, Refusals, Bounds, Archive, Mirror) must be the same. README quotes
+order of the rows in crates/model/specs (Reading, Refusals, Forecast, Archive, Mirror) must be the same. README quotes
 examples/show.c. Every function, definition, must-fail edit and file that the documents name is there. No line has more
 than 120 columns.
 """
@@ -69,7 +69,7 @@ FACES = ("store", "inspect", "estimate", "export", "extract", "compare")
 
 def defined_orders():
     """What the definitions have for each call: the numbers of its rows, each once."""
-    files = ("Reading", "Refusals", "Bounds", "Archive", "Mirror")
+    files = ("Reading", "Refusals", "Forecast", "Archive", "Mirror")
     text = re.sub(r"--.*", "", "".join(read(f"crates/model/specs/{name}.antt") for name in files))
     bodies = {name: body for name, body in re.findall(r"^(\w+)Rows(?! :)(.*(?:\n .*)*)", text, re.M)}
 

@@ -36,6 +36,7 @@ EXPECTED += ["FORECAST", "LENGTH", "PAGES 0", "PAGES"] + ["AGREE", "FIRST", "SEC
 
 CELL = 64
 CELLS = 2000  # of a script that is written in an instant
+CELLS_AIMED = 4000  # of one of the kinds with a list of cases
 CELLS_SEARCHED = 4096  # at most; a searched script is as long as it takes to reach every answer
 BEFORE = 4  # cells shown before the one that differs
 COVERED_FROM = 60  # seconds of a run that has to reach every answer
@@ -103,7 +104,7 @@ def build():
 
 def generator(kind, seed, path):
     """Starts to write a script to a file."""
-    cells = CELLS_SEARCHED if kind in SEARCHED else CELLS
+    cells = CELLS_SEARCHED if kind in SEARCHED else CELLS_AIMED if kind in AIMED else CELLS
     command = [os.path.join(REFERENCE, "gen"), "--seed", str(seed), "--kind", kind, "--cells", str(cells)]
     with open(path, "wb") as script:
         return subprocess.Popen(command, stdout=script)

@@ -6,7 +6,7 @@ use crate::bytes::{u16_at, u32_at};
 use crate::calls::inspect;
 use crate::check::{ensure, Checker};
 use crate::check_archive::{check_archive, check_read_back};
-use crate::check_forecast::{check_bound, check_forecast};
+use crate::check_forecast::{check_figure, check_forecast};
 use crate::image::BODY;
 
 impl Checker {
@@ -15,13 +15,13 @@ impl Checker {
     pub fn inspect_all(&self) -> Result<(), String> {
         let noted = self.noted()?;
         self.check_ring(&noted)?;
-        let forecast = check_forecast(&self.ring(&noted))?;
+        let forecast = check_forecast(self.world.volume(), self.world.geometry.pages)?;
         let area = check_archive(&self.ring(&noted))?;
         for page in 1..=self.world.geometry.pages as u16 {
             let mut buffer = [0xA5; 256];
             let answer = inspect(self.world.volume(), page, &mut buffer);
             self.ring(&noted).check_below(page, &answer)?;
-            check_bound(&self.ring(&noted), page, &answer, &forecast[usize::from(page) - 1])?;
+            check_figure(&forecast, page, &answer)?;
             area.iter().try_for_each(|area| check_read_back(area, page, &answer, &buffer))?;
             match (answer, self.book.replay(page)) {
                 (Answer::Refused(Refusal::Blank), None) => {

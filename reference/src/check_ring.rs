@@ -35,12 +35,12 @@ impl RingView<'_> {
         self.book.last() >= 1 && self.first() > 1
     }
 
-    pub fn own_number(&self, page: u16) -> Option<u32> {
+    fn own_number(&self, page: u16) -> Option<u32> {
         let own = &self.world.volume()[self.world.geometry.page(page.into())];
         self.number_if_valid(own, page)
     }
 
-    pub fn backup_passes(&self, page: u16, entry: &IndexEntry) -> bool {
+    fn backup_passes(&self, page: u16, entry: &IndexEntry) -> bool {
         if entry.backup_slot == 0 {
             return false;
         }

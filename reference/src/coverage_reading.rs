@@ -2,21 +2,24 @@
 
 use crate::answer::{Answer, Refusal};
 use crate::archive::{archive_length, sections};
+use crate::calls::inspect;
 use crate::cell::Call;
-use crate::coverage::{Hit, CAUSE};
+use crate::coverage::{label, Hit, CAUSE};
 use crate::coverage_compare::{compare_cases, COMPARE_CASES};
-use crate::coverage_table::{MIRROR_ROWS, READING_ROWS};
+use crate::coverage_table::{MIRROR_ROWS, READING_ROWS, REBUILDS};
 use crate::driver::Driver;
 use crate::fault::Fault;
 use crate::forecast::forecast;
-use crate::geometry::{IMAGE_LEN, MAX_PAGES};
+use crate::geometry::{Geometry, IMAGE_LEN, MAX_PAGES};
 use std::collections::BTreeSet;
+
+const LOST_BESIDE: &str = "one page lost beside another";
 
 /// Cases that the answer alone doesn't tell.
 const CASES: &[&str] = &[
-    "both figures none",
-    "one figure none",
-    "figures differ",
+    LOST_BESIDE,
+    "forecast of REFUSED 7",
+    "forecast of REFUSED 23",
     "buffer too short",
     "buffer too long",
     "area empty",
@@ -29,7 +32,8 @@ const CASES: &[&str] = &[
 pub fn reading_targets() -> BTreeSet<Hit> {
     let answers = READING_ROWS.iter().flat_map(|row| row.hits());
     let faults = Fault::ARCHIVE.iter().map(|fault| format!("{fault:?}"));
-    let cases = CASES.iter().map(|case| case.to_string()).chain(faults);
+    let rebuilds = REBUILDS.iter().map(|rebuild| format!("forecast of {rebuild}"));
+    let cases = CASES.iter().map(|case| case.to_string()).chain(faults).chain(rebuilds);
     answers.chain(cases.map(|case| (CAUSE, case))).collect()
 }
 
@@ -43,7 +47,7 @@ pub fn mirror_targets() -> BTreeSet<Hit> {
 /// The cases behind the answer of a call that the driver has made.
 pub fn cases(driver: &Driver, call: &Call, answer: &Answer) -> Vec<String> {
     let cases = match (call, answer) {
-        (Call::Forecast, Answer::Forecast(_)) => forecast_cases(driver.volume()),
+        (Call::Forecast, Answer::Forecast(_)) => return forecast_cases(driver.volume()),
         (Call::Compare, _) => return compare_cases(driver),
         (Call::Archive, Answer::Refused(Refusal::ArchiveBuffer)) => vec![buffer_case(driver)],
         (Call::Unarchive, Answer::Refused(Refusal::Lent)) => vec![area_case(driver.lent_len)],
@@ -64,17 +68,20 @@ pub fn cases(driver: &Driver, call: &Call, answer: &Answer) -> Vec<String> {
     cases.into_iter().map(String::from).collect()
 }
 
-fn forecast_cases(volume: &[u8]) -> Vec<&'static str> {
-    let Ok(rows) = forecast(volume) else {
-        return Vec::new();
-    };
-    let case = |sound, unsound| match (sound, unsound) {
-        (None, None) => Some("both figures none"),
-        (Some(_), None) => Some("one figure none"),
-        (sound, unsound) if sound != unsound => Some("figures differ"),
-        _ => None,
-    };
-    rows.iter().filter_map(|row| case(row.sound, row.unsound)).collect()
+/// What inspection finds of the pages, and whether one is lost beside another that is not.
+fn forecast_cases(volume: &[u8]) -> Vec<String> {
+    let rows = forecast(volume).unwrap_or([Ok(0); MAX_PAGES]);
+    let pages = Geometry::read(volume).map_or(0, |geometry| geometry.pages as u16);
+    let mut cases: Vec<String> =
+        (1..=pages).map(|page| forecast_of(&inspect(volume, page, &mut [0; IMAGE_LEN]))).collect();
+    if rows.iter().any(|row| row.is_err()) && rows.iter().any(|row| row.is_ok_and(|n| n > 0)) {
+        cases.push(LOST_BESIDE.into());
+    }
+    cases
+}
+
+fn forecast_of(answer: &Answer) -> String {
+    format!("forecast of {}", label(&answer.to_string()))
 }
 
 fn buffer_case(driver: &Driver) -> &'static str {

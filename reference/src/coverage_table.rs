@@ -21,7 +21,7 @@ impl Row {
 }
 
 /// The class and start pairs there are: Good is always own, Failed and Ahead never.
-const REBUILDS: &[&str] = &[
+pub const REBUILDS: &[&str] = &[
     "GOOD OWN",
     "BEHIND OWN",
     "BEHIND BACKUP",

@@ -5,7 +5,7 @@ use crate::archive::{archive_length, archive_pages, read_archive, write_archive}
 use crate::calls::{inspect, make, restart};
 use crate::cell::{decode, Call, Cell, Op, Second, CELL_LEN, MAX_CELLS};
 use crate::compare::compare;
-use crate::forecast::forecast;
+use crate::forecast::{forecast, Figure};
 use crate::record::PAYLOAD_LEN;
 use crate::state::State;
 use std::io::{self, Write};
@@ -175,13 +175,14 @@ impl Driver {
     }
 }
 
+/// Refusal (0 for none) and count of each page, hashed.
 fn forecast_answer(volume: &[u8]) -> Answer {
-    let number = |figure: Option<u32>| u64::from(figure.unwrap_or(u32::MAX));
+    let numbers = |row: &Figure| match *row {
+        Ok(count) => [0, count as u64],
+        Err(refusal) => [refusal.number().into(), 0],
+    };
     match forecast(volume) {
-        Ok(rows) => {
-            let numbers = rows.iter().flat_map(|row| [number(row.sound), number(row.unsound)]);
-            Answer::Forecast(hash(numbers))
-        }
+        Ok(rows) => Answer::Forecast(hash(rows.iter().flat_map(numbers))),
         Err(refusal) => Answer::Refused(refusal),
     }
 }

@@ -1,42 +1,31 @@
-//! How many records a repair of each page could replay at most, told from log and notes alone.
+//! How many records a repair of each page would replay. Images are judged; no page is built.
 
 use crate::answer::Refusal;
 use crate::geometry::MAX_PAGES;
 use crate::recovered::Recovered;
-use crate::restart::Log;
 use crate::state::IndexEntry;
+use crate::walk::walk;
 
-/// A page's figures; None where the walk would go below the run. Zero for a blank page.
-#[derive(Clone, Copy, Debug, PartialEq, Eq)]
-pub struct Figures {
-    /// Where the backup passes with the noted number.
-    pub sound: Option<u32>,
-    /// Where it does not.
-    pub unsound: Option<u32>,
-}
+/// The count that an inspection would report, 0 for a blank page; or its refusal where the
+/// walk finds no start.
+pub type Figure = Result<usize, Refusal>;
 
-pub type Forecast = [Figures; MAX_PAGES];
+pub type Forecast = [Figure; MAX_PAGES];
 
 /// The figures of pages 1 to 64, those past P zero.
 pub fn forecast(volume: &[u8]) -> Result<Forecast, Refusal> {
     let found = Recovered::read(volume)?;
-    Ok(found.state.index.map(|entry| Figures {
-        sound: figure(&found.log, &entry, entry.backup_lsn),
-        unsound: figure(&found.log, &entry, 0),
-    }))
+    let mut rows = [Ok(0); MAX_PAGES];
+    for ((page, row), entry) in (1u16..).zip(&mut rows).zip(&found.state.index) {
+        *row = figure(&found, page, entry);
+    }
+    Ok(rows)
 }
 
-/// Records that the walk reads if it can start at a backup with this number (0: at none).
-fn figure(log: &Log, entry: &IndexEntry, backup: u32) -> Option<u32> {
-    let mut number = entry.newest_durable;
-    let mut count = 0;
-    while number != backup {
-        let record = log.record(number)?;
-        count += 1;
-        if record.change.is_format() {
-            break;
-        }
-        number = record.previous;
+fn figure(found: &Recovered, page: u16, entry: &IndexEntry) -> Figure {
+    if entry.newest_durable == 0 {
+        return Ok(0);
     }
-    Some(count)
+    let chain = walk(found.volume, &found.geometry, page, entry, found.state.durable)?;
+    Ok(chain.records.len())
 }

@@ -30,6 +30,7 @@ pub mod edge_episodes;
 pub mod episodes;
 pub mod fault;
 pub mod forecast;
+pub mod forecast_episodes;
 pub mod full;
 pub mod geometry;
 pub mod heading;

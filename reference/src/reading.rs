@@ -2,8 +2,9 @@
 
 use crate::arbitrary::{grow, revive, Episode};
 use crate::archive_episodes::archive_and_back;
-use crate::cell::{Call, Cell, MAX_CELLS};
+use crate::cell::{Cell, MAX_CELLS};
 use crate::episodes::{wrong_heading, wrong_length};
+use crate::forecast_episodes::look_ahead;
 use crate::history::{choose_geometry, choose_ring, Style};
 use crate::item_episodes::{
     copied_item, dirty_tail, edited_image, edited_note, edited_record, forged_note, forged_record,
@@ -88,11 +89,4 @@ fn forget_notes(world: &mut World, _: &mut Rng) {
     let start = world.geometry.note(1).start;
     let end = world.volume().len();
     world.script.poke(start..end, &vec![0; end - start]);
-}
-
-fn look_ahead(world: &mut World, rng: &mut Rng) {
-    world.script.call(Call::Forecast);
-    if rng.chance(300) {
-        world.script.call(Call::Inspect { page: rng.between(1, world.geometry.pages) as u16 });
-    }
 }

@@ -26,9 +26,47 @@ pub fn classify(heading: Heading, own: &[u8], page: u16, entry: &IndexEntry) -> 
     }
 }
 
+/// Where a walk starts the replay, and the records that it read, newest first.
+pub struct Chain<'a> {
+    pub start: Start,
+    /// The image that it starts from; none for a format.
+    base: Option<&'a [u8]>,
+    pub records: Vec<Record>,
+}
+
+/// Walks from `page`'s newest durable record (at least 1) to a start. A fault if a record that
+/// the walk reads is broken, or if it goes below the log's run before it finds a start.
+/// `durable` is the number that the run ends at.
+pub fn walk<'a>(
+    volume: &'a [u8],
+    geometry: &Geometry,
+    page: u16,
+    entry: &IndexEntry,
+    durable: u32,
+) -> Result<Chain<'a>, Fault> {
+    let log = Section::log(volume, geometry);
+    let first = log.first(durable);
+    let own = &volume[geometry.page(page.into())];
+    let mut number = entry.newest_durable;
+    let mut records = Vec::new();
+    loop {
+        if passes(geometry.heading, own, page) && image_lsn(own) == number {
+            return Ok(Chain { start: Start::Own, base: Some(own), records });
+        }
+        if let Some(backup) = backup_at(volume, geometry, page, entry, number) {
+            return Ok(Chain { start: Start::Backup, base: Some(backup), records });
+        }
+        require(number >= first, Fault::BelowRun)?;
+        let record = chain_record(&log, page, number)?;
+        records.push(record);
+        if record.change.is_format() {
+            return Ok(Chain { start: Start::Format, base: None, records });
+        }
+        number = record.previous;
+    }
+}
+
 /// Rebuilds `page` up to its newest durable record, checksum bytes zero.
-/// A fault if a record that the walk reads is broken, or if it goes below the log's run
-/// before it finds a start. `durable` is the number that the run ends at.
 pub fn rebuild(
     volume: &[u8],
     geometry: &Geometry,
@@ -36,31 +74,14 @@ pub fn rebuild(
     entry: &IndexEntry,
     durable: u32,
 ) -> Result<(Rebuild, Image), Fault> {
-    let log = Section::log(volume, geometry);
-    let first = log.first(durable);
-    let own = &volume[geometry.page(page.into())];
-    let mut number = entry.newest_durable;
-    let mut chain = Vec::new();
-    let (start, mut image) = loop {
-        if passes(geometry.heading, own, page) && image_lsn(own) == number {
-            break (Start::Own, as_frame(own));
-        }
-        if let Some(backup) = backup_at(volume, geometry, page, entry, number) {
-            break (Start::Backup, as_frame(backup));
-        }
-        require(number >= first, Fault::BelowRun)?;
-        let record = chain_record(&log, page, number)?;
-        chain.push(record);
-        if record.change.is_format() {
-            break (Start::Format, blank_image(page));
-        }
-        number = record.previous;
-    };
-    for record in chain.iter().rev() {
+    let Chain { start, base, records } = walk(volume, geometry, page, entry, durable)?;
+    let mut image = base.map_or_else(|| blank_image(page), as_frame);
+    for record in records.iter().rev() {
         record.apply(&mut image);
     }
+    let own = &volume[geometry.page(page.into())];
     let class = classify(geometry.heading, own, page, entry);
-    Ok((Rebuild { class, start, replayed: chain.len() }, image))
+    Ok((Rebuild { class, start, replayed: records.len() }, image))
 }
 
 /// The backup, if the index notes exactly `number` and its image passes with it.

@@ -1,57 +1,53 @@
-//! The repair forecast: two figures a page, from log and notes alone.
+//! The repair forecast: for each page the count that inspection would report, or its refusal.
 
 mod common;
 
 use common::*;
-use reference::answer::Refusal;
+use reference::answer::{Answer, Refusal};
+use reference::arbitrary::arbitrary_script;
 use reference::calls::inspect;
 use reference::cell::{decode, Call, Op};
-use reference::driver::Driver;
-use reference::forecast::{forecast, Figures};
+use reference::driver::{hash, Driver};
+use reference::forecast::forecast;
 use reference::geometry::Geometry;
 use reference::heading::Heading;
+use reference::image::set_image_lsn;
 use reference::note::{Note, NoteKind};
+use reference::reading::reading_script;
 use reference::record::{Change, Record};
-
-fn figures(sound: u32, unsound: u32) -> Figures {
-    Figures { sound: Some(sound), unsound: Some(unsound) }
-}
+use reference::rng::Rng;
 
 #[test]
-fn figures_with_and_without_a_backup() {
+fn own_image_and_backup_are_tested() {
     for heading in Heading::ALL {
-        assert_eq!(forecast(&made(heading)), Ok([figures(0, 0); 64]));
+        assert_eq!(forecast(&made(heading)), Ok([Ok(0); 64]));
         let mut volume = with_log(heading);
-        let rows = forecast(&volume).unwrap();
-        assert_eq!(rows[..3], [figures(2, 2), figures(1, 1), figures(0, 0)]);
-        for (lsn, sound) in [(1, 1), (3, 0)] {
-            set_note(&mut volume, NoteKind::BackedUp, lsn);
-            assert_eq!(forecast(&volume).unwrap()[..2], [figures(sound, 2), figures(1, 1)]);
-        }
-        set_note(&mut volume, NoteKind::Written, 3);
-        assert_eq!(forecast(&volume).unwrap()[0], figures(2, 2));
+        assert_eq!(forecast(&volume).unwrap()[..3], [Ok(2), Ok(1), Ok(0)]);
+        set_note(&mut volume, NoteKind::BackedUp, 3);
+        assert_eq!(forecast(&volume).unwrap()[0], Ok(2), "the backup fails");
+        set_slot(&mut volume, 1);
+        assert_eq!(forecast(&volume).unwrap()[0], Ok(2), "the backup has another number");
+        set_slot(&mut volume, 3);
+        assert_eq!(forecast(&volume).unwrap()[0], Ok(0));
+        volume[geometry().slot(1).start + 20] ^= 1;
+        set_page(&mut volume, 1, 1);
+        assert_eq!(forecast(&volume).unwrap()[..2], [Ok(1), Ok(1)]);
+        set_page(&mut volume, 1, 3);
+        set_page(&mut volume, 2, 2);
+        assert_eq!(forecast(&volume).unwrap()[..2], [Ok(0), Ok(0)]);
+        volume[geometry().page(1).start + 20] ^= 1;
+        assert_eq!(forecast(&volume).unwrap()[0], Ok(2), "the own image fails");
     }
 }
 
-/// Passing is not enough: an older image back in the slot makes the true count 2.
+/// An own image that passes with a number off the chain starts nothing.
 #[test]
-fn an_older_backup_is_not_sound() {
-    let mut volume = with_log(Heading::First);
-    set_note(&mut volume, NoteKind::BackedUp, 3);
-    set_slot(&mut volume, 1);
-    assert_eq!(forecast(&volume).unwrap()[0], figures(0, 2));
-    assert_eq!(inspect(&volume, 1, &mut [0; 256]).to_string(), "FAILED FORMAT 2");
-}
-
-/// The walk stops at the newest format, not at the page's first record.
-#[test]
-fn a_format_stops_both_walks() {
-    let mut volume = with_log(Heading::First);
-    let change = Change::Format { fill: 5 };
-    let format = Record { number: 4, previous: 3, page: 1, change, payload: [0; 44] };
-    set_record(&mut volume, 4, &format.encode());
-    set_note(&mut volume, NoteKind::BackedUp, 3);
-    assert_eq!(forecast(&volume).unwrap()[0], figures(1, 1));
+fn a_number_off_the_chain() {
+    for (lsn, count) in [(0, 2), (2, 2), (4, 2), (1, 1)] {
+        let mut volume = with_log(Heading::Second);
+        set_page(&mut volume, 1, lsn);
+        assert_eq!(forecast(&volume).unwrap()[0], Ok(count), "{lsn}");
+    }
 }
 
 #[test]
@@ -64,37 +60,88 @@ fn refusals_are_a_restarts() {
     assert_eq!(forecast(&volume), Err(Refusal::LogBroken));
 }
 
-/// L 2: page 1's records 1 and 2 have left but for the second; page 2 lives on a backup.
-#[test]
-fn figures_that_are_none() {
+/// L 2, records 5 and 6 of page 1; page 2 lives on its backup at 4.
+fn turned() -> (Geometry, Vec<u8>) {
     let geometry = Geometry::new(Heading::Second, [3, 2, 2, 2]).unwrap();
     let mut volume = vec![0; geometry.volume_len()];
     geometry.format(&mut volume);
-    let put = |number, previous| {
-        let change = Change::Put { offset: 0, length: 1 };
-        Record { number, previous, page: 1, change, payload: [1; 44] }.encode()
-    };
     for (number, previous) in [(5, 3), (6, 5)] {
-        volume[geometry.record_place(number)].copy_from_slice(&put(number, previous));
+        let change = Change::Put { offset: 0, length: 1 };
+        let put = Record { number, previous, page: 1, change, payload: [1; 44] };
+        volume[geometry.record_place(number)].copy_from_slice(&put.encode());
     }
-    let backup = |number, page, lsn| {
-        Note { number, page, kind: NoteKind::BackedUp, slot: page as u8, lsn }.encode()
-    };
-    let none = |sound| Figures { sound, unsound: None };
-    assert_eq!(forecast(&volume).unwrap()[..2], [none(None), figures(0, 0)]);
-    volume[geometry.note(1)].copy_from_slice(&backup(1, 2, 4));
-    for (lsn, sound) in [(3, Some(2)), (2, None), (5, Some(1)), (6, Some(0))] {
-        volume[geometry.note(2)].copy_from_slice(&backup(2, 1, lsn));
-        let rows = forecast(&volume).unwrap();
-        assert_eq!(rows[..3], [none(sound), none(Some(0)), figures(0, 0)], "{lsn}");
+    for (number, page, lsn) in [(1, 2, 4), (2, 1, 3)] {
+        let note = Note { number, page, kind: NoteKind::BackedUp, slot: page as u8, lsn };
+        volume[geometry.note(number as usize)].copy_from_slice(&note.encode());
     }
+    (geometry, volume)
+}
+
+fn stored(page: u16, lsn: u32) -> [u8; 256] {
+    let mut bytes = image(Heading::Second, page, 1);
+    set_image_lsn(&mut bytes, lsn);
+    Heading::Second.seal_image(&mut bytes);
+    bytes
+}
+
+/// A page that is lost gives 23 and the others stand.
+#[test]
+fn one_page_that_is_lost() {
+    let lost = Err(Refusal::BelowRun);
+    let (geometry, mut volume) = turned();
+    assert_eq!(forecast(&volume).unwrap()[..3], [lost, lost, Ok(0)]);
+    volume[geometry.slot(1)].copy_from_slice(&stored(1, 3));
+    assert_eq!(forecast(&volume).unwrap()[..3], [Ok(2), lost, Ok(0)]);
+    volume[geometry.page(1)].copy_from_slice(&stored(1, 5));
+    volume[geometry.slot(2)].copy_from_slice(&stored(2, 4));
+    assert_eq!(forecast(&volume).unwrap()[..3], [Ok(1), Ok(0), Ok(0)]);
+}
+
+#[test]
+fn the_drivers_line() {
+    let (geometry, mut volume) = turned();
+    volume[geometry.slot(1)].copy_from_slice(&stored(1, 3));
     let mut driver = Driver::default();
     driver.volume_len = volume.len();
     driver.volume[..volume.len()].copy_from_slice(&volume);
-    let numbers = [0, u32::MAX, 0, u32::MAX].into_iter().chain([0; 124]).map(u64::from);
-    let expected = format!("FORECAST {}", reference::driver::hash(numbers));
+    let numbers = [0, 2, 23, 0].into_iter().chain([0; 124]);
     let mut cell = [0; 64];
     cell[0] = 22;
     assert_eq!(decode(&cell), Op::Call(Call::Forecast));
-    assert_eq!(driver.call(&Call::Forecast).to_string(), expected);
+    let line = driver.call(&Call::Forecast).to_string();
+    assert_eq!(line, format!("FORECAST {}", hash(numbers)));
+}
+
+/// On any volume: what inspection answers.
+#[test]
+fn the_figure_is_inspections_count() {
+    let (mut counted, mut lost) = (0, 0);
+    for seed in 0..6 {
+        let mut driver = Driver::default();
+        let mut script = arbitrary_script(&mut Rng::new(seed), 1_000);
+        script.extend(reading_script(&mut Rng::new(seed), 1_000));
+        for cell in script {
+            driver.run(&decode(&cell));
+            let volume = driver.volume();
+            let pages = Geometry::read(volume).map_or(1, |geometry| geometry.pages);
+            if pages > 8 {
+                continue;
+            }
+            let rows = forecast(volume);
+            for page in 1..=pages {
+                let answer = inspect(volume, page as u16, &mut [0; 256]);
+                let expected = match answer {
+                    Answer::Rebuilt(rebuild) => Ok(Ok(rebuild.replayed)),
+                    Answer::Refused(Refusal::Blank) => Ok(Ok(0)),
+                    Answer::Refused(Refusal::BelowRun) => Ok(Err(Refusal::BelowRun)),
+                    Answer::Refused(refusal) => Err(refusal),
+                    other => panic!("{other}"),
+                };
+                assert_eq!(rows.map(|rows| rows[page - 1]), expected);
+                counted += u32::from(expected.is_ok());
+                lost += u32::from(expected == Ok(Err(Refusal::BelowRun)));
+            }
+        }
+    }
+    assert!(counted > 5_000 && lost > 50, "{counted} {lost}");
 }

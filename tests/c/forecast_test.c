@@ -1,12 +1,12 @@
-/* The forecast through its C function: refusals, worked figures, and on many volumes never below the count that
- * inspection reports, nor above it where the own image fails. Exits with 1 if one fails. */
+/* The forecast through its C function: refusals, worked figures, and on many volumes what inspection reports. Exits
+ * with 1 if one fails. */
 #include "check.h"
 #include "history.h"
 #include "pagestore.h"
 
 #include <string.h>
 
-enum { FIGURES = 128, NONE = -1 };
+enum { FIGURES = 128 };
 static const struct counts CASES = {2, 1, 4, 4};
 static uint8_t volume[PAGESTORE_VOLUME_MAX];
 
@@ -20,11 +20,11 @@ static int refuses(size_t size, size_t length, uint32_t number) {
     return answer == number;
 }
 
-/* The page's two figures. */
-static int foretells(struct counts c, uint32_t page, uint32_t sound, uint32_t unsound) {
+/* The page's refusal and count. */
+static int foretells(struct counts c, uint32_t page, uint32_t refusal, uint32_t count) {
     uint32_t figures[FIGURES];
     uint32_t answer = pagestore_forecast(volume, size_of(c), figures, FIGURES);
-    return answer == PAGESTORE_OK && figures[2 * page - 2] == sound && figures[2 * page - 1] == unsound;
+    return answer == PAGESTORE_OK && figures[2 * page - 2] == refusal && figures[2 * page - 1] == count;
 }
 
 static void base(void) {
@@ -49,28 +49,33 @@ static void refusals(void) {
 
 static void figures(void) {
     base();
-    check("forecast, no backup: 3 and 3", foretells(CASES, 1, 3, 3));
-    check("forecast, a blank page: 0 twice", foretells(CASES, 2, 0, 0));
-    check("forecast, past the last page: 0 twice", foretells(CASES, 64, 0, 0));
+    check("forecast, from the format: 3", foretells(CASES, 1, 0, 3));
+    check("forecast, a blank page: 0", foretells(CASES, 2, 0, 0));
+    check("forecast, past the last page: 0", foretells(CASES, 64, 0, 0));
+    image(volume + slot_at(CASES, 1), 1, 2, 7);
+    check("forecast, a backup that is not noted: 3", foretells(CASES, 1, 0, 3));
     note(volume + note_at(CASES, 1), 1, 1, BACKED_UP, 1, 2);
-    check("forecast, a backup at 2 noted, its image not looked at: 1 and 3", foretells(CASES, 1, 1, 3));
+    check("forecast, the noted backup at 2: 1", foretells(CASES, 1, 0, 1));
+    volume[slot_at(CASES, 1) + 9] ^= 1;
+    check("forecast, that backup torn: 3", foretells(CASES, 1, 0, 3));
+    image(volume + page_at(1), 1, 3, 7);
+    check("forecast, the own image current: 0", foretells(CASES, 1, 0, 0));
     if (heading[3] == 'V') return;
     turned(volume);
-    check("forecast, a ring past record 1, a backup at 2: 3 and none", foretells(TURNED, 1, 3, (uint32_t)NONE));
+    check("forecast, a ring past record 1, a backup at 2: 3", foretells(TURNED, 1, 0, 3));
+    volume[slot_at(TURNED, 1) + 9] ^= 1;
+    check("forecast, that backup torn: 23", foretells(TURNED, 1, PAGESTORE_PAGE_LOST, 0));
 }
 
-/* The page's figure that applies: the count of records that inspection replays is not above it, and is it where the own
- * image fails. */
-static int bounds(struct counts c, uint32_t page, const uint32_t *figures) {
+/* The page's figure is inspection's count, or its refusal 23; 0 for a blank page. */
+static int exact(struct counts c, uint32_t page, const uint32_t *figures) {
     uint8_t image[PAGESTORE_IMAGE_SIZE];
     uint32_t report[PAGESTORE_REPORT_SIZE];
-    uint32_t sound = figures[2 * page - 2], unsound = figures[2 * page - 1];
+    uint32_t refusal = figures[2 * page - 2], count = figures[2 * page - 1];
     uint32_t answer = pagestore_examine(volume, size_of(c), page, image, sizeof image, report, PAGESTORE_REPORT_SIZE);
-    if (answer == PAGESTORE_BLANK_PAGE) return sound == 0 && unsound == 0;
-    uint32_t count = report[PAGESTORE_REPORT_COUNT], start = report[PAGESTORE_REPORT_START];
-    if (answer != PAGESTORE_OK || sound > unsound || count > unsound) return 0;
-    if (report[PAGESTORE_REPORT_CLASS] != PAGESTORE_FAILED) return 1;
-    return start == PAGESTORE_FROM_BACKUP ? count == sound : count == sound || count == unsound;
+    if (answer == PAGESTORE_BLANK_PAGE) return refusal == 0 && count == 0;
+    if (answer == PAGESTORE_PAGE_LOST) return refusal == PAGESTORE_PAGE_LOST && count == 0;
+    return answer == PAGESTORE_OK && refusal == 0 && count == report[PAGESTORE_REPORT_COUNT];
 }
 
 static int many(uint32_t volumes) {
@@ -81,7 +86,7 @@ static int many(uint32_t volumes) {
         history(volume, c, below(c.records + 1));
         if (pagestore_forecast(volume, size_of(c), rows, FIGURES) != PAGESTORE_OK) return 0;
         for (uint32_t page = 1; page <= c.pages; page++)
-            if (!bounds(c, page, rows)) return 0;
+            if (!exact(c, page, rows)) return 0;
     }
     return 1;
 }
@@ -92,7 +97,7 @@ int main(void) {
         heading = headings[i];
         refusals();
         figures();
-        check("forecast, 2,000 volumes: inspection's counts within the figures", many(2000));
+        check("forecast, 2,000 volumes: inspection's counts", many(2000));
     }
     return verdict();
 }

@@ -7,7 +7,6 @@ use lib.Dec.{T, eqb, eqb→eq}
 use Rattle.cases.specs.Rows.{Row, same, every, Hold}
 use Rattle.cases.specs.All.{diskRows, callRows, laterRows, rows}
 use Rattle.cases.specs.Forecasts.{forecastRows}
-use Rattle.cases.specs.Bounds.{boundRows}
 use Rattle.cases.specs.Archives.{archiveRows}
 use Rattle.cases.specs.Mirrors.{mirrorRows}
 use Rattle.cases.specs.Neighbours.{neighbourRows}
@@ -49,10 +48,6 @@ forecast-cases : Hold forecastRows
 unfolding forecastRows
 forecast-cases = all forecastRows tt
 
-bound-cases : Hold boundRows
-unfolding boundRows
-bound-cases = all boundRows tt
-
 archive-cases : Hold archiveRows
 unfolding archiveRows
 archive-cases = all archiveRows tt
@@ -70,9 +65,8 @@ unfolding rows laterRows
 cases =
     joined diskRows (callRows ++ laterRows) disk-cases
     (joined callRows laterRows call-cases
-    (joined forecastRows (boundRows ++ (archiveRows ++ (mirrorRows ++ neighbourRows))) forecast-cases
-    (joined boundRows (archiveRows ++ (mirrorRows ++ neighbourRows)) bound-cases
-    (joined archiveRows (mirrorRows ++ neighbourRows) archive-cases (joined mirrorRows neighbourRows mirror-cases neighbour-cases)))))
+    (joined forecastRows (archiveRows ++ (mirrorRows ++ neighbourRows)) forecast-cases
+    (joined archiveRows (mirrorRows ++ neighbourRows) archive-cases (joined mirrorRows neighbourRows mirror-cases neighbour-cases))))
 
 pub ring-cases : Hold ringRows
 unfolding ringRows

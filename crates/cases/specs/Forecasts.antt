@@ -2,12 +2,12 @@
 -- page 2 is blank.
 use Prim.Native.Nat.{ℕ}
 use mathlib.Core.List.{List, [], _∷_, _++_}
-use lib.ListN.{length, replicate, set}
+use lib.ListN.{length, replicate, set, take}
 use Rattle.model.specs.Geometry.{pageAt, slotAt, recordAt, noteAt}
 use Rattle.model.specs.Item.{encodeChange}
 use Rattle.model.specs.Calls.{StoredItem, oneItem, begin, force, backup, note, inspectOf}
 use Rattle.model.specs.History.{Machine, Event, restart, perform, damage, run}
-use Rattle.model.specs.Forecast.{forecastOf, forecastRow}
+use Rattle.model.specs.Forecast.{forecastOf, forecastRow, tellForecast}
 use Rattle.model.specs.declared.change.Change.the-variants.{Format}
 use Rattle.model.specs.declared.geometry.Heading.the-variants.{Second}
 use Rattle.model.specs.declared.answer.Class.the-variants.{Good, Behind, Failed, Ahead}
@@ -26,10 +26,10 @@ forecasted v p = let f = forecastRow v p in f .refusal ∷ f .count ∷ []
 abbrev pub three : List StoredItem → List ℕ
 three xs = smallVolume (oneItem (recordAt 1) (recordNo 1) ∷ oneItem (recordAt 2) (recordNo 2) ∷ oneItem (recordAt 3) (recordNo 3) ∷ xs)
 
-abbrev pub backedUp : ℕ → List StoredItem
+abbrev backedUp : ℕ → List StoredItem
 backedUp n = oneItem (slotAt 1) (image 1 n body1) ∷ oneItem (noteAt 1) (backupNote 1 1 1 n) ∷ []
 
-abbrev pub ownAt : ℕ → StoredItem
+abbrev ownAt : ℕ → StoredItem
 ownAt n = oneItem (pageAt 1) (image 1 n body1)
 
 -- the answer of inspection, and the figure
@@ -48,6 +48,20 @@ olderTale = taleOf (historyWith Second 1 2 4 4 older)
 -- two pages, the first of which cannot be rebuilt
 abbrev lost : List ℕ
 lost = run (reachRing 2 1 2 2 twoPages) (damage (slotAt 1) (replicate 256 1) ∷ damage (pageAt 1) (replicate 256 1) ∷ []) .volume
+
+abbrev badLog : StoredItem
+badLog = oneItem (recordAt 3) (recordNo 2)
+
+abbrev badNotes : StoredItem
+badNotes = oneItem (noteAt 1) (writtenNote 2 1 3)
+
+-- the answer, the length of the array lent with n numbers, and the first six of them
+abbrev told : List ℕ → ℕ → List ℕ
+told v n = let t = tellForecast v (replicate n 0xAA) in t .refusal ∷ length (t .figures) ∷ take 6 (t .figures)
+
+-- the answer, and the first two numbers of the array
+abbrev left : List ℕ → ℕ → List ℕ
+left v n = let t = tellForecast v (replicate n 0xAA) in t .refusal ∷ take 2 (t .figures)
 
 unfoldable pub forecastRows : List Row
 unfolding opened
@@ -68,10 +82,15 @@ forecastRows =
     ∷ row "forecast: record 1 has left" (beside (reachRing 1 1 2 2 turned .volume) 1) (fromBackup Failed 2 ++ (0 ∷ 2 ∷ []))
     ∷ row "forecast: 23 is that page's alone" (forecastOf lost .refusal ∷ (beside lost 1 ++ beside lost 2)) (0 ∷ (refused 23 ++ (23 ∷ 0 ∷ (fromFormat Failed 2 ++ (0 ∷ 2 ∷ [])))))
     ∷ row "forecast: refused 1, 17 and 18, with rows of zeros"
-    (let bad = oneItem (recordAt 4) (1 ∷ replicate 63 0) in
-    let badNotes = oneItem (noteAt 1) (writtenNote 2 1 3) in
-    forecastOf (set (three (bad ∷ [])) 0 0) .refusal ∷ forecastOf (three (oneItem (recordAt 3) (recordNo 2) ∷ badNotes ∷ [])) .refusal
+    (forecastOf (set (three (badLog ∷ [])) 0 0) .refusal ∷ forecastOf (three (badLog ∷ badNotes ∷ [])) .refusal
     ∷ forecastOf (three (badNotes ∷ [])) .refusal ∷ forecasted (three (badNotes ∷ [])) 1)
     (1 ∷ 17 ∷ 18 ∷ 0 ∷ 0 ∷ [])
     ∷ row "forecast: 64 rows" (length (forecastOf (three []) .pages) ∷ forecastOf (three []) .refusal ∷ forecasted (three []) 3) (64 ∷ 0 ∷ 0 ∷ 0 ∷ [])
+    ∷ row "forecast: as numbers" (told (three (backedUp 2)) 128 ++ told lost 128)
+    (0 ∷ 128 ∷ 0 ∷ 1 ∷ 0 ∷ 0 ∷ 0 ∷ 0 ∷ 0 ∷ 128 ∷ 23 ∷ 0 ∷ 0 ∷ 2 ∷ 0 ∷ 0 ∷ [])
+    ∷ row "forecast: as numbers, refused 1, 2, 17 and 18"
+    (left (set (three (badLog ∷ [])) 0 0) 127
+    ++ (left (three (badLog ∷ [])) 127
+    ++ (left (three (badLog ∷ badNotes ∷ [])) 128 ++ left (three (badNotes ∷ [])) 128)))
+    (1 ∷ 0xAA ∷ 0xAA ∷ 2 ∷ 0xAA ∷ 0xAA ∷ 17 ∷ 0xAA ∷ 0xAA ∷ 18 ∷ 0xAA ∷ 0xAA ∷ [])
     ∷ []

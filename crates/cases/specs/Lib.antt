@@ -16,7 +16,6 @@ pub mod Naive
 pub mod Traps
 pub mod Rings
 pub mod Forecasts
-pub mod Bounds
 pub mod Archives
 pub mod Mirrors
 pub mod Neighbours

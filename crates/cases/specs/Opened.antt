@@ -12,8 +12,7 @@ use Rattle.model.specs.Repair.{classOf, chainRecord, walkFrom, walkOf, replayCh
 use Rattle.model.specs.Reading.{pageRecords, tabulate}
 use Rattle.model.specs.Mirror.{commonFrom, touchedIn, mirrorRows, comparison, mirrorOf, compareRows, compareOf}
 use Rattle.model.specs.Archive.{sectionBytes, archiveBytes, sizeOf, archiveRows, archiveOf, validSection, recordsFrom, validFrom, partedFrom, replayRecords, lastNumberIn, areaFrom, readRows, readOf, pagesFrom}
-use Rattle.model.specs.Forecast.{forecastOf}
-use Rattle.model.specs.Bounds.{boundsOf, tellBounds}
+use Rattle.model.specs.Forecast.{forecastOf, tellForecast}
 use Rattle.model.specs.State.{recordNeeded, logFull, noteNeeded, notesFull, validMemory, zeroState, holderFrom, pendingNoteFits, frameFits, entryFits, pageFits, wellFormed}
 use Rattle.model.specs.Refusals.{makeRows, restartRows, beginRows, loadRows, changeRows, forceRows, writeRows, backupRows, releaseRows, noteRows, inspectRows}
 use Rattle.model.specs.Calls.{volumeAfter, appendedState, appendedMemory, beginOf, loadOf, changeCall, forcedState, forceOf, writeOf, backupOf, releaseOf, notedState, noteCall, restartState, restartOf, makeOf, inspectOf}
@@ -22,5 +21,5 @@ use Rattle.model.specs.History.{step, validAsNoted, storedBefore, allowed, step
 use Rattle.model.specs.Claim.{reached, logOf}
 
 unfoldable pub opened : Unit {0}
-unfolding highest firstHeld gone firstNote recordNeeded logFull noteNeeded notesFull every le bytesOf part splice allZero startsWith sameBytes checksumFrom byteSumFrom withSum sumHolds sealedRun imageSum imageSealed geometryOf validCounts validVolume emptyVolume item store changeOf changeFits applyChange validImage validSomewhere frameImage recordOf recordLayout recordBytes encodeChange applyRecord noteOf noteLayout noteBytes emptyIndex enterNote slotUsed restZero durableCount logIndex recordFits validLog noteCount noteIndex noteFollows noteFits validNotes classOf chainRecord walkFrom walkOf replayChain rebuiltBody repairOf validMemory zeroState holderFrom pendingNoteFits frameFits entryFits pageFits wellFormed makeRows restartRows beginRows loadRows changeRows forceRows writeRows backupRows releaseRows noteRows inspectRows volumeAfter appendedState appendedMemory beginOf loadOf changeCall forcedState forceOf writeOf backupOf releaseOf notedState noteCall restartState restartOf makeOf inspectOf replayOn lastPlaceFrom stepCall stepCut step validAsNoted storedBefore allowed stepLog freshMachine allAllowed run logAfter reached logOf pageRecords tabulate forecastOf boundsOf tellBounds sectionBytes archiveBytes sizeOf archiveRows archiveOf validSection recordsFrom validFrom partedFrom replayRecords lastNumberIn areaFrom readRows readOf pagesFrom commonFrom touchedIn mirrorRows comparison mirrorOf compareRows compareOf
+unfolding highest firstHeld gone firstNote recordNeeded logFull noteNeeded notesFull every le bytesOf part splice allZero startsWith sameBytes checksumFrom byteSumFrom withSum sumHolds sealedRun imageSum imageSealed geometryOf validCounts validVolume emptyVolume item store changeOf changeFits applyChange validImage validSomewhere frameImage recordOf recordLayout recordBytes encodeChange applyRecord noteOf noteLayout noteBytes emptyIndex enterNote slotUsed restZero durableCount logIndex recordFits validLog noteCount noteIndex noteFollows noteFits validNotes classOf chainRecord walkFrom walkOf replayChain rebuiltBody repairOf validMemory zeroState holderFrom pendingNoteFits frameFits entryFits pageFits wellFormed makeRows restartRows beginRows loadRows changeRows forceRows writeRows backupRows releaseRows noteRows inspectRows volumeAfter appendedState appendedMemory beginOf loadOf changeCall forcedState forceOf writeOf backupOf releaseOf notedState noteCall restartState restartOf makeOf inspectOf replayOn lastPlaceFrom stepCall stepCut step validAsNoted storedBefore allowed stepLog freshMachine allAllowed run logAfter reached logOf pageRecords tabulate forecastOf sectionBytes archiveBytes sizeOf archiveRows archiveOf validSection recordsFrom validFrom partedFrom replayRecords lastNumberIn areaFrom readRows readOf pagesFrom commonFrom touchedIn mirrorRows comparison mirrorOf compareRows compareOf tellForecast
 opened = tt

@@ -1,25 +1,17 @@
-// The forecast of the volume, op 22: a hash of two figures for each of 64 pages.
+// The forecast of the volume, op 22: a hash of the figure, refusal and count, of each of 64 pages.
 use crate::hash;
 use crate::session;
 use crate::session::Said;
 use crate::session::Session;
 use crate::session::Turn;
 use model::answer::Answer;
-use model::reading::Bound;
 use model::reading::Figure;
 
-// A figure as a number; none is the largest.
-fn number(f: Figure) -> u32 {
-    if f.refusal == 0 { f.count } else { 4294967295 }
+fn figures(h: u32, b: Figure) -> u32 {
+    hash::step(hash::step(h, b.refusal), b.count)
 }
 
-fn figures(h: u32, b: Bound) -> u32 {
-    let sound = b.sound;
-    let unsound = b.unsound;
-    hash::step(hash::step(h, number(sound)), number(unsound))
-}
-
-fn rows(pages: [Bound; 64]) -> u32 {
+fn rows(pages: [Figure; 64]) -> u32 {
     let mut h: u32 = 7;
     let mut i: usize = 0;
     while i < 64 {

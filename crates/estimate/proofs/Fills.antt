@@ -11,8 +11,8 @@ use lib.Seq.{getD-set-same, getD-set-other, take-suc-set, take-all}
 use borrow.Author.Tests.{lt-ltb, le-ltb}
 use Rattle.laws.proofs.Forecast.{replicate-at}
 use Rattle.model.specs.Reading.{tabulate}
-use Rattle.model.specs.Bounds.{zeroBound, figureNumber, boundNumbers}
-use Rattle.model.specs.declared.reading.Bound.{Bound}
+use Rattle.model.specs.Forecast.{counted, figureNumbers}
+use Rattle.model.specs.declared.reading.Figure.{Figure}
 
 -- a list by its entries
 listed : {A : Type 0} (n : ℕ) (f : ℕ → A) (d : A) (xs : List A) → length xs ≡ n → ((i : ℕ) → getD xs i d ≡ f i) → xs ≡ tabulate n f
@@ -52,26 +52,26 @@ module _ {A : Type 0} (f : ℕ → A) (d : A) where
 
 -- ---- figures as numbers
 
-abbrev pairOf : Bound → List ℕ
-pairOf b = figureNumber (b .sound) ∷ figureNumber (b .unsound) ∷ []
+abbrev pairOf : Figure → List ℕ
+pairOf f = f .refusal ∷ f .count ∷ []
 
-numbers-more : (pages : List Bound) (i : ℕ) → i < length pages
-    → boundNumbers (take (suc i) pages) ≡ boundNumbers (take i pages) ++ pairOf (getD pages i zeroBound)
+numbers-more : (pages : List Figure) (i : ℕ) → i < length pages
+    → figureNumbers (take (suc i) pages) ≡ figureNumbers (take i pages) ++ pairOf (getD pages i (counted 0))
 numbers-more [] i l = absurd (omega (arith, l))
-numbers-more (b ∷ bs) zero l = refl
-numbers-more (b ∷ bs) (suc i) l =
-    ap (λ (k : List ℕ). figureNumber (b .sound) ∷ figureNumber (b .unsound) ∷ k) (numbers-more bs i (omega (arith, l)))
+numbers-more (f ∷ fs) zero l = refl
+numbers-more (f ∷ fs) (suc i) l =
+    ap (λ (k : List ℕ). f .refusal ∷ f .count ∷ k) (numbers-more fs i (omega (arith, l)))
 
 -- the first i pages' numbers stand in front
-pub record Telling (pages : List Bound) (figures : List ℕ) (i : ℕ) : Type 0 where
+pub record Telling (pages : List Figure) (figures : List ℕ) (i : ℕ) : Type 0 where
   pub size : length figures ≡ 128
-  pub front : take (2 * i) figures ≡ boundNumbers (take i pages)
+  pub front : take (2 * i) figures ≡ figureNumbers (take i pages)
 
-pub none-told : (pages : List Bound) (figures : List ℕ) → length figures ≡ 128 → Telling pages figures 0
+pub none-told : (pages : List Figure) (figures : List ℕ) → length figures ≡ 128 → Telling pages figures 0
 none-told pages figures e = record { size = e; front = refl }
 
-pub one-told : (pages : List Bound) (figures : List ℕ) (i a b : ℕ) → Telling pages figures i → length pages ≡ 64 → i < 64
-    → a ≡ figureNumber (getD pages i zeroBound .sound) → b ≡ figureNumber (getD pages i zeroBound .unsound)
+pub one-told : (pages : List Figure) (figures : List ℕ) (i a b : ℕ) → Telling pages figures i → length pages ≡ 64 → i < 64
+    → a ≡ getD pages i (counted 0) .refusal → b ≡ getD pages i (counted 0) .count
     → Telling pages (set (set figures (2 * i) a) (2 * i + 1) b) (i + 1)
 one-told pages figures i a b h long l ea eb =
     let s = set figures (2 * i) a in
@@ -88,13 +88,13 @@ one-told pages figures i a b h long l ea eb =
           ∙ ap (λ (q : List ℕ). q ++ (b ∷ [])) (take-suc-set figures (2 * i) a (omega (arith, h .size)))
           ∙ append-assoc (take (2 * i) figures) (a ∷ []) (b ∷ [])
           ∙ ap (λ (q : List ℕ). q ++ (a ∷ b ∷ [])) (h .front)
-          ∙ ap (λ (k : ℕ). boundNumbers (take i pages) ++ (k ∷ b ∷ [])) ea
-          ∙ ap (λ (k : ℕ). boundNumbers (take i pages) ++ (figureNumber (getD pages i zeroBound .sound) ∷ k ∷ [])) eb
+          ∙ ap (λ (k : ℕ). figureNumbers (take i pages) ++ (k ∷ b ∷ [])) ea
+          ∙ ap (λ (k : ℕ). figureNumbers (take i pages) ++ (getD pages i (counted 0) .refusal ∷ k ∷ [])) eb
           ∙ sym (numbers-more pages i (omega (arith, long)))
-          ∙ ap (λ (k : ℕ). boundNumbers (take k pages)) (sym x);
+          ∙ ap (λ (k : ℕ). figureNumbers (take k pages)) (sym x);
     }
 
-pub all-told : (pages : List Bound) (figures : List ℕ) (i : ℕ) → Telling pages figures i → length pages ≡ 64 → i ≡ 64
-    → figures ≡ boundNumbers pages
+pub all-told : (pages : List Figure) (figures : List ℕ) (i : ℕ) → Telling pages figures i → length pages ≡ 64 → i ≡ 64
+    → figures ≡ figureNumbers pages
 all-told pages figures i h long e =
-    sym (take-all (2 * i) figures (omega (arith, h .size, e))) ∙ h .front ∙ ap boundNumbers (take-all i pages (omega (arith, long, e)))
+    sym (take-all (2 * i) figures (omega (arith, h .size, e))) ∙ h .front ∙ ap figureNumbers (take-all i pages (omega (arith, long, e)))

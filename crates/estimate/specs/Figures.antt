@@ -1,23 +1,33 @@
 -- The figures as the code makes them: from a walk's two numbers, and page by page from an index at hand.
-use Prim.Native.Nat.{ℕ, suc}
-use mathlib.Core.Bool.{cond}
+use Prim.Native.Nat.{ℕ, suc, _≤_}
+use mathlib.Core.Path.{_≡_}
+use mathlib.Core.Bool.{true, cond}
 use mathlib.Core.List.{List}
 use lib.Dec.{ltb}
+use Rattle.model.specs.Geometry.{geometryOf, validVolume}
 use Rattle.model.specs.Index.{entryOf}
-use Rattle.model.specs.Repair.{viewOf, isBelow}
-use Rattle.model.specs.Forecast.{counted, below}
-use Rattle.model.specs.Bounds.{boundOf, zeroBound}
+use Rattle.model.specs.Repair.{viewOf, walkOf, isBelow}
+use Rattle.model.specs.Forecast.{counted, below, figureOf}
 use Rattle.model.specs.declared.geometry.Geometry.{Geometry}
 use Rattle.model.specs.declared.state.Entry.{Entry}
 use Rattle.model.specs.declared.reading.Figure.{Figure}
-use Rattle.model.specs.declared.reading.Bound.{Bound}
+use Rattle.repair.specs.Walked.{Ready}
 use Rattle.repair.specs.declared.walk.Walked.{Walked}
+
+-- a valid volume with its geometry, and an index by which each page's walk may be made
+pub record Indexed (v : List ℕ) (g : Geometry) (first : ℕ) (index : List Entry) : Type 0 where
+  pub valid : validVolume v ≡ true
+  pub geometry : g ≡ geometryOf v
+  pub ready : (p : ℕ) → 1 ≤ p → p ≤ g .pages → Ready v g first (entryOf index p) p
 
 -- what a walk comes to
 abbrev pub figureAs : Walked → Figure
 figureAs w = cond (isBelow (w .stop)) below (counted (w .count))
 
--- the row of page i + 1, by an index
-abbrev pub boundIn : Geometry → List ℕ → ℕ → List Entry → ℕ → Bound
-boundIn g v first index i =
-    cond (ltb i (g .pages)) (boundOf (suc i) (viewOf g v first (entryOf index (suc i)) (suc i))) zeroBound
+-- page p's figure, by an index
+abbrev pub figureFor : Geometry → List ℕ → ℕ → List Entry → ℕ → Figure
+figureFor g v first index p = figureOf (walkOf g p (viewOf g v first (entryOf index p) p))
+
+-- the row of page i + 1
+abbrev pub figureIn : Geometry → List ℕ → ℕ → List Entry → ℕ → Figure
+figureIn g v first index i = cond (ltb i (g .pages)) (figureFor g v first index (suc i)) (counted 0)

@@ -1,9 +1,8 @@
 // The repair forecast for the morning round: reads one volume of at most 32,768 bytes from standard input and prints, a
-// line for each page, how many log records a repair could replay at most, where its noted backup is sound and where it is
-// not. A refusal, or a longer input, is the only line. All that matters is in `estimate`, which is proved; this file only
-// prints.
+// line for each page, how many log records its repair replays, or the refusal of a page that the log can no longer
+// rebuild. A refusal of the volume, or a longer input, is the only line. All that matters is in `estimate`, which is
+// proved; this file only prints.
 use libc::STDIN_FILENO;
-use model::reading::Bound;
 use model::reading::Figure;
 use model::state::Entry;
 use print::number;
@@ -14,30 +13,21 @@ fn print_refused(n: u32) {
     say(b"\n");
 }
 
-// A figure, or that there is none: the log has turned past what the walk would need.
-fn print_figure(f: Figure) {
-    say(b" ");
-    if f.refusal == 0 {
-        number(f.count);
-    } else {
-        say(b"NONE");
-    }
-}
-
 // A page's line.
-fn print_page(page: u32, e: Entry, b: Bound) {
+fn print_page(page: u32, e: Entry, f: Figure) {
     number(page);
     if e.durable == 0 {
         return say(b" BLANK\n");
     }
-    let sound = b.sound;
-    let unsound = b.unsound;
-    print_figure(sound);
-    print_figure(unsound);
+    say(b" ");
+    if f.refusal != 0 {
+        return print_refused(f.refusal);
+    }
+    number(f.count);
     say(b"\n");
 }
 
-fn print_pages(count: u32, index: [Entry; 64], pages: [Bound; 64]) {
+fn print_pages(count: u32, index: [Entry; 64], pages: [Figure; 64]) {
     let mut i: usize = 0;
     while i < 64 {
         if count as usize <= i {

@@ -92,7 +92,7 @@ module _ (v : List ℕ) (p : ℕ) where
   unfolding inspectOf
   answer-is buffer = byCases (eqb (number buffer) 0) (λ t. rw t) (λ t. rw t)
 
-  pub refused-is : (buffer : List ℕ) (n : ℕ) → inspectOf v p buffer .answer ≡ Refused n → number buffer ≡ n
+  refused-is : (buffer : List ℕ) (n : ℕ) → inspectOf v p buffer .answer ≡ Refused n → number buffer ≡ n
   refused-is buffer n e = by (eqb (number buffer) 0) (sym (answer-is buffer) ∙ e)
     where
       by : (t : Bool) → cond t (Repaired (repairOf (geometryOf v) p (pageView v p))) (Refused (number buffer)) ≡ Refused n → number buffer ≡ n

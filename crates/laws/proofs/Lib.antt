@@ -23,7 +23,6 @@ pub mod Detection
 pub mod Walks
 pub mod Scans
 pub mod Forecast
-pub mod Bounds
 pub mod Scanned
 pub mod Sections
 pub mod Archive

@@ -144,10 +144,10 @@ module _ (v w : List ℕ) (same : geometryOf w ≡ geometryOf v) (ok : validVolu
   pub entry-same : (p : ℕ) → entryOf (indexOf (geometryOf w) w) p ≡ entryOf (indexOf (geometryOf v) v) p
   entry-same p = rw (same, index-of-same (geometryOf v) v w e)
 
-  unfoldable pub from : List ℕ → ℕ → ℕ → ℕ → Walk
+  from : List ℕ → ℕ → ℕ → ℕ → Walk
   from u p own b = walkFrom (pageView u p .durable) (pageView u p .log) (pageView u p .first) p own b (pageView u p .durable)
 
-  pub from-same : (p own b : ℕ) → from w p own b ≡ from v p own b
+  from-same : (p own b : ℕ) → from w p own b ≡ from v p own b
   unfolding from
   from-same p own b =
       let g = geometryOf v in
@@ -163,7 +163,7 @@ module _ (v w : List ℕ) (same : geometryOf w ≡ geometryOf v) (ok : validVolu
       ∙ ap (λ (b : ℕ). from w p (ownStart (geometryOf v) p (pageView v p)) b) back
       ∙ from-same p (ownStart (geometryOf v) p (pageView v p)) (backupStart (geometryOf v) p (pageView v p))
 
-  pub rows-same : firstOf (scanRows w) ≡ firstOf (scanRows v)
+  rows-same : firstOf (scanRows w) ≡ firstOf (scanRows v)
   rows-same = rw (same, ok, ok′, log-same (geometryOf v) v w e, valid-notes-same (geometryOf v) v w e)
 
   module _ (own : (p : ℕ) → 1 ≤ p → p ≤ geometryOf v .pages → ownStart (geometryOf w) p (pageView w p) ≡ ownStart (geometryOf v) p (pageView v p))
@@ -202,7 +202,7 @@ cond-zero false = refl
 
 -- an image stored in its place, in a valid volume
 module _ (v x : List ℕ) (ok : validVolume v ≡ true) (size : length x ≡ 256) (at : Place) (wide : width at ≡ 256) (h : In (geometryOf v) at)
-    (l : start (geometryOf v) at + 256 ≤ start (geometryOf v) (recordAt 1)) where
+    (l : start (geometryOf v) at + 256 ≤ start (geometryOf v) (recordAt 1)) (j : JudgedAlike v x (item (geometryOf v) v at)) where
   abbrev g : Geometry
   g = geometryOf v
 
@@ -212,17 +212,17 @@ module _ (v x : List ℕ) (ok : validVolume v ≡ true) (size : length x ≡ 256
   fits : start g at + 256 ≤ length v
   fits = let f = place-fits g v (valid-facts v ok .size) at h in omega (arith, f, wide)
 
-  pub same : geometryOf w ≡ g
+  same : geometryOf w ≡ g
   same = geometry-store v ok at x h (size ∙ sym wide)
 
-  pub ok′ : validVolume w ≡ true
+  ok′ : validVolume w ≡ true
   ok′ = valid-store v ok at x h (size ∙ sym wide)
 
-  pub tail : drop (start g (recordAt 1)) w ≡ drop (start g (recordAt 1)) v
+  tail : drop (start g (recordAt 1)) w ≡ drop (start g (recordAt 1)) v
   unfolding store
   tail = drop-from (start g at + length x) (start g (recordAt 1)) (splice v (start g at) x) v (omega (arith, l, size)) (drop-past v (start g at) x (omega (arith, fits, size)))
 
-  -- one that lies apart is the same
+  -- the image there is judged as it was; one that lies apart is the same
   stored : item g w at ≡ x
   stored = item-store-same g v (valid-facts v ok .size) at x h (size ∙ sym wide)
 
@@ -230,27 +230,25 @@ module _ (v x : List ℕ) (ok : validVolume v ≡ true) (size : length x ≡ 256
   unfolding item store
   apart-same q e d = rw e (part-apart v (start g at) x (start g q) 256 256 size fits d)
 
-  -- and is judged as the one that stood there
-  module _ (j : JudgedAlike v x (item (geometryOf v) v at)) where
-    judged : (p : ℕ) (q : Place) → width q ≡ 256 → (q ≡ at) ⊎ ((start g q + 256 ≤ start g at) ⊎ (start g at + 256 ≤ start g q))
-        → (validImage g p (item g w q) ≡ validImage g p (item g v q)) × (imageLsn (item g w q) ≡ imageLsn (item g v q))
-    judged p q e (inl z) = rw (z, stored) (j .valid p, j .number)
-    judged p q e (inr d) = rw (apart-same q e d) (refl, refl)
+  judged : (p : ℕ) (q : Place) → width q ≡ 256 → (q ≡ at) ⊎ ((start g q + 256 ≤ start g at) ⊎ (start g at + 256 ≤ start g q))
+      → (validImage g p (item g w q) ≡ validImage g p (item g v q)) × (imageLsn (item g w q) ≡ imageLsn (item g v q))
+  judged p q e (inl z) = rw (z, stored) (j .valid p, j .number)
+  judged p q e (inr d) = rw (apart-same q e d) (refl, refl)
 
-    own-start : (p : ℕ) → (pageAt p ≡ at) ⊎ ((start g (pageAt p) + 256 ≤ start g at) ⊎ (start g at + 256 ≤ start g (pageAt p)))
-        → ownStart (geometryOf w) p (pageView w p) ≡ ownStart g p (pageView v p)
-    own-start p d = let r = judged p (pageAt p) refl d in rw same (own-alike g p (item g w (pageAt p)) (item g v (pageAt p)) (r .0) (r .1))
+  own-start : (p : ℕ) → (pageAt p ≡ at) ⊎ ((start g (pageAt p) + 256 ≤ start g at) ⊎ (start g at + 256 ≤ start g (pageAt p)))
+      → ownStart (geometryOf w) p (pageView w p) ≡ ownStart g p (pageView v p)
+  own-start p d = let r = judged p (pageAt p) refl d in rw same (own-alike g p (item g w (pageAt p)) (item g v (pageAt p)) (r .0) (r .1))
 
-    back-start : (p : ℕ) → let s = entryOf (indexOf g v) p .slot in (s ≡ 0) ⊎ ((slotAt s ≡ at) ⊎ ((start g (slotAt s) + 256 ≤ start g at) ⊎ (start g at + 256 ≤ start g (slotAt s))))
-        → backupStart (geometryOf w) p (pageView w p) ≡ backupStart g p (pageView v p)
-    back-start p (inl z) =
-        let q = entry-same v w same ok ok′ tail p in
-        rw (q, z) (cond-zero (validImage (geometryOf w) p (item (geometryOf w) w (slotAt 0)) && eqb (imageLsn (item (geometryOf w) w (slotAt 0))) 0)
-        ∙ sym (cond-zero (validImage g p (item g v (slotAt 0)) && eqb (imageLsn (item g v (slotAt 0))) 0)))
-    back-start p (inr d) =
-        let en = entryOf (indexOf g v) p in
-        let r = judged p (slotAt (en .slot)) refl d in
-        rw (entry-same v w same ok ok′ tail p, same) (back-alike g p (cond (eqb (en .slot) 0) 0 (en .backup)) (item g w (slotAt (en .slot))) (item g v (slotAt (en .slot))) (r .0) (r .1))
+  back-start : (p : ℕ) → let s = entryOf (indexOf g v) p .slot in (s ≡ 0) ⊎ ((slotAt s ≡ at) ⊎ ((start g (slotAt s) + 256 ≤ start g at) ⊎ (start g at + 256 ≤ start g (slotAt s))))
+      → backupStart (geometryOf w) p (pageView w p) ≡ backupStart g p (pageView v p)
+  back-start p (inl z) =
+      let q = entry-same v w same ok ok′ tail p in
+      rw (q, z) (cond-zero (validImage (geometryOf w) p (item (geometryOf w) w (slotAt 0)) && eqb (imageLsn (item (geometryOf w) w (slotAt 0))) 0)
+      ∙ sym (cond-zero (validImage g p (item g v (slotAt 0)) && eqb (imageLsn (item g v (slotAt 0))) 0)))
+  back-start p (inr d) =
+      let en = entryOf (indexOf g v) p in
+      let r = judged p (slotAt (en .slot)) refl d in
+      rw (entry-same v w same ok ok′ tail p, same) (back-alike g p (cond (eqb (en .slot) 0) 0 (en .backup)) (item g w (slotAt (en .slot))) (item g v (slotAt (en .slot))) (r .0) (r .1))
 
 pub page-judged : (v x : List ℕ) (p : ℕ) → validVolume v ≡ true → within (geometryOf v .pages) p ≡ true → length x ≡ 256
     → JudgedAlike v x (item (geometryOf v) v (pageAt p)) → forecastOf (store (geometryOf v) v (pageAt p) x) ≡ forecastOf v
@@ -258,7 +256,7 @@ page-judged v x p ok t size j =
     let g = geometryOf v in
     let b = within-bounds (g .pages) p t in
     let l : start g (pageAt p) + 256 ≤ start g (recordAt 1) = omega (arith, b .1) in
-    forecast-same v (store g v (pageAt p) x) (same v x ok size (pageAt p) refl b l) ok (ok′ v x ok size (pageAt p) refl b l) (tail v x ok size (pageAt p) refl b l)
+    forecast-same v (store g v (pageAt p) x) (same v x ok size (pageAt p) refl b l j) ok (ok′ v x ok size (pageAt p) refl b l j) (tail v x ok size (pageAt p) refl b l j)
     (λ q lo hi. own-start v x ok size (pageAt p) refl b l j q (elim (ℕ-discrete q p) [
       | yes e ↦ inl (ap pageAt e)
       | no ne ↦ inr (elim (decLt q p) [ yes y ↦ inl (omega arith) | no z ↦ inr (omega arith) ])
@@ -271,7 +269,7 @@ slot-judged v x b ok t size j =
     let g = geometryOf v in
     let k = within-bounds (g .slots) b t in
     let l : start g (slotAt b) + 256 ≤ start g (recordAt 1) = omega (arith, k .0, k .1) in
-    forecast-same v (store g v (slotAt b) x) (same v x ok size (slotAt b) refl k l) ok (ok′ v x ok size (slotAt b) refl k l) (tail v x ok size (slotAt b) refl k l)
+    forecast-same v (store g v (slotAt b) x) (same v x ok size (slotAt b) refl k l j) ok (ok′ v x ok size (slotAt b) refl k l j) (tail v x ok size (slotAt b) refl k l j)
     (λ q lo hi. own-start v x ok size (slotAt b) refl k l j q (inr (inl (omega (arith, lo, hi, k .0)))))
     (λ q.
     let s = entryOf (indexOf g v) q .slot in

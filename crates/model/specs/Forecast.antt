@@ -5,15 +5,15 @@
 use Prim.Native.Nat.{ℕ, zero, suc, _-_, _≤_, _<_}
 use mathlib.Core.Path.{_≡_}
 use mathlib.Core.Logic.{_≢_, _⊎_}
-use mathlib.Core.Bool.{true, cond}
-use mathlib.Core.List.{List}
+use mathlib.Core.Bool.{true, cond, not}
+use mathlib.Core.List.{List, [], _∷_}
 use lib.Dec.{eqb, ltb}
 use lib.ListN.{length, getD, replicate}
-use Rattle.model.specs.Tables.{firstOf, within}
+use Rattle.model.specs.Tables.{Row, firstOf, within}
 use Rattle.model.specs.Geometry.{Place, pageAt, slotAt, geometryOf, validVolume, item, store}
 use Rattle.model.specs.Item.{validImage, imageLsn}
 use Rattle.model.specs.Repair.{Walk, walkOf, isBelow}
-use Rattle.model.specs.Reading.{scanRows, Restarts, pageView, tabulate}
+use Rattle.model.specs.Reading.{logRows, scanRows, Restarts, pageView, tabulate}
 use Rattle.model.specs.Calls.{inspectOf}
 use Rattle.model.specs.Demand1.{ByTable}
 use Rattle.model.specs.declared.answer.Answer.{Answer}
@@ -46,6 +46,28 @@ forecastOf v =
     let no = firstOf (scanRows v) in
     cond (eqb no 0) (record { refusal = 0; pages = tabulate 64 (λ i. forecastAt v i) })
     (record { refusal = no; pages = replicate 64 (counted 0) })
+
+-- ---- the answer as numbers, for C
+
+-- page by page, the refusal and the count
+abbrev pub figureNumbers : List Figure → List ℕ
+figureNumbers [] = []
+figureNumbers (f ∷ fs) = f .refusal ∷ f .count ∷ figureNumbers fs
+
+-- what the call leaves where a lent array of 128 numbers is asked for
+pub record Told : Type 0 where
+  pub refusal : ℕ
+  pub figures : List ℕ
+
+-- an array of another length is refused as a buffer of another length is
+abbrev pub tellRows : List ℕ → ℕ → List Row
+tellRows v size = (not (validVolume v), 1) ∷ (not (eqb size 128), 2) ∷ logRows v []
+
+unfoldable pub tellForecast : List ℕ → List ℕ → Told
+tellForecast v figures =
+    let no = firstOf (tellRows v (length figures)) in
+    cond (eqb no 0) (record { refusal = 0; figures = figureNumbers (forecastOf v .pages) })
+    (record { refusal = no; figures = figures })
 
 -- ---- the claims
 

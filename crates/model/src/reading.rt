@@ -13,19 +13,6 @@ pub struct Forecast {
     pub pages: [Figure; 64],
 }
 
-// Two figures for a page, from the log and notes alone: where its noted backup is sound, and where it is not.
-pub struct Bound {
-    pub sound: Figure,
-    pub unsound: Figure,
-}
-
-// The bounds of a volume's repairs: 0 or the refusal, and two figures for each page; zeros past the last page and where
-// it is refused.
-pub struct Bounds {
-    pub refusal: u32,
-    pub pages: [Bound; 64],
-}
-
 // A length in bytes, or the refusal.
 pub enum Size {
     Refused(u32),

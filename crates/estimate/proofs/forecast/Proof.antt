@@ -1,8 +1,6 @@
 -- `estimate::forecast` is its definition: the laws of Outcomes.antt say what each case is.
-use mathlib.Core.Path.{_≡_, sym, _∙_}
 use borrow.Author.Needs.{needs}
-use Rattle.laws.proofs.Forecast.{scanned}
-use Rattle.estimate.proofs.Outcomes.{refused, restarts, done}
+use Rattle.estimate.proofs.Outcomes.{refused, indexed, done}
 use Rattle.estimate.proofs.forecast.Statement.{statement}
 use Rattle.estimate.proofs.forecast.Tie as tie
 
@@ -18,7 +16,7 @@ geometry-requires c κs = search needs
 rows-requires : tie.Need-rows-requires
 rows-requires c κs =
     let s = c .before .before .before .scan in
-    (scanned _ (restarts _ (sym (s .ensures .0) ∙ c .before .before .if1 .left)) .volume, c .before .geometry .ensures)
+    indexed _ (s .result) _ (s .ensures .0) (s .ensures .1) (c .before .before .if1 .left) (c .before .geometry .ensures)
 
 returns-2 : tie.Need-returns-2
 returns-2 c =
