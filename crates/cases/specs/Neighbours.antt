@@ -1,5 +1,5 @@
--- Rows on what a page's repair depends on (document 02, §13): for each hypothesis two volumes in which it alone fails,
--- and the answers differ; and two in which none fails and all else differs.
+-- Rows on what a page's repair, and its section of the archive, depend on (document 02, §13): for each hypothesis two
+-- volumes in which it alone fails, and the answers differ; and two in which none fails and all else differs.
 use Prim.Native.Nat.{ℕ}
 use mathlib.Core.Bool.{Bool, true, false, _&&_}
 use mathlib.Core.List.{List, [], _∷_, _++_}
@@ -10,6 +10,7 @@ use Rattle.model.specs.Item.{encodeChange}
 use Rattle.model.specs.Scan.{durableCount, firstHeld}
 use Rattle.model.specs.Reading.{pageView, heldRecords}
 use Rattle.model.specs.Calls.{StoredItem, oneItem, inspectOf}
+use Rattle.model.specs.Archive.{archiveOf}
 use Rattle.model.specs.declared.change.Change.the-variants.{Format, Put}
 use Rattle.model.specs.declared.geometry.Heading.the-variants.{First, Second}
 use Rattle.model.specs.declared.answer.Class.the-variants.{Good, Behind, Stale, Failed}
@@ -81,6 +82,12 @@ neighbourRows =
     ∷ row "neighbours: no backup noted, and another image in slot 1"
     (beside (with (oneItem (slotAt 1) (image 1 3 body3) ∷ [])) (with []) 1)
     (1 ∷ 1 ∷ 1 ∷ 1 ∷ 1 ∷ 1 ∷ 0 ∷ (fromFormat Failed 2 ++ fromFormat Failed 2))
+    ∷ row "neighbours: a record below the newest format: the section differs, inspection does not"
+    (let again = oneItem (recordAt 2) (encodeChange 2 1 1 (Format 5) []) ∷ [] in
+    let v = smallVolume (oneItem (recordAt 1) record1 ∷ again) in
+    let w = smallVolume (oneItem (recordAt 1) (encodeChange 1 0 1 (Format 9) []) ∷ again) in
+    bit (same (archiveOf v (replicate 136 0) .buffer) (archiveOf w (replicate 136 0) .buffer)) ∷ beside v w 1)
+    (0 ∷ 1 ∷ 1 ∷ 1 ∷ 0 ∷ 1 ∷ 1 ∷ 1 ∷ (fromFormat Failed 1 ++ fromFormat Failed 1))
     ∷ row "neighbours: all else differs"
     (beside (with (oneItem (slotAt 1) (image 1 1 body1) ∷ oneItem (noteAt 1) (backupNote 1 1 1 1) ∷ []))
     (storedIn (emptyVolume Second 2 2 5 3)

@@ -52,7 +52,8 @@ tabulate-same : {A : Type 0} (n : ℕ) (f k : ℕ → A) → ((i : ℕ) → f i 
 unfolding tabulate
 tabulate-same zero f k h = refl
 tabulate-same {A} (suc n) f k h =
-    ap (λ (x : A). x ∷ tabulate n (λ i. f (suc i))) (h 0) ∙ ap (λ (l : List A). k 0 ∷ l) (tabulate-same n (λ i. f (suc i)) (λ i. k (suc i)) (λ i. h (suc i)))
+    ap (λ (x : A). x ∷ tabulate n (λ i. f (suc i))) (h 0)
+    ∙ ap (λ (l : List A). k 0 ∷ l) (tabulate-same n (λ i. f (suc i)) (λ i. k (suc i)) (λ i. h (suc i)))
 
 module _ (v : List ℕ) where
   -- ---- the scan
@@ -82,7 +83,8 @@ module _ (v : List ℕ) where
     pub few : c .durable ≤ 1024
     pub pages : g .pages ≤ 64
 
-  pub known : (g : Geometry) → g ≡ geometryOf v → (c : Counts) → c .refusal ≡ scanRefusal v → (c .refusal ≡ 0 → c ≡ countsOf v) → wholeRefusal v ≡ 0 → Known g c
+  pub known : (g : Geometry) → g ≡ geometryOf v → (c : Counts) → c .refusal ≡ scanRefusal v → (c .refusal ≡ 0 → c ≡ countsOf v)
+      → wholeRefusal v ≡ 0 → Known g c
   known g eg c er ec h =
       let w = whole h in
       let f = valid-facts v (w .volume) in
@@ -97,7 +99,8 @@ module _ (v : List ℕ) where
 
   -- ---- the extent
 
-  pub extent-none : (n : ℕ) → n ≡ wholeRefusal v → (n ≡ 0 → ⊥) → _≡_ {A = Extent} (record { refusal = n; durable = 0; size = 0 }) (extentOf v)
+  pub extent-none : (n : ℕ) → n ≡ wholeRefusal v → (n ≡ 0 → ⊥)
+      → _≡_ {A = Extent} (record { refusal = n; durable = 0; size = 0 }) (extentOf v)
   unfolding extentOf
   extent-none n e ne = rw (ne-eqb (wholeRefusal v) 0 (λ z. ne (e ∙ z))) (ap (λ (k : ℕ). record { refusal = k; durable = 0; size = 0 }) e)
 
@@ -160,7 +163,8 @@ module _ (v : List ℕ) where
       unfolding archiveRows
       row-is =
           sizes
-          ∙ sym (then-longer (not (validVolume v)) (not (validLog (geometryOf v) v)) (not (validNotes (geometryOf v) v)) (gone (geometryOf v) v) (not (eqb (length b) (archiveLength v))))
+          ∙ sym (then-longer (not (validVolume v)) (not (validLog (geometryOf v) v)) (not (validNotes (geometryOf v) v))
+          (gone (geometryOf v) v) (not (eqb (length b) (archiveLength v))))
 
       pub write-refused : (n ≡ 0 → ⊥) → (n ≡ refusalOf (archiveOf v b .answer)) × (b ≡ archiveOf v b .buffer)
       unfolding archiveOf
@@ -180,16 +184,18 @@ module _ (v : List ℕ) where
         sections-are : sectionsTo g v (e .durable) (g .pages) ≡ sectionsOf v
         sections-are =
             rw (eg, durable-is (open-whole z))
-            (tabulate-same (geometryOf v .pages) (λ i. pageRecords (geometryOf v) v (suc i) 1 (durableCount (geometryOf v) v)) (λ i. heldRecords v (suc i))
-            (λ i. sym (held-is v (whole (open-whole z)) (suc i))))
+            (tabulate-same (geometryOf v .pages) (λ i. pageRecords (geometryOf v) v (suc i) 1 (durableCount (geometryOf v) v))
+            (λ i. heldRecords v (suc i)) (λ i. sym (held-is v (whole (open-whole z)) (suc i))))
 
         pub write-ready : Sized g v × (length b ≡ length (archiveBytes (sectionsTo g v (e .durable) (g .pages))))
         write-ready = (
           sized v (whole (open-whole z) .volume) g eg,
-          length-right z ∙ sym (ap (λ (ss : List (List (List ℕ))). length (archiveBytes ss)) sections-are ∙ long-as-told v (whole (open-whole z))),
+          length-right z
+              ∙ sym (ap (λ (ss : List (List (List ℕ))). length (archiveBytes ss)) sections-are ∙ long-as-told v (whole (open-whole z))),
         )
 
-        pub write-done : (c : List ℕ) → c ≡ archiveBytes (sectionsTo g v (e .durable) (g .pages)) → (0 ≡ refusalOf (archiveOf v b .answer)) × (c ≡ archiveOf v b .buffer)
+        pub write-done : (c : List ℕ) → c ≡ archiveBytes (sectionsTo g v (e .durable) (g .pages))
+            → (0 ≡ refusalOf (archiveOf v b .answer)) × (c ≡ archiveOf v b .buffer)
         unfolding archiveOf
         write-done c ec = rw (eq-eqb (firstOf (archiveRows v (length b))) 0 (sym row-is ∙ z)) (refl, ec ∙ ap archiveBytes sections-are)
 

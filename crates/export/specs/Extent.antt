@@ -1,4 +1,5 @@
--- What both calls find out about a volume first: the refusal, or how many records it has and how long its archive is.
+-- What the archive's length and its writer (document 02, §6) find out about a volume first: the refusal, or how many
+-- records it has and how long its archive is. And a length as one number.
 use Prim.Native.Nat.{ℕ}
 use mathlib.Core.Bool.{cond}
 use mathlib.Core.List.{List, []}
@@ -17,7 +18,8 @@ wholeRefusal v = firstOf (wholeRows v [])
 
 unfoldable pub extentOf : List ℕ → Extent
 extentOf v =
-    cond (eqb (wholeRefusal v) 0) (record { refusal = 0; durable = durableCount (geometryOf v) v; size = archiveLength v })
+    let n = durableCount (geometryOf v) v in
+    cond (eqb (wholeRefusal v) 0) (record { refusal = 0; durable = n; size = archiveLength v })
     (record { refusal = wholeRefusal v; durable = 0; size = 0 })
 
 -- a length as one number, for C: 0 where it is refused. No archive has length 0

@@ -68,8 +68,8 @@ fn fill(volume: &[u8], buffer: &mut [u8]) -> u32
     ensures buffer { λ _. ⌜ now (buffer .exit) ≡ archiveOf (now (volume .entry)) (now (buffer .entry)) .buffer ⌝ }
 {
     let e = measure(volume);
-    let longer = !(buffer.len() == e.size as usize);
-    let no = rows::first(!(e.refusal == 0), e.refusal, rows::first(longer, 21, 0));
+    let other = !(buffer.len() == e.size as usize);
+    let no = rows::first(!(e.refusal == 0), e.refusal, rows::first(other, 21, 0));
     if no != 0 {
         return no;
     }

@@ -18,15 +18,15 @@ use Rattle.volume.proofs.rows.first.Reads as first-reads
 -- the call's number, of what was measured
 number : (c : tie.After-first2)
     → let e = c .before .before .before .before .measure .result in
-    c .first2 .result
-    ≡ cond (not (eqb (e .refusal) 0)) (e .refusal) (cond (not (eqb (length (now (c .before .before .before .before .before .before .before .args .buffer))) (e .size))) 21 0)
+    let b = now (c .before .before .before .before .before .before .before .args .buffer) in
+    c .first2 .result ≡ cond (not (eqb (e .refusal) 0)) (e .refusal) (cond (not (eqb (length b) (e .size))) 21 0)
 number c = c .first2 .ensures ∙ rw (c .before .first .ensures)
 
 measure-requires : tie.Need-measure-requires
 measure-requires c κs = search needs
 
-cast-longer : tie.Need-cast-longer
-cast-longer c = search needs
+cast-other : tie.Need-cast-other
+cast-other c = search needs
 
 first-requires : tie.Need-first-requires
 first-requires c κs = search needs
@@ -43,7 +43,9 @@ geometry-requires c κs = search needs
 sections-requires : tie.Need-sections-requires
 sections-requires c κs =
     let b = now (c .before .before .before .before .before .before .before .before .before .before .args .buffer) in
-    write-ready _ _ (c .before .before .before .before .before .before .before .measure .ensures) b _ (number (c .before .before .before)) (c .before .before .if1 .left) _ (c .before .geometry .ensures)
+    let o = c .before .before in
+    write-ready _ _ (o .before .before .before .before .before .measure .ensures) b _ (number (o .before)) (o .if1 .left) _
+    (c .before .geometry .ensures)
 
 same-length : tie.Need-same-length
 same-length c = search needs
@@ -51,14 +53,15 @@ same-length c = search needs
 returns-2 : tie.Need-returns-2
 returns-2 c =
     let o = c .before .before .before .before .before in
-    write-done _ _ (o .before .before .before .before .before .measure .ensures) _ _ (number (o .before)) (o .if1 .left) _ (c .before .before .before .before .geometry .ensures) _ (c .before .before .sections .ensures)
+    write-done _ _ (o .before .before .before .before .before .measure .ensures) _ _ (number (o .before)) (o .if1 .left) _
+    (c .before .before .before .before .geometry .ensures) _ (c .before .before .sections .ensures)
 
 pub fill-spec : {M : Type 1} → statement M
 fill-spec =
     tie.close
     (tie.spec
     measure-requires
-    cast-longer
+    cast-other
     first-requires
     first-requires-2
     returns

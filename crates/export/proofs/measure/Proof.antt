@@ -17,7 +17,9 @@ use Rattle.volume.proofs.heading.geometry.Reads as geometry-reads
 number : (c : tie.After-refusal) → c .refusal .result ≡ wholeRefusal (now (c .before .before .before .before .args .volume))
 number c = let k = c .before .before .count in refusal-is _ (k .result) (k .ensures .0) (k .ensures .1) _ (c .refusal .ensures)
 
-opened : (c : tie.Else1) → Known (now (c .before .before .before .before .before .args .volume)) (c .before .before .geometry .result) (c .before .before .before .count .result)
+opened : (c : tie.Else1)
+    → let a = c .before .before .before .before .before .args in
+    Known (now (a .volume)) (c .before .before .geometry .result) (c .before .before .before .count .result)
 opened c =
     let k = c .before .before .before .count in
     known _ _ (c .before .before .geometry .ensures) (k .result) (k .ensures .0) (k .ensures .1) (sym (number (c .before)) ∙ c .if1 .left)
