@@ -2,9 +2,9 @@
 """Holds the documents against the sources; prints each difference, and exits with 1 where there is one.
 
 The refusals stand in docs/FORMAT.md, section 6. README's short table, the constants of include/pagestore.h and the
-order of the rows in crates/model/specs (Reading, Refusals, Forecast, Archive, Mirror) must be the same. README quotes
-examples/show.c. Every function, definition, must-fail edit and file that the documents name is there. No line has more
-than 120 columns.
+order of the rows in crates/model/specs (Reading, Refusals, Forecast, Archive, Mirror, Rehearsal) must be the same.
+README quotes examples/show.c. Every function, definition, must-fail edit and file that the documents name is there.
+No line has more than 120 columns.
 """
 import itertools
 import re
@@ -64,12 +64,12 @@ CALLED = {
 
 # the calls that have a function for C, and the crates whose functions are public
 FOR_C = ("Inspect", "ForecastFigures", "ArchiveLength", "Archive", "ReadArchive", "CompareReport")
-FACES = ("store", "inspect", "estimate", "export", "extract", "compare")
+FACES = ("store", "inspect", "estimate", "export", "extract", "compare", "rehearsal")
 
 
 def defined_orders():
     """What the definitions have for each call: the numbers of its rows, each once."""
-    files = ("Reading", "Refusals", "Forecast", "Archive", "Mirror")
+    files = ("Reading", "Refusals", "Forecast", "Archive", "Mirror", "Rehearsal")
     text = re.sub(r"--.*", "", "".join(read(f"crates/model/specs/{name}.antt") for name in files))
     bodies = {name: body for name, body in re.findall(r"^(\w+)Rows(?! :)(.*(?:\n .*)*)", text, re.M)}
 

@@ -41,6 +41,7 @@ use Rattle.cases.specs.Forecasts.{forecastRows}
 use Rattle.cases.specs.Archives.{archiveRows}
 use Rattle.cases.specs.Mirrors.{mirrorRows}
 use Rattle.cases.specs.Neighbours.{neighbourRows}
+use Rattle.cases.specs.Rehearsals.{rehearsalCases, rehearsalRuns}
 use Rattle.cases.specs.Worked.{Worked, computes}
 use Rattle.cases.specs.Histories.{histories}
 
@@ -54,7 +55,7 @@ history n [] = true
 history n (w ∷ ws) = let rest = history n ws in let here = cond (computes w) rest false in cond (eqt (w .name) n) here rest
 """
 # what a row's test unfolds: the table's parts, and all that they compute with
-OPENED = "opened rows diskRows callRows laterRows forecastRows archiveRows mirrorRows neighbourRows histories"
+OPENED = "opened rows diskRows callRows laterRows forecastRows archiveRows mirrorRows neighbourRows rehearsalCases rehearsalRuns histories"
 # errors that say that an edit is no definition, and nothing of what it means
 NOT_READ = re.compile(
     r"Parse|cannot be named|not in scope|unknown name|was not admitted|cannot be unfolded|has no `|components"

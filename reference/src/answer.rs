@@ -32,6 +32,8 @@ pub enum Refusal {
     BelowRun = 23,
     /// The whole history is wanted, and record 1 has left the log.
     HistoryLost = 24,
+    /// Events, frames, backup interval or a page out of range.
+    Rehearsal = 25,
 }
 
 impl Refusal {
@@ -82,6 +84,8 @@ pub enum Answer {
     Pages(usize),
     /// With a hash of the pages touched.
     Compared(Comparison, u64),
+    /// A hash of the figures.
+    Rehearsed(u64),
     Refused(Refusal),
 }
 
@@ -130,6 +134,7 @@ impl fmt::Display for Answer {
             Answer::Length(length) => write!(out, "LENGTH {length}"),
             Answer::Pages(pages) => write!(out, "PAGES {pages}"),
             Answer::Compared(comparison, hash) => write!(out, "{comparison} {hash}"),
+            Answer::Rehearsed(hash) => write!(out, "REHEARSED {hash}"),
             Answer::Refused(refusal) => write!(out, "REFUSED {}", refusal.number()),
         }
     }

@@ -1,15 +1,17 @@
-//! The cells of a driver script: 64 bytes each, decoded to and encoded from `Op`.
+//! The cells of a driver script: 64 bytes each, decoded to `Op`.
 
-use crate::bytes::{put_u16, put_u32, u16_at, u32_at};
+use crate::bytes::{u16_at, u32_at};
+pub use crate::cell_encode::encode;
 use crate::heading::Heading;
 use crate::record::{Change, Payload, PAYLOAD_LEN};
+use crate::rehearse::{Settings, Victim};
 
 pub const CELL_LEN: usize = 64;
 /// A script's further cells are ignored.
 pub const MAX_CELLS: usize = 4096;
-const PAYLOAD_AT: usize = 16;
-const NUMBER_A: usize = 12;
-const NUMBER_B: usize = 60;
+pub(crate) const PAYLOAD_AT: usize = 16;
+pub(crate) const NUMBER_A: usize = 12;
+pub(crate) const NUMBER_B: usize = 60;
 
 pub type Cell = [u8; CELL_LEN];
 
@@ -61,6 +63,8 @@ pub enum Call {
     Compare,
     /// The pages of the second buffer's archive.
     Pages,
+    /// The second buffer's events.
+    Rehearse(Settings),
 }
 
 /// What a cell asks of the driver.
@@ -111,6 +115,7 @@ impl Call {
             Call::Unarchive => 25,
             Call::Compare => 26,
             Call::Pages => 29,
+            Call::Rehearse(_) => 30,
         }
     }
 }
@@ -145,6 +150,10 @@ pub fn decode(cell: &Cell) -> Op {
         25 => Call::Unarchive,
         26 => Call::Compare,
         29 => Call::Pages,
+        30 => match decode_victim(cell[1]) {
+            Some(victim) => Call::Rehearse(Settings { frames: page, interval: number_a, victim }),
+            None => return Op::Skip,
+        },
         11 => {
             return Op::Sizes {
                 volume: number_a,
@@ -162,6 +171,14 @@ pub fn decode(cell: &Cell) -> Op {
         _ => return Op::Skip,
     };
     Op::Call(call)
+}
+
+fn decode_victim(kind: u8) -> Option<Victim> {
+    match kind {
+        0 => Some(Victim::Written),
+        1 => Some(Victim::LetGo),
+        _ => None,
+    }
 }
 
 fn decode_second(kind: u8, length: u32) -> Op {
@@ -186,96 +203,4 @@ fn decode_change(cell: &Cell) -> Option<Change> {
         3 => Some(Change::Slide { offset, length }),
         _ => None,
     }
-}
-
-/// The cell that decodes to `op`.
-pub fn encode(op: &Op) -> Cell {
-    let mut cell = [0; CELL_LEN];
-    match *op {
-        Op::Call(call) => encode_call(&call, &mut cell),
-        Op::Sizes { volume, memory, buffer } => {
-            cell[0] = 11;
-            put_u32(&mut cell, NUMBER_A, volume);
-            put_u32(&mut cell, NUMBER_B, memory);
-            put_u32(&mut cell, PAYLOAD_AT, buffer);
-        }
-        Op::Poke { at, count, bytes } => encode_poke(12, at, count, &bytes, &mut cell),
-        Op::PokeMemory { at, count, bytes } => encode_poke(13, at, count, &bytes, &mut cell),
-        Op::SetState { position, value } => {
-            cell[0] = 14;
-            put_u32(&mut cell, NUMBER_A, position);
-            put_u32(&mut cell, NUMBER_B, value);
-        }
-        Op::Lose => cell[0] = 15,
-        Op::Fill { target, byte } => {
-            cell[0] = 16;
-            cell[1] = byte;
-            put_u32(&mut cell, NUMBER_A, target);
-        }
-        Op::Second(second) => encode_second(second, &mut cell),
-        Op::PokeSecond { at, count, bytes } => encode_poke(28, at, count, &bytes, &mut cell),
-        Op::Skip => {}
-    }
-    cell
-}
-
-fn encode_second(second: Second, cell: &mut Cell) {
-    cell[0] = 27;
-    match second {
-        Second::Volume => {}
-        Second::Lent => cell[1] = 1,
-        Second::Length(length) => {
-            cell[1] = 2;
-            put_u32(cell, NUMBER_A, length);
-        }
-    }
-}
-
-fn encode_poke(code: u8, at: u32, count: u8, bytes: &Payload, cell: &mut Cell) {
-    cell[0] = code;
-    cell[8] = count;
-    put_u32(cell, NUMBER_A, at);
-    cell[PAYLOAD_AT..PAYLOAD_AT + PAYLOAD_LEN].copy_from_slice(bytes);
-}
-
-fn encode_call(call: &Call, cell: &mut Cell) {
-    cell[0] = call.code();
-    match *call {
-        Call::Make { heading: _, counts } => {
-            for (at, count) in counts.into_iter().enumerate() {
-                put_u32(cell, PAYLOAD_AT + 4 * at, count);
-            }
-        }
-        Call::Begin { page, frame, fill } => {
-            put_u16(cell, 2, page);
-            put_u16(cell, 4, frame);
-            cell[9] = fill;
-        }
-        Call::Load { page, frame: number } | Call::Backup { page, slot: number } => {
-            put_u16(cell, 2, page);
-            put_u16(cell, 4, number);
-        }
-        Call::Change { page, change, payload } => {
-            put_u16(cell, 2, page);
-            encode_change(change, cell);
-            cell[PAYLOAD_AT..PAYLOAD_AT + PAYLOAD_LEN].copy_from_slice(&payload);
-        }
-        Call::Write { page } | Call::Inspect { page } | Call::Release { page } => {
-            put_u16(cell, 2, page)
-        }
-        // No arguments.
-        _ => {}
-    }
-}
-
-fn encode_change(change: Change, cell: &mut Cell) {
-    let (kind, offset, length, fill) = match change {
-        Change::Format { fill } => (1, 0, 0, fill),
-        Change::Put { offset, length } => (2, offset, length, 0),
-        Change::Slide { offset, length } => (3, offset, length, 0),
-    };
-    cell[1] = kind;
-    put_u16(cell, 6, offset);
-    cell[8] = length;
-    cell[9] = fill;
 }

@@ -6,6 +6,7 @@ use crate::bytes::all_zero;
 use crate::cell::Call;
 use crate::check_inspect::same;
 use crate::check_pair::check_pair;
+use crate::check_rehearse::check_rehearsal;
 use crate::check_ring::RingView;
 use crate::check_same::{check_left, held_pages, pushes_out, Held};
 use crate::compare::Comparison;
@@ -50,6 +51,7 @@ pub fn check_history(seed: u64) -> Result<Counts, String> {
     checker.inspect_all().map_err(|text| checker.report(&text))?;
     let mut counts = checker.counts();
     counts.pairs.extend(check_pair(&checker, &mut rng)?);
+    counts.rehearsed = check_rehearsal(&mut rng)?.into();
     Ok(counts)
 }
 
@@ -63,6 +65,8 @@ pub struct Counts {
     pub lost: usize,
     /// How the logs of the history and of one that followed it compared.
     pub pairs: Vec<Comparison>,
+    /// Lists of events whose real calls were all taken.
+    pub rehearsed: usize,
 }
 
 impl Counts {
@@ -72,6 +76,7 @@ impl Counts {
         self.turned += other.turned;
         self.lost += other.lost;
         self.pairs.extend(&other.pairs);
+        self.rehearsed += other.rehearsed;
     }
 }
 
@@ -231,7 +236,7 @@ impl Checker {
             kept: self.book.kept.len(),
             turned: ring.gone().into(),
             lost: pages.filter(|&page| ring.beyond_repair(page)).count(),
-            pairs: Vec::new(),
+            ..Counts::default()
         }
     }
 

@@ -2,7 +2,7 @@
 
 use crate::answer::{Answer, Refusal};
 use crate::cell::{decode, Call, Cell, Op};
-use crate::coverage_reading::{cases, mirror_targets, reading_targets};
+use crate::coverage_reading::{cases, mirror_targets, reading_targets, rehearse_targets};
 use crate::coverage_table::{is_reading, name_of, ROWS};
 use crate::driver::Driver;
 use crate::fault::Fault;
@@ -83,6 +83,7 @@ pub fn sought(kind: &str) -> Option<BTreeSet<Hit>> {
         "turning" => Some(with_causes(true)),
         "reading" => Some(reading_targets()),
         "mirror" => Some(mirror_targets()),
+        "rehearse" => Some(rehearse_targets()),
         _ => None,
     }
 }

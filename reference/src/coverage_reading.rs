@@ -6,7 +6,8 @@ use crate::calls::inspect;
 use crate::cell::Call;
 use crate::coverage::{label, Hit, CAUSE};
 use crate::coverage_compare::{compare_cases, COMPARE_CASES};
-use crate::coverage_table::{MIRROR_ROWS, READING_ROWS, REBUILDS};
+use crate::coverage_rehearse::{rehearse_cases, REHEARSE_CASES};
+use crate::coverage_table::{Row, MIRROR_ROWS, READING_ROWS, REBUILDS, REHEARSE_ROWS};
 use crate::driver::Driver;
 use crate::fault::Fault;
 use crate::forecast::forecast;
@@ -39,9 +40,17 @@ pub fn reading_targets() -> BTreeSet<Hit> {
 
 /// The same for the call that takes two volumes.
 pub fn mirror_targets() -> BTreeSet<Hit> {
-    let answers = MIRROR_ROWS.iter().flat_map(|row| row.hits());
-    let cases = COMPARE_CASES.iter().map(|case| (CAUSE, case.to_string()));
-    answers.chain(cases).collect()
+    with_cases(MIRROR_ROWS, COMPARE_CASES)
+}
+
+/// The same for the call that takes none.
+pub fn rehearse_targets() -> BTreeSet<Hit> {
+    with_cases(REHEARSE_ROWS, REHEARSE_CASES)
+}
+
+fn with_cases(rows: &[Row], cases: &[&str]) -> BTreeSet<Hit> {
+    let cases = cases.iter().map(|case| (CAUSE, case.to_string()));
+    rows.iter().flat_map(|row| row.hits()).chain(cases).collect()
 }
 
 /// The cases behind the answer of a call that the driver has made.
@@ -49,6 +58,7 @@ pub fn cases(driver: &Driver, call: &Call, answer: &Answer) -> Vec<String> {
     let cases = match (call, answer) {
         (Call::Forecast, Answer::Forecast(_)) => return forecast_cases(driver.volume()),
         (Call::Compare, _) => return compare_cases(driver),
+        (Call::Rehearse(settings), _) => return rehearse_cases(driver, settings),
         (Call::Archive, Answer::Refused(Refusal::ArchiveBuffer)) => vec![buffer_case(driver)],
         (Call::Unarchive, Answer::Refused(Refusal::Lent)) => vec![area_case(driver.lent_len)],
         (Call::Unarchive, Answer::Done) => {

@@ -68,9 +68,14 @@ pub const MIRROR_ROWS: &[Row] = &[Row {
     answers: &["AGREE", "FIRST", "SECOND", "DIFFERS"],
 }];
 
-/// Whether a call takes volumes or archives but no state; Inspect counts with the others.
+/// The call that takes no volume.
+pub const REHEARSE_ROWS: &[Row] =
+    &[Row { name: "rehearse", refusals: &[25], answers: &["REHEARSED"] }];
+
+/// Whether a call takes no state; Make, Restart and Inspect count with the others.
 pub fn is_reading(call: &Call) -> bool {
-    READING_ROWS.iter().chain(MIRROR_ROWS).any(|row| row.name == name_of(call))
+    let rows = READING_ROWS.iter().chain(MIRROR_ROWS).chain(REHEARSE_ROWS);
+    rows.into_iter().any(|row| row.name == name_of(call))
 }
 
 /// The name of a call in the tables.
@@ -94,5 +99,6 @@ pub fn name_of(call: &Call) -> &'static str {
         Call::Unarchive => "unarchive",
         Call::Compare => "compare",
         Call::Pages => "pages",
+        Call::Rehearse(_) => "rehearse",
     }
 }

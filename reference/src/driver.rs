@@ -7,6 +7,7 @@ use crate::cell::{decode, Call, Cell, Op, Second, CELL_LEN, MAX_CELLS};
 use crate::compare::compare;
 use crate::forecast::{forecast, Figure};
 use crate::record::PAYLOAD_LEN;
+use crate::rehearse::{rehearse, Settings};
 use crate::state::State;
 use std::io::{self, Write};
 
@@ -158,6 +159,7 @@ impl Driver {
             Call::Unarchive => read_archive(second, lent),
             Call::Compare => compare_answer(volume, second),
             Call::Pages => Answer::Pages(archive_pages(second)),
+            Call::Rehearse(settings) => rehearse_answer(second, &settings),
             _ => unreachable!("all others take a memory, or are Make"),
         }
     }
@@ -192,6 +194,16 @@ fn compare_answer(first: &[u8], second: &[u8]) -> Answer {
         Ok(compared) => {
             let touched = hash(compared.touched.iter().map(|&touched| touched.into()));
             Answer::Compared(compared.comparison, touched)
+        }
+        Err(refusal) => Answer::Refused(refusal),
+    }
+}
+
+fn rehearse_answer(events: &[u8], settings: &Settings) -> Answer {
+    match rehearse(events, settings) {
+        Ok(rows) => {
+            let numbers = rows.iter().flat_map(|row| row.numbers());
+            Answer::Rehearsed(hash(numbers.map(u64::from)))
         }
         Err(refusal) => Answer::Refused(refusal),
     }

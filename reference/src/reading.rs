@@ -10,6 +10,7 @@ use crate::item_episodes::{
     copied_item, dirty_tail, edited_image, edited_note, edited_record, forged_note, forged_record,
 };
 use crate::mirror_episodes::{beside_a_copy, one_mirror};
+use crate::rehearse_episodes::one_rehearsal;
 use crate::rng::Rng;
 use crate::script::Script;
 use crate::world::World;
@@ -43,6 +44,11 @@ pub fn mirror_script(rng: &mut Rng, cells: usize) -> Vec<Cell> {
         true => one_mirror(script, end, rng),
         false => one_reading(script, end, &[(beside_a_copy, 1)], rng),
     })
+}
+
+/// A script of lists of events.
+pub fn rehearse_script(rng: &mut Rng, cells: usize) -> Vec<Cell> {
+    script_of_pieces(cells, rng, |script, _, rng| one_rehearsal(script, rng))
 }
 
 fn script_of_pieces(

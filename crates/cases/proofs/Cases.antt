@@ -10,6 +10,7 @@ use Rattle.cases.specs.Forecasts.{forecastRows}
 use Rattle.cases.specs.Archives.{archiveRows}
 use Rattle.cases.specs.Mirrors.{mirrorRows}
 use Rattle.cases.specs.Neighbours.{neighbourRows}
+use Rattle.cases.specs.Rehearsals.{rehearsalCases, rehearsalRuns}
 use Rattle.cases.specs.Rings.{ringRows, ringEvents}
 
 pub left : (a b : Bool) → T (a && b) → T a
@@ -60,13 +61,23 @@ neighbour-cases : Hold neighbourRows
 unfolding neighbourRows
 neighbour-cases = all neighbourRows tt
 
+rehearsal-cases : Hold rehearsalCases
+unfolding rehearsalCases
+rehearsal-cases = all rehearsalCases tt
+
+rehearsal-runs : Hold rehearsalRuns
+unfolding rehearsalRuns
+rehearsal-runs = all rehearsalRuns tt
+
 pub cases : Hold rows
 unfolding rows laterRows
 cases =
     joined diskRows (callRows ++ laterRows) disk-cases
     (joined callRows laterRows call-cases
-    (joined forecastRows (archiveRows ++ (mirrorRows ++ neighbourRows)) forecast-cases
-    (joined archiveRows (mirrorRows ++ neighbourRows) archive-cases (joined mirrorRows neighbourRows mirror-cases neighbour-cases))))
+    (joined forecastRows (archiveRows ++ (mirrorRows ++ (neighbourRows ++ (rehearsalCases ++ rehearsalRuns)))) forecast-cases
+    (joined archiveRows (mirrorRows ++ (neighbourRows ++ (rehearsalCases ++ rehearsalRuns))) archive-cases
+    (joined mirrorRows (neighbourRows ++ (rehearsalCases ++ rehearsalRuns)) mirror-cases
+    (joined neighbourRows (rehearsalCases ++ rehearsalRuns) neighbour-cases (joined rehearsalCases rehearsalRuns rehearsal-cases rehearsal-runs))))))
 
 pub ring-cases : Hold ringRows
 unfolding ringRows

@@ -19,4 +19,5 @@ pub mod Forecasts
 pub mod Archives
 pub mod Mirrors
 pub mod Neighbours
+pub mod Rehearsals
 pub mod All

@@ -9,6 +9,7 @@ mod hash;
 mod mirror;
 mod numbers;
 mod printed;
+mod rehearse;
 mod session;
 mod setup;
 
@@ -32,6 +33,7 @@ fn turn(
         22 => forecast::turn(b, volume),
         23..=25 | 29 => archive::turn(b, c, volume, lent, second),
         26 => mirror::turn(b, volume, second),
+        30 => rehearse::turn(b, c, second),
         _ => setup::turn(b, c, volume, memory, lent, second),
     }
 }

@@ -30,6 +30,7 @@ pub fn said(s: Said) -> bool {
         Said::First(n, h) => compared(b"FIRST ", n, h),
         Said::Second(n, h) => compared(b"SECOND ", n, h),
         Said::Differs(n, h) => compared(b"DIFFERS ", n, h),
+        Said::Rehearsed(h) => told(b"REHEARSED ", h),
     }
     true
 }

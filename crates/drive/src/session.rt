@@ -24,6 +24,7 @@ pub enum Said {
     First(u32, u32),
     Second(u32, u32),
     Differs(u32, u32),
+    Rehearsed(u32),
 }
 
 pub struct Turn {

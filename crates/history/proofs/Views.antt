@@ -96,7 +96,7 @@ module _ {C : Type 0} (g : Geometry) (v : List ℕ) (k : List Logged) (h : Holds
   lost-below i c d q = rw q at (started g v k h ns o .lost i c d)
 
   -- no slot, no backup
-  no-backup : markAt p ns (length ns) .slot ≡ 0 → markAt p ns (length ns) .backup ≡ 0
+  pub no-backup : markAt p ns (length ns) .slot ≡ 0 → markAt p ns (length ns) .backup ≡ 0
   no-backup z = go (lastBy false p ns (length ns)) refl
     where
       go : (n : ℕ) → lastBy false p ns (length ns) ≡ n → markAt p ns (length ns) .backup ≡ 0

@@ -30,6 +30,7 @@ fn main() -> ExitCode {
         pairs(|pair| matches!(pair, Comparison::FirstLacks(_) | Comparison::SecondLacks(_))),
         pairs(|pair| matches!(pair, Comparison::Differs(_)))
     );
+    println!("{} lists of events played with real calls", sum.rehearsed);
     println!("no contradiction");
     ExitCode::SUCCESS
 }

@@ -1,0 +1,14 @@
+pub mod Counts
+pub mod Chain
+pub mod Searches
+pub mod Play
+pub mod Relation
+pub mod LoadStep
+pub mod StoreSteps
+pub mod ChangeStep
+pub mod BackupStep
+pub mod AwayStep
+pub mod Event
+pub mod Backed
+pub mod EventStep
+pub mod Theorem
