@@ -137,8 +137,9 @@ reference-test:
 
 # make fuzz               random scripts through both implementations; FUZZ_SECONDS=60, FUZZ_SEED=number (the clock)
 # make against            the C function against the second implementation's inspection, on volumes of every kind
-# make bench              times of the proved code and the second implementation on the same inputs
-.PHONY: fuzz against bench
+# make bench              times of the proved code and of peers in C, in turns; then against the second implementation
+# make bench-check        the answers of the proved code and of the peers in C on every input of the benchmark
+.PHONY: fuzz against bench bench-check bench-program
 FUZZ_SECONDS ?= 60
 fuzz:
 	@python3 tools/fuzz.py --seconds $(FUZZ_SECONDS) $(if $(FUZZ_SEED),--seed $(FUZZ_SEED))
@@ -148,8 +149,19 @@ AGAINST = cd reference/against && cargo run --release --offline --quiet --target
 against: inspect-library
 	@$(AGAINST) against_inspect
 
-bench: inspect-library
-	@$(STATICLIB) measure
+# The crates that the benchmark links; those of the reports on a volume where they are there.
+REPORTS = $(patsubst crates/%/src,%,$(wildcard crates/estimate/src crates/export/src crates/compare/src))
+BENCHED = inspect measure $(REPORTS)
+
+bench-program: inspect-library
+	@for crate in measure $(REPORTS); do $(STATICLIB) $$crate; done
+	@$(CC_TEST) $(REPORTS:%=-DBENCH_%) bench/*.c tests/c/volume.c $(BENCHED:%=target/staticlib/lib%.a) -o target/c/bench
+
+bench-check: bench-program
+	@./target/c/bench check
+
+bench: bench-program
+	@./target/c/bench
 	@$(AGAINST) bench
 
 # make checklist          the four checks that support staff are taught, played with the store's calls

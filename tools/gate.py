@@ -26,6 +26,7 @@ AFTER = [
     ("README's example; the C function: cases, refusals, full volumes, stack", make("example-check", "c-test")),
     ("the second implementation: tests and plain book", make("reference-test")),
     ("the C function against the second implementation", make("against")),
+    ("inspection and cycles of calls against the peers in C", make("bench-check")),
     ("scripts through both implementations, 20 seconds", make("fuzz", "FUZZ_SECONDS=20", "FUZZ_SEED=1")),
 ]
 

@@ -1,15 +1,15 @@
 -- Laws of the index by columns: a column is read and set where the index is, and what records and notes leave of each column.
 use Prim.Native.Nat.{ℕ, zero, suc, _+_, _-_, _≤_, _<_}
 use mathlib.Core.Path.{_≡_, refl, sym, ap, _∙_}
-use mathlib.Core.Bool.{Bool, true, false, cond, _||_}
+use mathlib.Core.Bool.{Bool, true, false, cond, _&&_, _||_}
 use mathlib.Core.List.{List, [], _∷_, map}
 use native.Mathlib.Numerals.{add-one}
 use native.Mathlib.Omega.{arith}
 use lib.Dec.{eqb, leb}
 use lib.ListN.{length, drop, getD, set, take, replicate, length-map, length-set, length-replicate, drop-of-length-le, List·getD-map, List·getD-eq-default}
 use lib.Seq.{drop-cons, map-set-same, take-suc-set, take-suc, take-all}
-use borrow.Author.Tests.{eq-eqb, ne-eqb, le-leb, lt-leb}
-use Rattle.laws.proofs.Tables.{byCases, every-same, every-more, every-fails}
+use borrow.Author.Tests.{eq-eqb, ne-eqb}
+use Rattle.laws.proofs.Tables.{byCases, every-same}
 use Rattle.model.specs.Tables.{every}
 use Rattle.model.specs.Item.{isWritten}
 use Rattle.model.specs.Index.{emptyEntry, emptyIndex, entryRow, withNote, settled, enterNote, slotUsed}
@@ -35,13 +35,11 @@ slot-in b [] = refl
 slot-in b (e ∷ l) = ap (λ (t : Bool). eqb (e .slot) b || t) (slot-in b l)
 
 module _ (b : ℕ) (l : List ℕ) (i : ℕ) where
-  pub in-here : i < length l → getD l i 0 ≡ b → slotIn b (drop i l) ≡ true
+  -- of what is left of the column behind a row that was looked at
+  pub in-next : (found : Bool) → i < length l → (found || slotIn b (drop i l)) ≡ ((found || eqb (getD l i 0) b) || slotIn b (drop (i + 1) l))
   unfolding slotIn
-  in-here h e = rw (drop-cons l i 0, eq-eqb (getD l i 0) b e)
-
-  pub in-on : i < length l → (getD l i 0 ≡ b → ⊥) → slotIn b (drop i l) ≡ slotIn b (drop (i + 1) l)
-  unfolding slotIn
-  in-on h e = rw (add-one, drop-cons l i 0, ne-eqb (getD l i 0) b e)
+  in-next true h = refl
+  in-next false h = rw (add-one, drop-cons l i 0)
 
   pub in-end : length l ≤ i → slotIn b (drop i l) ≡ false
   unfolding slotIn
@@ -106,16 +104,14 @@ module _ (last written slots backup : List ℕ) where
   abbrev orderedAt : ℕ → Bool
   orderedAt i = leb (columnRow last written slots backup i .written) (columnRow last written slots backup i .last)
 
-  pub unordered : (i : ℕ) (e : Entry) → i < 64 → e ≡ columnRow last written slots backup i → e .last < e .written → columnsOrdered last written slots backup ≡ false
-  unfolding columnsOrdered
-  unordered i e h q l = every-fails orderedAt 64 i h (ap (λ (x : Entry). leb (x .written) (x .last)) (sym q) ∙ lt-leb (e .written) (e .last) l)
+  pub ordered-next : (i : ℕ) (kept : Bool) (e : Entry) → kept ≡ every i orderedAt → e ≡ columnRow last written slots backup i
+      → (kept && leb (e .written) (e .last)) ≡ every (i + 1) orderedAt
+  unfolding every
+  ordered-next i kept e h q = rw (add-one, h, q)
 
-  pub ordered-more : (i : ℕ) (e : Entry) → every i orderedAt ≡ true → e ≡ columnRow last written slots backup i → e .written ≤ e .last → every (i + 1) orderedAt ≡ true
-  ordered-more i e h q l = every-more orderedAt i h (ap (λ (x : Entry). leb (x .written) (x .last)) (sym q) ∙ le-leb (e .written) (e .last) l)
-
-  pub ordered-all : (i : ℕ) → i ≡ 64 → every i orderedAt ≡ true → true ≡ columnsOrdered last written slots backup
+  pub ordered-all : (i : ℕ) (kept : Bool) → i ≡ 64 → kept ≡ every i orderedAt → kept ≡ columnsOrdered last written slots backup
   unfolding columnsOrdered
-  ordered-all i e h = sym (rw e at h)
+  ordered-all i kept e h = rw e at h
 
 -- ---- the log
 

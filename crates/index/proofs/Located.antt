@@ -10,13 +10,13 @@ use lib.ListN.{length}
 use Rattle.laws.proofs.Tables.{byCases}
 use Rattle.laws.proofs.Ring.{highest-same}
 use Rattle.laws.proofs.Places.{place-fits, item-length}
-use Rattle.laws.proofs.Checksums.{run-none}
+use Rattle.laws.proofs.Checksums.{run-none, run-sealed}
 use Rattle.model.specs.Bytes.{part}
 use Rattle.model.specs.Checksum.{sealed}
-use Rattle.model.specs.Geometry.{ring, noteRing, recordAt, noteAt, start, item, logSlot, noteSlot}
+use Rattle.model.specs.Geometry.{ring, noteRing, recordAt, noteAt, start, item, logSlot, noteSlot, slotOf}
 use Rattle.model.specs.Scan.{highest, durableCount, firstHeld, noteCount, firstNote}
 use Rattle.model.specs.declared.geometry.Geometry.{Geometry}
-use Rattle.index.specs.Section.{Sized, Placed, slotBytes, countIn, firstIn, logSection, noteSection, logRun, noteRun}
+use Rattle.index.specs.Section.{Sized, Placed, slotBytes, countIn, frontIn, firstIn, runIn, logSection, noteSection, logRun, noteRun}
 use Rattle.index.specs.declared.section.Section.{Section}
 use Rattle.index.specs.declared.section.Run.{Run}
 
@@ -59,16 +59,20 @@ module _ (g : Geometry) (v : List ℕ) where
   note-first n = rw (note-next (n - g .notes))
 
   -- the runs as they are found
-  pub log-run : (s : Section) → s ≡ logSection g → (n : ℕ) → n ≡ countIn v s → (f : ℕ) → f ≡ firstHeld g v n → _≡_ {A = Run} (record { first = f; count = n }) (logRun g v)
-  log-run s es n en f ef =
-      let q : n ≡ durableCount g v = en ∙ ap (countIn v) es ∙ log-count in
-      λ i. record { first = (ef ∙ ap (firstHeld g v) q) i; count = q i }
+  pub log-run : (s : Section) → s ≡ logSection g → (r : Run) → r ≡ runIn v s → r ≡ logRun g v
+  log-run s es r er =
+      er ∙ ap (runIn v) es ∙ (λ i. record { first = (ap (firstIn v (logSection g)) log-count ∙ log-first (durableCount g v)) i; count = log-count i; front = frontIn v (logSection g) })
 
-  pub note-run : (s : Section) → s ≡ noteSection g → (n : ℕ) → n ≡ countIn v s → (f : ℕ) → f ≡ firstIn v s n → _≡_ {A = Run} (record { first = f; count = n }) (noteRun g v)
-  note-run s es n en f ef =
-      let q : n ≡ noteCount g v = en ∙ ap (countIn v) es ∙ note-count in
-      let p : f ≡ firstNote g v (noteCount g v) = ef ∙ ap (λ (x : Section). firstIn v x n) es ∙ note-first n ∙ ap (firstNote g v) q in
-      λ i. record { first = p i; count = q i }
+  pub note-run : (s : Section) → s ≡ noteSection g → (r : Run) → r ≡ runIn v s → r ≡ noteRun g v
+  note-run s es r er =
+      er ∙ ap (runIn v) es ∙ (λ i. record { first = (ap (firstIn v (noteSection g)) note-count ∙ note-first (noteCount g v)) i; count = note-count i; front = frontIn v (noteSection g) })
+
+  -- a number's slot at the front is whole
+  pub record-known : (n : ℕ) → slotOf (g .records) n ≤ frontIn v (logSection g) → sealed 60 (item g v (logSlot g n)) ≡ true
+  record-known n h = ap (sealed 60) (sym (record-slot ((n - 1) % g .records))) ∙ run-sealed 60 v (g .records) (start g (recordAt 1)) ((n - 1) % g .records) h
+
+  pub note-known : (n : ℕ) → slotOf (g .notes) n ≤ frontIn v (noteSection g) → sealed 12 (item g v (noteSlot g n)) ≡ true
+  note-known n h = ap (sealed 12) (sym (note-slot ((n - 1) % g .notes))) ∙ run-sealed 12 v (g .notes) (start g (noteAt 1)) ((n - 1) % g .notes) h
 
   module _ (s : Sized g v) where
     pub log-placed : Placed v (logSection g)

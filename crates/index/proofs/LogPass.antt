@@ -10,7 +10,7 @@ use lib.ListN.{length, getD, set, replicate, length-set, length-replicate, List�
 use Rattle.laws.proofs.Tables.{all-at, within-bounds, every-none, every-more, every-fails}
 use Rattle.model.specs.Tables.{every, within}
 use Rattle.model.specs.Checksum.{sealed}
-use Rattle.model.specs.Geometry.{recordAt, logSlot, item}
+use Rattle.model.specs.Geometry.{recordAt, logSlot, slotOf, item}
 use Rattle.model.specs.Item.{recordOf, recordLayout, firstIsFormat}
 use Rattle.model.specs.Index.{emptyEntry, entryOf}
 use Rattle.model.specs.Scan.{logRecord, durableCount, firstHeld, logIndex, runIndex, recordFits, linked, endsAt, restZero, validLog}
@@ -19,12 +19,12 @@ use Rattle.model.specs.declared.item.LogRecord.{LogRecord}
 use Rattle.model.specs.declared.state.Entry.{Entry}
 use Rattle.index.specs.Rows.{rowOf}
 use Rattle.index.specs.Columns.{lasts}
-use Rattle.index.specs.Section.{endsIn, logSection, logRun, recordFollows}
+use Rattle.index.specs.Section.{endsIn, frontIn, logSection, logRun, recordFollows}
 use Rattle.index.specs.declared.section.Run.{Run}
 use Rattle.index.specs.declared.section.Section.{Section}
 use Rattle.index.proofs.ColumnLaws.{column-set, log-none}
 use Rattle.index.proofs.Entries.{row-is}
-use Rattle.index.proofs.Located.{record-slot, first-low}
+use Rattle.index.proofs.Located.{record-known, record-slot, first-low}
 use Rattle.index.proofs.Sections.{guarded}
 
 module _ (g : Geometry) (v : List ℕ) where
@@ -55,6 +55,12 @@ module _ (g : Geometry) (v : List ℕ) where
   module _ (r : Run) (er : r ≡ logRun g v) where
     pub run-low : 1 ≤ r .first
     run-low = rw er (first-low g v (durableCount g v))
+
+    -- a record at the whole front
+    pub log-known : (n : ℕ) (x : List ℕ) → x ≡ item g v (logSlot g n) → slotOf (g .records) n ≤ r .front → sealed 60 x ≡ true
+    log-known n x ex h =
+        let q : r .front ≡ frontIn v (logSection g) = ap (λ (y : Run). y .front) er in
+        ap (sealed 60) ex ∙ record-known g v n (rw q at h)
 
     -- a record does not fit
     pub log-breaks : (i : ℕ) → i < suc (r .count) - r .first → recordFits g v (r .first) (logIndex g v (r .first) i) (r .first + i) ≡ false → validLog g v ≡ false

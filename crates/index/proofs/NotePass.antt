@@ -1,18 +1,19 @@
 -- Laws of the notes' scan: one note as it was judged and entered, and what all notes come to.
 use mathlib.Core.Path.{_≡_, refl, sym, ap, _∙_, subst}
-use mathlib.Core.Bool.{Bool, true, false, _&&_, _||_}
+use mathlib.Core.Bool.{Bool, true, false, _&&_, _||_, not}
 use mathlib.Core.List.{List, [], _∷_, map}
-use Prim.Native.Nat.{ℕ, suc, _+_, _-_, _*_, _≤_, _<_}
+use Prim.Native.Nat.{ℕ, zero, suc, _+_, _-_, _*_, _≤_, _<_}
 use native.Mathlib.Numerals.{add-one}
 use native.Mathlib.Omega.{arith}
 use lib.Dec.{eqb, leb, ltb, lit≤}
 use lib.ListN.{getD, set, List·getD-map}
+use borrow.Author.Tests.{le-leb}
 use Rattle.laws.proofs.Tables.{all-at, within-bounds, every-none, every-more, every-fails}
 use Rattle.laws.proofs.Fields.{field-part}
 use Rattle.model.specs.Tables.{every, within}
 use Rattle.model.specs.Bytes.{field, part}
 use Rattle.model.specs.Checksum.{sealed}
-use Rattle.model.specs.Geometry.{noteAt, logSlot, noteSlot, start, item}
+use Rattle.model.specs.Geometry.{slotOf, noteAt, logSlot, noteSlot, start, item}
 use Rattle.model.specs.Item.{recordOf, noteOf, noteLayout}
 use Rattle.model.specs.Index.{emptyEntry, entryRow, entryOf, withNote, enterNote, slotUsed, settled}
 use Rattle.model.specs.Scan.{logRecord, noteRecord, durableCount, firstHeld, noteCount, firstNote, runIndex, noteIndex, noteFollows, noteFits, endsAt, restZero, validNotes, indexOf}
@@ -21,18 +22,23 @@ use Rattle.model.specs.declared.item.Note.{Note}
 use Rattle.model.specs.declared.state.Entry.{Entry}
 use Rattle.index.specs.Rows.{rowOf}
 use Rattle.index.specs.Columns.{Noted, Blank, earlierEntry, slotIn}
-use Rattle.index.specs.Section.{endsIn, noteSection, noteRun, noteAfter, noteAgrees, notedIndex, notesKept}
+use Rattle.index.specs.Section.{frontIn, endsIn, noteSection, noteRun, noteAfter, noteAgrees, notedIndex, notesKept}
 use Rattle.index.specs.declared.section.Run.{Run}
 use Rattle.index.specs.declared.section.Section.{Section}
 use Rattle.index.proofs.ColumnLaws.{column-set, slot-in, log-written, log-slots, log-backup, noted-written, noted-slot, noted-backup, Long, blank-long, long-set}
 use Rattle.index.proofs.Entries.{row-is}
-use Rattle.index.proofs.Located.{note-slot, first-note-low, notes-some}
+use Rattle.index.proofs.Located.{note-known, note-slot, first-note-low, notes-some}
 use Rattle.index.proofs.Sections.{guarded, and-assoc}
 
 -- the page of a record, of the whole volume's bytes
 pub record-page : (g : Geometry) (v : List ℕ) (n : ℕ) → logRecord g v n .page ≡ field 2 (start g (logSlot g n) + 8) v
 unfolding recordOf item
 record-page g v n = field-part 2 8 64 (start g (logSlot g n)) v (lit≤ tt)
+
+-- slot 0 is in no range, whatever a search says of it
+searched : (n s : ℕ) (used : Bool) → (within n s && not (leb 1 s && used)) ≡ (within n s && not used)
+searched n zero used = refl
+searched n (suc s) used = rw (le-leb 1 (suc s) (omega arith))
 
 module _ (g : Geometry) (v : List ℕ) where
   breaks : (i : ℕ) → let k = noteCount g v in let f = firstNote g v k in
@@ -56,6 +62,12 @@ module _ (g : Geometry) (v : List ℕ) where
 
   -- the notes' run
   module _ (r : Run) (er : r ≡ noteRun g v) where
+    -- a note at the whole front
+    pub note-whole : (n : ℕ) (x : List ℕ) → x ≡ item g v (noteSlot g n) → slotOf (g .notes) n ≤ r .front → sealed 12 x ≡ true
+    note-whole n x ex h =
+        let q : r .front ≡ frontIn v (noteSection g) = ap (λ (y : Run). y .front) er in
+        ap (sealed 12) ex ∙ note-known g v n (rw q at h)
+
     pub run-low : 1 ≤ r .first
     run-low = rw er (first-note-low g v (noteCount g v))
 
@@ -117,7 +129,7 @@ module _ (g : Geometry) (v : List ℕ) where
       (r : List ℕ) (er : r ≡ item g v (noteSlot g k)) (e : Note) (ee : e ≡ noteOf r) (j : ℕ) (ej : j ≡ rowOf (e .page))
       (was : Entry) (ew : was ≡ earlierEntry (getD written j 0) (getD slots j 0) (getD backup j 0))
       (durable first : ℕ) (ed : durable ≡ durableCount g v) (ef : first ≡ firstHeld g v (durableCount g v))
-      (whole used follows named ok : Bool) (eh : whole ≡ sealed 12 r) (eu : used ≡ slotIn (e .slot) slots) (el : follows ≡ noteAfter was e (g .slots) used)
+      (whole used follows named ok : Bool) (eh : whole ≡ sealed 12 r) (eu : used ≡ (leb 1 (e .slot) && slotIn (e .slot) slots)) (el : follows ≡ noteAfter was e (g .slots) used)
       (en : named ≡ (ltb (e .lsn) first || eqb (logRecord g v (e .lsn) .page) (e .page)))
       (eo : ok ≡ noteAgrees whole e k (g .pages) durable named follows) where
     read-is : e ≡ noteRecord g v (f + i)
@@ -144,12 +156,12 @@ module _ (g : Geometry) (v : List ℕ) where
     backup-at : within (g .pages) (e .page) ≡ true → was .backup ≡ entryOf (noteIndex g v f i) (e .page) .backup
     backup-at t = ap (λ (x : Entry). x .backup) ew ∙ at-page (λ (x : Entry). x .backup) refl backup (same .backup-is) t
 
-    used-is : used ≡ slotUsed (e .slot) (noteIndex g v f i)
-    used-is = eu ∙ ap (slotIn (e .slot)) (sym (same .slots-are)) ∙ slot-in (e .slot) (noteIndex g v f i)
+    used-is : slotIn (e .slot) slots ≡ slotUsed (e .slot) (noteIndex g v f i)
+    used-is = ap (slotIn (e .slot)) (sym (same .slots-are)) ∙ slot-in (e .slot) (noteIndex g v f i)
 
     follows-is : within (g .pages) (e .page) ≡ true → follows ≡ noteFollows g (noteIndex g v f i) e
     unfolding noteFollows
-    follows-is t = el ∙ rw (written-at t, backup-at t, used-is)
+    follows-is t = el ∙ rw (eu, searched (g .slots) (e .slot) (slotIn (e .slot) slots), written-at t, backup-at t, used-is)
 
     pub note-judged : ok ≡ noteFits g v (noteIndex g v f i) (f + i)
     unfolding noteFits

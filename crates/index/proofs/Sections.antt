@@ -15,7 +15,8 @@ use Rattle.model.specs.Bytes.{le, field, part, allZero}
 use Rattle.model.specs.Checksum.{sealed, sealedRun, sumHolds, checksumFrom}
 use Rattle.model.specs.Scan.{larger, highest, restZero}
 use Rattle.index.specs.declared.section.Section.{Section}
-use Rattle.index.specs.Section.{Placed, slotBytes, highestAt, countIn, firstIn, endsIn}
+use Rattle.index.specs.declared.section.Run.{Run}
+use Rattle.index.specs.Section.{frontIn, runIn, Placed, slotBytes, highestAt, countIn, firstIn, endsIn}
 
 -- ---- places
 
@@ -137,6 +138,10 @@ module _ (v : List ℕ) (s : Section) where
   pub count-run : (n : ℕ) → n ≡ sealedRun (s .size) (s .slots) v (s .at) → s .ring ≡ false → n ≡ countIn v s
   unfolding countIn
   count-run n e t = rw t e
+
+  pub held-is : (f n w : ℕ) → f ≡ firstIn v s n → n ≡ countIn v s → w ≡ frontIn v s
+      → _≡_ {A = Run} (record { first = f; count = n; front = w }) (runIn v s)
+  held-is f n w ef en ew = λ i. record { first = (ef ∙ ap (firstIn v s) en) i; count = en i; front = ew i }
 
   pub first-one : (n : ℕ) → s .ring ≡ false → 1 ≡ firstIn v s n
   unfolding firstIn

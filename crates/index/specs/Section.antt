@@ -44,14 +44,20 @@ slotBytes v s i = part v (s .at + (s .size + 4) * i) (s .size + 4)
 abbrev pub highestAt : ℕ → List ℕ → ℕ → ℕ → ℕ
 highestAt c v at count = highest c (λ i. part v (at + (c + 4) * (i - 1)) (c + 4)) count
 
--- how many numbers were given, the run start for n of them, and what follows the run
+-- how many numbers were given, how many slots at the front are whole, the run start for n numbers, and what follows the run
 unfoldable pub countIn : List ℕ → Section → ℕ
 countIn v s = cond (s .ring) (highestAt (s .size) v (s .at) (s .slots)) (sealedRun (s .size) (s .slots) v (s .at))
+
+abbrev pub frontIn : List ℕ → Section → ℕ
+frontIn v s = sealedRun (s .size) (s .slots) v (s .at)
 
 unfoldable pub firstIn : List ℕ → Section → ℕ → ℕ
 firstIn v s n =
     let below = n - s .slots in
     cond (s .ring) (cond (sealed (s .size) (slotBytes v s (below % s .slots))) (suc below) (suc (suc below))) 1
+
+abbrev pub runIn : List ℕ → Section → Run
+runIn v s = record { first = firstIn v s (countIn v s); count = countIn v s; front = frontIn v s }
 
 unfoldable pub endsIn : List ℕ → Section → ℕ → ℕ → Bool
 endsIn v s f n = endsAt (s .slots) n f (sealed (s .size) (slotBytes v s n)) && restZero (s .size + 4) (s .slots) v (s .at) n
@@ -65,10 +71,11 @@ abbrev pub noteSection : Geometry → Section
 noteSection g = record { ring = noteRing g; at = start g (noteAt 1); size = 12; slots = g .notes }
 
 abbrev pub logRun : Geometry → List ℕ → Run
-logRun g v = record { first = firstHeld g v (durableCount g v); count = durableCount g v }
+logRun g v =
+    record { first = firstHeld g v (durableCount g v); count = durableCount g v; front = frontIn v (logSection g) }
 
 abbrev pub noteRun : Geometry → List ℕ → Run
-noteRun g v = record { first = firstNote g v (noteCount g v); count = noteCount g v }
+noteRun g v = record { first = firstNote g v (noteCount g v); count = noteCount g v; front = frontIn v (noteSection g) }
 
 -- the index that the log and the notes give, before a restart's last step
 abbrev pub notedIndex : Geometry → List ℕ → List Entry

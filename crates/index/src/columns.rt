@@ -1,10 +1,10 @@
 // The index by columns: searched for a backup slot, one entry made from it, and all of them. An entry is made with a restart's last step: a page
 // with no record in the run stands at its last noted backup.
 ghost use mathlib.Core.Path.{_≡_};
-ghost use mathlib.Core.Bool.{cond};
+ghost use mathlib.Core.Bool.{cond, _&&_};
 ghost use mathlib.Core.List.{List, map};
 ghost use Prim.Native.Nat.{_-_, _<_};
-ghost use lib.Dec.{eqb};
+ghost use lib.Dec.{eqb, leb};
 ghost use lib.ListN.{length};
 ghost use Rattle.model.specs.Index.{settled};
 ghost use Rattle.model.specs.declared.state.Entry as entries;
@@ -19,18 +19,27 @@ fn wide(x: u8) -> u32
     x as u32
 }
 
-// The slot is in the column.
-pub fn used(slots: &[u8], slot: u32) -> bool
+// The slot is in the column. No turn of the loop waits for a test: the compiler makes vectors of it.
+fn used(slots: &[u8], slot: u32) -> bool
     ensures { λ r. ⌜ r ≡ slotIn slot (now (slots .entry)) ⌝ }
 {
+    let mut found = false;
     let mut i: usize = 0;
     while i < slots.len() {
-        if wide(slots[i]) == slot {
-            return true;
-        }
+        found = found | (wide(slots[i]) == slot);
         i += 1;
     }
-    false
+    found
+}
+
+// The slot, if it is one, is in the column: a written note, which names none, takes no search.
+pub fn taken(slots: &[u8], slot: u32) -> bool
+    ensures { λ r. ⌜ r ≡ (leb 1 slot && slotIn slot (now (slots .entry))) ⌝ }
+{
+    if slot == 0 {
+        return false;
+    }
+    used(slots, slot)
 }
 
 // The last number of a page, of its last record in the run (0: none) and its noted backup.
@@ -76,15 +85,14 @@ pub fn ordered(last: &[u32], written: &[u32], slots: &[u8], backup: &[u32]) -> b
     ensures { λ r. ⌜ r
         ≡ columnsOrdered (now (last .entry)) (now (written .entry)) (now (slots .entry)) (now (backup .entry)) ⌝ }
 {
+    let mut kept = true;
     let mut i: usize = 0;
     while i < 64 {
         let e = row(last, written, slots, backup, i);
-        if e.last < e.written {
-            return false;
-        }
+        kept = kept & (e.written <= e.last);
         i += 1;
     }
-    true
+    kept
 }
 
 // All entries.

@@ -9,7 +9,6 @@ use crate::rows;
 use crate::section;
 use crate::section::Run;
 use crate::section::Section;
-use codec::checksum;
 use item::record;
 use model::geometry::Geometry;
 use model::item::LogRecord;
@@ -41,20 +40,7 @@ pub fn run(volume: &[u8], g: Geometry) -> Run
     requires { ⌜ Sized g (now volume) ⌝ }
     ensures { λ r. ⌜ r ≡ logRun g (now (volume .entry)) ⌝ }
 {
-    let count = section::count(volume, locate(g));
-    Run {
-        first: first(volume, g, count),
-        count,
-    }
-}
-
-// Record 1 has left the log.
-pub fn gone(volume: &[u8], g: Geometry) -> bool
-    requires { ⌜ Sized g (now volume) ⌝ }
-    ensures { λ r. ⌜ r ≡ scans.gone g (now (volume .entry)) ⌝ }
-{
-    let r = run(volume, g);
-    (0 < r.count) & (1 < r.first)
+    section::held(volume, locate(g))
 }
 
 // Record n of a volume with these pages, whole and of a right layout or not, of a page whose last earlier record in the run is `last`. Numbers
@@ -80,6 +66,7 @@ pub fn scan(volume: &[u8], g: Geometry, run: Run, last: &mut [u32]) -> bool
 {
     let pages = g.pages;
     let first = run.first;
+    let front = run.front;
     let below = first - 1;
     let span = section::span(run);
     let mut i: u32 = 0;
@@ -89,7 +76,7 @@ pub fn scan(volume: &[u8], g: Geometry, run: Run, last: &mut [u32]) -> bool
         let e = record::read(r);
         let k = rows::row(e.page as u32);
         let was = last[k];
-        let whole = checksum::holds(r, 60);
+        let whole = section::whole(r, 60, g.records, n, front);
         if !fits(whole, record::layout(r), e, pages, below, was, n) {
             return false;
         }

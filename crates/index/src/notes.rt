@@ -11,7 +11,6 @@ use crate::rows;
 use crate::section;
 use crate::section::Run;
 use crate::section::Section;
-use codec::checksum;
 use codec::field;
 use item::note;
 use model::geometry::Geometry;
@@ -37,12 +36,7 @@ pub fn run(volume: &[u8], g: Geometry) -> Run
     requires { ⌜ Sized g (now volume) ⌝ }
     ensures { λ r. ⌜ r ≡ noteRun g (now (volume .entry)) ⌝ }
 {
-    let s = locate(g);
-    let count = section::count(volume, s);
-    Run {
-        first: section::first(volume, s, count),
-        count,
-    }
+    section::held(volume, locate(g))
 }
 
 // The page of record n.
@@ -118,6 +112,7 @@ pub fn scan(
     let pages = g.pages;
     let count = g.slots;
     let first = run.first;
+    let front = run.front;
     let span = section::span(run);
     let mut i: u32 = 0;
     while i < span {
@@ -126,18 +121,11 @@ pub fn scan(
         let n = note::read(r);
         let j = rows::row(n.page as u32);
         let was = earlier(written[j], slots[j], backup[j]);
-        let used = columns::used(slots, n.slot as u32);
+        let used = columns::taken(slots, n.slot as u32);
         let follows = follows(was, n, count, used);
         let named = agrees(volume, g, log.first, n);
-        if !fits(
-            checksum::holds(r, 12),
-            n,
-            k,
-            pages,
-            log.count,
-            named,
-            follows,
-        ) {
+        let whole = section::whole(r, 12, g.notes, k, front);
+        if !fits(whole, n, k, pages, log.count, named, follows) {
             return false;
         }
         let e = rows::noted(was, n);

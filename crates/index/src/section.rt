@@ -1,15 +1,17 @@
 // A section of a volume, its log or its notes: its whole slots, and the run of numbers that they hold.
 ghost use mathlib.Core.Path.{_≡_};
-ghost use mathlib.Core.Bool.{cond};
+ghost use mathlib.Core.Bool.{true, cond};
 ghost use Prim.Native.Nat.{suc, _+_, _-_, _*_, _%_, _≤_};
 ghost use lib.ListN.{length};
 ghost use Rattle.model.specs.Bytes as bytes;
 ghost use Rattle.model.specs.Checksum.{sealed, sealedRun};
+ghost use Rattle.model.specs.Geometry.{slotOf};
 ghost use Rattle.model.specs.Scan as scans;
-ghost use Rattle.index.specs.Section.{Placed, highestAt, countIn, firstIn, endsIn};
+ghost use Rattle.index.specs.Section.{Placed, highestAt, frontIn, countIn, firstIn, runIn, endsIn};
 use codec::checksum;
 use codec::field;
 use codec::part;
+use volume::ring;
 
 // Where a section lies: whether it is a ring, where its slots start, an item's bytes before its checksum, and how many slots it has.
 pub struct Section {
@@ -19,16 +21,34 @@ pub struct Section {
     pub slots: u32,
 }
 
-// The numbers that a section holds: the first, and how many were ever given, which is the last; none where the first is above it.
+// The numbers that a section holds: the first, and how many were ever given, which is the last; none where the first is above it. And how many
+// of its slots are whole before the first that is not: these are not summed again.
 pub struct Run {
     pub first: u64,
     pub count: u32,
+    pub front: u32,
 }
 
-// The number of an item whose checksum is right, else 0.
-fn number(item: &[u8], n: usize) -> u32
+// The item of number n has a right checksum: it need not be summed again where its slot, of so many, is at the whole front.
+pub fn whole(item: &[u8], size: usize, slots: u32, n: u32, front: u32) -> bool
+    requires { ⌜ 1 ≤ slots ⌝ }
+    requires { ⌜ (slotOf slots n ≤ front → sealed size (now item) ≡ true) ⌝ }
+    ensures { λ r. ⌜ r ≡ sealed size (now (item .entry)) ⌝ }
+{
+    if ring::slot_of(slots, n) <= front {
+        return true;
+    }
+    checksum::holds(item, size)
+}
+
+// The number of an item whose checksum is right, else 0; `known`: it was found right before.
+fn number(item: &[u8], n: usize, known: bool) -> u32
+    requires { ⌜ (known ≡ true → sealed n (now item) ≡ true) ⌝ }
     ensures { λ r. ⌜ r ≡ cond (sealed n (now (item .entry))) (bytes.field 4 0 (now (item .entry))) 0 ⌝ }
 {
+    if known {
+        return field::u32_at(item, 0);
+    }
     if checksum::holds(item, n) {
         field::u32_at(item, 0)
     } else {
@@ -43,9 +63,10 @@ fn larger(a: u32, b: u32) -> u32
     if a <= b { b } else { a }
 }
 
-// The highest number in a whole slot, of `most` slots of n bytes and a checksum from a place on.
-fn highest(v: &[u8], at: usize, n: usize, most: usize) -> u32
+// The highest number in a whole slot, of `most` slots of n bytes and a checksum from a place on; the first `front` are whole.
+fn highest(v: &[u8], at: usize, n: usize, most: usize, front: usize) -> u32
     requires { ⌜ (at + (n + 4) * most ≤ length (now v)) × (n ≤ 252) ⌝ }
+    requires { ⌜ front ≡ sealedRun n most (now v) at ⌝ }
     ensures { λ r. ⌜ r ≡ highestAt n (now (v .entry)) at most ⌝ }
 {
     let mut k: usize = 0;
@@ -53,7 +74,7 @@ fn highest(v: &[u8], at: usize, n: usize, most: usize) -> u32
     let mut top: u32 = 0;
     while k < most {
         let end = from + (n + 4);
-        let x = number(&v[from..end], n);
+        let x = number(&v[from..end], n, k < front);
         top = larger(top, x);
         from = end;
         k += 1;
@@ -80,20 +101,20 @@ fn sealed(v: &[u8], at: usize, n: usize, most: usize) -> u32
 }
 
 // How many numbers were given: in a ring the highest in a whole slot.
-pub fn count(v: &[u8], s: Section) -> u32
+fn count(v: &[u8], s: Section, front: u32) -> u32
     requires { ⌜ Placed (now v) s ⌝ }
+    requires { ⌜ front ≡ frontIn (now v) s ⌝ }
     ensures { λ r. ⌜ r ≡ countIn (now (v .entry)) s ⌝ }
 {
-    let slots = s.slots as usize;
     if s.ring {
-        highest(v, s.at, s.size, slots)
+        highest(v, s.at, s.size, s.slots as usize, front as usize)
     } else {
-        sealed(v, s.at, s.size, slots)
+        front
     }
 }
 
 // The slot that the number after k goes to is whole, of `slots` slots of n bytes and a checksum from a place on; of no slots none is.
-fn whole(v: &[u8], at: usize, n: usize, slots: u32, k: u32) -> bool
+fn next(v: &[u8], at: usize, n: usize, slots: u32, k: u32) -> bool
     requires { ⌜ (at + (n + 4) * slots ≤ length (now v)) × (n ≤ 252) × (slots ≡ 0 → length (now v) ≤ at) ⌝ }
     ensures { λ r. ⌜ r ≡ sealed n (bytes.part (now (v .entry)) (at + (n + 4) * (k % slots)) (n + 4)) ⌝ }
 {
@@ -122,10 +143,24 @@ pub fn first(v: &[u8], s: Section, n: u32) -> u64
         return 1;
     }
     let below = above(n, s.slots);
-    if whole(v, s.at, s.size, s.slots, below) {
+    if next(v, s.at, s.size, s.slots, below) {
         below as u64 + 1
     } else {
         below as u64 + 2
+    }
+}
+
+// The numbers that a section holds.
+pub fn held(v: &[u8], s: Section) -> Run
+    requires { ⌜ Placed (now v) s ⌝ }
+    ensures { λ r. ⌜ r ≡ runIn (now (v .entry)) s ⌝ }
+{
+    let front = sealed(v, s.at, s.size, s.slots as usize);
+    let count = count(v, s, front);
+    Run {
+        first: first(v, s, count),
+        count,
+        front,
     }
 }
 
@@ -173,6 +208,6 @@ pub fn ends(v: &[u8], s: Section, r: Run) -> bool
         return true;
     }
     let starts = (n == 0) | (r.first == 1);
-    let next = whole(v, s.at, s.size, s.slots, n);
+    let next = next(v, s.at, s.size, s.slots, n);
     (!next & starts) & rest(v, s.at, s.size + 4, s.slots as usize, n as usize)
 }

@@ -4,7 +4,7 @@ ghost use mathlib.Core.Bool.{cond};
 ghost use Prim.Native.Nat.{_≤_};
 ghost use lib.Dec.{leb};
 ghost use Rattle.model.specs.Checksum.{checksum, byteSum};
-ghost use Rattle.measure.specs.Cycles.{isRefused, commandAt, cycled};
+ghost use Rattle.measure.specs.Cycles.{isRefused, restartRun, commandAt, cycled};
 use codec::byte_sum;
 use codec::checksum;
 use model::answer::Answer;
@@ -71,6 +71,18 @@ fn cut(count: u32) -> u32
     ensures { λ r. ⌜ (r ≡ cond (leb count 1024) count 1024) × (r ≤ 1024) ⌝ }
 {
     if count <= 1024 { count } else { 1024 }
+}
+
+// Restarts from a volume, and gives the number of refusals, 1 or 0. Ruled out: a refusal that is not counted; a memory that
+// is left as it was.
+#[no_mangle]
+pub extern "C" fn pagestore_restart(volume: &[u8], memory: &mut [u8]) -> u32
+    ensures refused { λ r. ⌜ r ≡ restartRun (now (volume .entry)) (now (memory .entry)) .refused ⌝ }
+    ensures memory { λ _. ⌜ now (memory .exit) ≡ restartRun (now (volume .entry)) (now (memory .entry)) .memory ⌝ }
+{
+    let restarted = Store::restart(volume, memory);
+    let answer = restarted.answer;
+    refused(answer)
 }
 
 // Restarts from a volume, plays `count` cycles, at most 1,024, and gives the number of refusals. On a made volume with

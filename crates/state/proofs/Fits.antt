@@ -2,7 +2,7 @@
 use Prim.Native.Nat.{ℕ, _+_, _-_, _%_}
 use mathlib.Core.Path.{_≡_, refl, ap, sym, _∙_}
 use mathlib.Core.List.{List, [], _∷_}
-use mathlib.Core.Bool.{Bool, true, false, _||_, not, cond}
+use mathlib.Core.Bool.{Bool, true, false, _&&_, _||_, not, cond}
 use lib.Dec.{eqb, leb, ltb}
 use lib.ListN.{length, getD, List·getD-eq-default}
 use native.Mathlib.Nat.{mod-eq-of-lt}
@@ -15,18 +15,45 @@ use Rattle.model.specs.Geometry.{geometryOf, validVolume, most, mostNotes}
 use Rattle.model.specs.Index.{emptyEntry, entryRow, entryOf}
 use Rattle.model.specs.State.{emptyFrame, holderFrom, frameCount, validMemory, pendingNoteFits, frameFits, entryFits, pageFits, wellFormed}
 use Rattle.model.specs.Refusals.{stateRows}
-use Rattle.state.specs.Clauses.{firstIn, frameClauses, frameIn, pageClauses, pageIn}
+use Rattle.state.specs.Clauses.{firstIn, soleIn, frameClauses, frameIn, pageClauses, pageIn, keptIn, countClauses}
 use Rattle.model.specs.declared.geometry.Geometry.{Geometry}
 use Rattle.model.specs.declared.state.Entry.{Entry}
 use Rattle.model.specs.declared.state.Frame.{Frame}
 use Rattle.model.specs.declared.state.State.{State}
 
+-- a test that is made twice counts once
+absorbed : (q h : Bool) → ((q || h) || q) ≡ (h || q)
+absorbed true true = refl
+absorbed true false = refl
+absorbed false true = refl
+absorbed false false = refl
+
+doubled : (q h : Bool) → (q || (q || h)) ≡ (q || h)
+doubled true h = refl
+doubled false h = refl
+
+pub or-first : (a b : Bool) → a ≡ true → true ≡ (a || b)
+or-first a b t = sym (rw t)
+
+pub or-second : (a b : Bool) → a ≡ false → b ≡ (a || b)
+or-second a b t = sym (rw t)
+
+page-once : (g : Geometry) (durable pending : ℕ) (h : Bool) (i : ℕ) (e : Entry)
+    → pageClauses g durable pending (eqb (e .last) (e .durable) || h) i e ≡ pageClauses g durable pending h i e
+page-once g durable pending h i e = rw (absorbed (eqb (e .last) (e .durable)) h)
+
+frame-once : (g : Geometry) (count i : ℕ) (f : Frame) (h : Bool) (last : ℕ)
+    → frameClauses g count i f (eqb (f .page) 0 || h) last ≡ frameClauses g count i f h last
+frame-once g count i f h last = rw (doubled (eqb (f .page) 0) h)
+
 -- the search's answer stands for the search
-pub page-is : (g : Geometry) (durable pending : ℕ) (table : List Frame) (index : List Entry) (i k : ℕ) (r : Bool)
-    → k ≡ holderFrom 0 (i + 1) table
-    → r ≡ pageClauses g durable pending (ltb 0 k) i (entryRow index i)
+pub page-is : (g : Geometry) (durable pending : ℕ) (table : List Frame) (index : List Entry) (i : ℕ) (kept r : Bool)
+    → kept ≡ keptIn table (i + 1) (entryRow index i)
+    → r ≡ pageClauses g durable pending kept i (entryRow index i)
     → r ≡ pageIn g durable pending table index i
-page-is g durable pending table index i k r ek er = er ∙ rw ek
+page-is g durable pending table index i kept r ek er =
+    er ∙ ap (λ (b : Bool). pageClauses g durable pending b i (entryRow index i)) ek
+    ∙ page-once g durable pending (ltb 0 (holderFrom 0 (i + 1) table)) i (entryRow index i)
 
 -- the row of a page past the index is read as an empty one
 pub last-is : (index : List Entry) (page k : ℕ) → k ≡ page - 1 → length index ≡ 64
@@ -37,12 +64,18 @@ last-is index page k e l =
     (λ t. rw (t, ← e) (sym (ap (λ (x : Entry). x .last) (List·getD-eq-default index emptyEntry {n = k} (omega (arith, ltb-false k 64 t))))))
 
 -- what the callees give stands for what they compute
+given : (g : Geometry) (count i : ℕ) (f : Frame) (a b : Bool) (m n : ℕ) → a ≡ b → m ≡ n
+    → frameClauses g count i f a m ≡ frameClauses g count i f b n
+given g count i f a b m n e d = rw (e, d)
+
 pub frame-is : (g : Geometry) (count : ℕ) (table : List Frame) (index : List Entry) (i last : ℕ) (only r : Bool)
-    → only ≡ firstIn table i
+    → only ≡ soleIn table i
     → last ≡ entryOf index (getD table i emptyFrame .page) .last
     → r ≡ frameClauses g count i (getD table i emptyFrame) only last
     → r ≡ frameIn g count table index i
-frame-is g count table index i last only r eo el er = er ∙ rw (eo, el)
+frame-is g count table index i last only r eo el er =
+    er
+    ∙ given g count i (getD table i emptyFrame) only (soleIn table i) last (entryOf index (getD table i emptyFrame .page) .last) eo el ∙ frame-once g count i (getD table i emptyFrame) (firstIn table i) (entryOf index (getD table i emptyFrame .page) .last)
 
 module _ (g : Geometry) (s : State) where
   frames-are : (count : ℕ) → every 16 (frameIn g count (s .frames) (s .index)) ≡ every 16 (frameFits g count s)
@@ -53,15 +86,57 @@ module _ (g : Geometry) (s : State) where
   unfolding pageFits entryFits
   pages-are = every-same (pageIn g (s .durable) (s .pending) (s .frames) (s .index)) (pageFits g s) 64 (λ i l. rw add-one)
 
-  pub formed-is : (count top topNotes : ℕ) (pending frames pages : Bool) → top ≡ most g → topNotes ≡ mostNotes g
-      → pending ≡ pendingNoteFits g (s .notes) (s .durable) (s .note)
-      → frames ≡ every 16 (frameIn g count (s .frames) (s .index))
-      → pages ≡ every 64 (pageIn g (s .durable) (s .pending) (s .frames) (s .index))
-      → all
-      (leb (s .durable + s .pending) top ∷ leb (s .pending) 16 ∷ leb (s .notes) topNotes ∷ pending ∷ frames ∷ pages ∷ [])
-      ≡ wellFormed g count s
+  joined : (a b c d f p : Bool) → all (a ∷ b ∷ c ∷ d ∷ f ∷ p ∷ []) ≡ (all (a ∷ b ∷ c ∷ d ∷ []) && (f && p))
+  joined false b c d f p = refl
+  joined true false c d f p = refl
+  joined true true false d f p = refl
+  joined true true true false f p = refl
+  joined true true true true f p = refl
+
+  -- the tests in the code's order: the counts and the pending note, the frames, the pages
+  abbrev counts : Bool
+  counts = countClauses g (s .durable) (s .pending) (s .notes) (s .note)
+
+  abbrev frames : ℕ → Bool
+  frames count = every 16 (frameIn g count (s .frames) (s .index))
+
+  abbrev pages : Bool
+  pages = every 64 (pageIn g (s .durable) (s .pending) (s .frames) (s .index))
+
+  formed-is : (count : ℕ) → wellFormed g count s ≡ (counts && (frames count && pages))
   unfolding wellFormed
-  formed-is count top topNotes pending frames pages et en ep ef ei = rw (et, en, ep, ef, ei, frames-are count, pages-are)
+  formed-is count =
+      joined (leb (s .durable + s .pending) (most g)) (leb (s .pending) 16) (leb (s .notes) (mostNotes g))
+      (pendingNoteFits g (s .notes) (s .durable) (s .note)) (every 16 (frameFits g count s)) (every 64 (pageFits g s))
+      ∙ ap (λ (x : Bool). counts && (x && every 64 (pageFits g s))) (sym (frames-are count))
+      ∙ ap (λ (x : Bool). counts && (frames count && x)) (sym pages-are)
+
+  all-hold : (a b c : Bool) → a ≡ true → b ≡ true → c ≡ true → true ≡ (a && (b && c))
+  all-hold a b c ea eb ec = sym (rw (ea, eb, ec))
+
+  one-fails : (a b c : Bool) → a ≡ false → false ≡ (a && (b && c))
+  one-fails a b c e = sym (rw e)
+
+  two-fails : (a b c : Bool) → b ≡ false → false ≡ (a && (b && c))
+  two-fails true b c e = sym (rw e)
+  two-fails false b c e = refl
+
+  three-fails : (a b c : Bool) → c ≡ false → false ≡ (a && (b && c))
+  three-fails true true c e = sym e
+  three-fails true false c e = refl
+  three-fails false b c e = refl
+
+  pub counts-fail : (count : ℕ) → counts ≡ false → false ≡ wellFormed g count s
+  counts-fail count e = one-fails counts (frames count) pages e ∙ sym (formed-is count)
+
+  pub frames-fail : (count : ℕ) → frames count ≡ false → false ≡ wellFormed g count s
+  frames-fail count e = two-fails counts (frames count) pages e ∙ sym (formed-is count)
+
+  pub pages-fail : (count : ℕ) → pages ≡ false → false ≡ wellFormed g count s
+  pages-fail count e = three-fails counts (frames count) pages e ∙ sym (formed-is count)
+
+  pub formed : (count : ℕ) → counts ≡ true → frames count ≡ true → pages ≡ true → true ≡ wellFormed g count s
+  formed count ec ef ep = all-hold counts (frames count) pages ec ef ep ∙ sym (formed-is count)
 
 -- the code's tests, in the table's order, come to the rows 1, 2, 2
 module _ (s : State) (v m : List ℕ) where

@@ -6,15 +6,21 @@ use mathlib.Core.List.{List, [], _∷_}
 use lib.Dec.{eqb, leb, ltb}
 use lib.ListN.{getD}
 use Rattle.model.specs.Tables.{all, every}
-use Rattle.model.specs.State.{emptyFrame, holderFrom, entryZero}
+use Rattle.model.specs.Geometry.{most, mostNotes}
+use Rattle.model.specs.State.{emptyFrame, holderFrom, pendingNoteFits, entryZero}
 use Rattle.model.specs.Index.{entryRow, entryOf}
 use Rattle.model.specs.declared.geometry.Geometry.{Geometry}
 use Rattle.model.specs.declared.state.Entry.{Entry}
 use Rattle.model.specs.declared.state.Frame.{Frame}
+use Rattle.model.specs.declared.state.PendingNote.{PendingNote}
 
 -- no row of a frame table before row i holds its page
 abbrev pub firstIn : List Frame → ℕ → Bool
 firstIn table i = every i (λ j. not (eqb (getD table j emptyFrame .page) (getD table i emptyFrame .page)))
+
+-- row i is empty, or no row before it holds its page
+abbrev pub soleIn : List Frame → ℕ → Bool
+soleIn table i = eqb (getD table i emptyFrame .page) 0 || firstIn table i
 
 -- frame i, counted from 0, by its row, whether no row before it holds its page, and the page's last number
 abbrev pub frameClauses : Geometry → ℕ → ℕ → Frame → Bool → ℕ → Bool
@@ -47,3 +53,13 @@ pageClauses g durable pending inFrame i e = cond (ltb i (g .pages)) (entryClause
 abbrev pub pageIn : Geometry → ℕ → ℕ → List Frame → List Entry → ℕ → Bool
 pageIn g durable pending table index i = pageClauses g durable pending (ltb 0 (holderFrom 0 (i + 1) table)) i
     (entryRow index i)
+
+-- the page has no pending record, by its entry, or is in a frame
+abbrev pub keptIn : List Frame → ℕ → Entry → Bool
+keptIn table page e = eqb (e .last) (e .durable) || ltb 0 (holderFrom 0 page table)
+
+-- the counts of durable and pending records and of notes, and the pending note
+abbrev pub countClauses : Geometry → ℕ → ℕ → ℕ → PendingNote → Bool
+countClauses g durable pending notes p =
+    all
+    (leb (durable + pending) (most g) ∷ leb pending 16 ∷ leb notes (mostNotes g) ∷ pendingNoteFits g notes durable p ∷ [])

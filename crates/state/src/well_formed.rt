@@ -2,9 +2,8 @@
 // wraps.
 ghost use mathlib.Core.Path.{_≡_};
 ghost use Prim.Native.Nat.{_+_, _<_};
-ghost use Rattle.model.specs.Tables.{every};
 ghost use Rattle.model.specs.State.{pendingNoteFits, entryZero, wellFormed};
-ghost use Rattle.state.specs.Clauses.{firstIn, frameClauses, frameIn, entryClauses, pageClauses, pageIn};
+ghost use Rattle.state.specs.Clauses.{firstIn, soleIn, frameClauses, entryClauses, pageClauses, keptIn, countClauses};
 ghost use Rattle.model.specs.declared.state.PendingNote.the-variants.{Present};
 use crate::frames;
 use item::note;
@@ -55,6 +54,18 @@ fn first_holder(table: [Frame; 16], i: usize) -> bool
     true
 }
 
+// Row i is empty, or no row before it holds its page: only a row with a page is compared with those before it.
+fn sole(table: [Frame; 16], i: usize) -> bool
+    requires { ⌜ i < 16 ⌝ }
+    ensures { λ r. ⌜ r ≡ soleIn table i ⌝ }
+{
+    let page = table[i].page;
+    if page == 0 {
+        return true;
+    }
+    first_holder(table, i)
+}
+
 // Frame i, counted from 0, may be so: its row, whether no row before it holds its page, and the page's last number.
 fn frame_fits(g: Geometry, count: usize, i: usize, f: Frame, only: bool, last: u32) -> bool
     ensures { λ r. ⌜ r ≡ frameClauses g count i f only last ⌝ }
@@ -63,26 +74,6 @@ fn frame_fits(g: Geometry, count: usize, i: usize, f: Frame, only: bool, last: u
     (f.page as u32 <= g.pages)
         & ((empty | only)
             & ((empty | !(last == 0)) & ((!empty | !f.dirty) & ((i < count) | empty))))
-}
-
-// All frames are as they may be. A page's entry is read from the index in place, since a state or an index that is
-// passed at each turn is copied.
-fn frames_fit(g: Geometry, count: usize, table: [Frame; 16], index: [Entry; 64]) -> bool
-    ensures { λ r. ⌜ r ≡ every 16 (frameIn g count table index) ⌝ }
-{
-    let mut i = 0;
-    while i < 16 {
-        let f = table[i];
-        let only = first_holder(table, i);
-        let k = crate::row(crate::wide(f.page));
-        let e = index[k % 64];
-        let last = rows::first(k < 64, e.last, 0);
-        if !frame_fits(g, count, i, f, only, last) {
-            return false;
-        }
-        i += 1;
-    }
-    true
 }
 
 // The entry may be that of one of the volume's pages, which is in a frame or not.
@@ -116,40 +107,58 @@ fn page_fits(g: Geometry, durable: u32, pending: u32, in_frame: bool, i: usize, 
     }
 }
 
-// All entries are as they may be.
-fn pages_fit(
-    g: Geometry,
-    durable: u32,
-    pending: u32,
-    table: [Frame; 16],
-    index: [Entry; 64],
-) -> bool
-    ensures { λ r. ⌜ r ≡ every 64 (pageIn g durable pending table index) ⌝ }
+// The page has no pending record, by its entry, or is in a frame: only a page that has some is searched for.
+fn kept(table: [Frame; 16], page: u32, e: Entry) -> bool
+    ensures { λ r. ⌜ r ≡ keptIn table page e ⌝ }
 {
+    if e.last == e.durable {
+        return true;
+    }
+    let f = frames::search(table, page);
+    0 < f
+}
+
+// The counts and the pending note are as they may be.
+fn counts_fit(g: Geometry, durable: u32, pending: u32, notes: u32, p: PendingNote) -> bool
+    ensures { λ r. ⌜ r ≡ countClauses g durable pending notes p ⌝ }
+{
+    let most = ring::most(g);
+    let most_notes = ring::most_notes(g);
+    let fits = pending_fits(g, notes, durable, p);
+    (durable as u64 + pending as u64 <= most as u64)
+        & ((pending <= 16) & ((notes <= most_notes) & fits))
+}
+
+// The state is well formed for the geometry and a number of frames. The entries are read in place: what is passed by
+// value is copied, so only a table of frames is passed on, and the state is copied once, at the call.
+pub fn well_formed(s: State, g: Geometry, count: usize) -> bool
+    ensures { λ r. ⌜ r ≡ wellFormed g count s ⌝ }
+{
+    let p = s.note;
+    if !counts_fit(g, s.durable, s.pending, s.notes, p) {
+        return false;
+    }
+    let table = s.frames;
     let mut i = 0;
-    while i < 64 {
-        let e = index[i];
-        let f = frames::search(table, i as u32 + 1);
-        if !page_fits(g, durable, pending, 0 < f, i, e) {
+    while i < 16 {
+        let f = table[i];
+        let only = sole(table, i);
+        let k = crate::row(crate::wide(f.page));
+        let e = s.index[k % 64];
+        let last = rows::first(k < 64, e.last, 0);
+        if !frame_fits(g, count, i, f, only, last) {
             return false;
         }
         i += 1;
     }
+    let mut j = 0;
+    while j < 64 {
+        let e = s.index[j];
+        let kept = kept(table, j as u32 + 1, e);
+        if !page_fits(g, s.durable, s.pending, kept, j, e) {
+            return false;
+        }
+        j += 1;
+    }
     true
-}
-
-// The state is well formed for the geometry and a number of frames.
-pub fn well_formed(s: State, g: Geometry, count: usize) -> bool
-    ensures { λ r. ⌜ r ≡ wellFormed g count s ⌝ }
-{
-    let most = ring::most(g);
-    let most_notes = ring::most_notes(g);
-    let p = s.note;
-    let table = s.frames;
-    let index = s.index;
-    let pending = pending_fits(g, s.notes, s.durable, p);
-    let frames = frames_fit(g, count, table, index);
-    let pages = pages_fit(g, s.durable, s.pending, table, index);
-    (s.durable as u64 + s.pending as u64 <= most as u64)
-        & ((s.pending <= 16) & ((s.notes <= most_notes) & (pending & (frames & pages))))
 }

@@ -1,6 +1,6 @@
 // A log or a section of notes as a ring: which volumes have one, how far its numbers go, and the slot of a number.
 ghost use mathlib.Core.Path.{_≡_};
-ghost use Prim.Native.Nat.{_-_, _≤_};
+ghost use Prim.Native.Nat.{_-_, _%_, _≤_, _<_};
 ghost use Rattle.model.specs.Geometry.{ring, most, mostNotes, slotOf};
 use model::geometry::Geometry;
 
@@ -32,10 +32,18 @@ fn before(n: u32) -> u32
     if n == 0 { 0 } else { n - 1 }
 }
 
+// A number of items before, in turns of `slots`: before the first turn there is nothing to divide, and a division is slow.
+fn turned(b: u32, slots: u32) -> u32
+    requires { ⌜ 1 ≤ slots ⌝ }
+    ensures { λ r. ⌜ (r ≡ b % slots) × (r < slots) ⌝ }
+{
+    if b < slots { b } else { b % slots }
+}
+
 // The slot of number n in a section of `slots` slots; 0 has the slot of 1.
 pub fn slot_of(slots: u32, n: u32) -> u32
     requires { ⌜ 1 ≤ slots ⌝ }
     ensures { λ r. ⌜ (r ≡ slotOf slots n) × (r ≤ slots) ⌝ }
 {
-    before(n) % slots + 1
+    turned(before(n), slots) + 1
 }

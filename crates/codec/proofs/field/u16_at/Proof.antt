@@ -1,15 +1,26 @@
 -- `codec::field::u16_at` meets its contract.
 use borrow.Author.Needs.{needs}
 use denote.Ref.{now}
-use mathlib.Core.Path.{sym}
+use mathlib.Core.Path.{_≡_, sym}
 use native.Mathlib.Omega.{arith}
+use Prim.Native.Nat.{_+_}
+use lib.ListN.{getD, List·getD-eq-default}
 use Rattle.codec.proofs.Stores.{field-past, field-two}
 use Rattle.codec.proofs.field.u16_at.Statement.{statement}
 use Rattle.codec.proofs.field.u16_at.Tie as tie
 use Rattle.codec.proofs.field.u16_at.Reads as reads
 use Rattle.codec.proofs.field.u16_at.Lts as lts
-use Rattle.codec.proofs.field.byte.Reads as byte-reads
+use Rattle.codec.proofs.field.two.Reads as two-reads
 use Rattle.codec.proofs.field.wide8.Reads as wide8-reads
+
+returns : tie.Need-returns
+returns c = sym (field-past 2 _ (now (c .before .before .args .s)) (c .if1 .taken))
+
+sub-if2 : tie.Need-sub-if2
+sub-if2 c = search needs
+
+two-requires : tie.Need-two-requires
+two-requires c κs = search needs
 
 shared-slice-read-wide8 : tie.Need-shared-slice-read-wide8
 shared-slice-read-wide8 c = search needs
@@ -17,39 +28,23 @@ shared-slice-read-wide8 c = search needs
 wide8-requires : tie.Need-wide8-requires
 wide8-requires c κs = search needs
 
-add-byte : tie.Need-add-byte
-add-byte c = search needs
-
-byte-requires : tie.Need-byte-requires
-byte-requires c κs = search needs
-
-wide8-requires-2 : tie.Need-wide8-requires-2
-wide8-requires-2 c κs = search needs
-
-mul-result : tie.Need-mul-result
-mul-result c = search needs
-
-add-result : tie.Need-add-result
-add-result c = search needs
-
-returns : tie.Need-returns
-returns c =
-    let a = c .before .before .before .before .before .before .args in
-    omega (arith, field-two (a .at) (now (a .s)), c .wide82 .ensures .0, c .before .byte .ensures, c .before .before .wide8 .ensures .0)
-
 returns-2 : tie.Need-returns-2
-returns-2 c = sym (field-past 2 _ (now (c .before .before .args .s)) (c .if1 .left))
+returns-2 c = search needs
+
+returns-3 : tie.Need-returns-3
+returns-3 c =
+    let a = c .before .before .before .before .before .args in
+    let past : getD (now (a .s)) (a .at + 1) 0 ≡ 0 = List·getD-eq-default (now (a .s)) 0 (omega arith) in
+    omega (arith, field-two (a .at) (now (a .s)), c .wide8 .ensures .0, past)
 
 pub u16-at-spec : {M : Type 1} → statement M
 u16-at-spec =
     tie.close
     (tie.spec
+    returns
+    sub-if2
+    two-requires
     shared-slice-read-wide8
     wide8-requires
-    add-byte
-    byte-requires
-    wide8-requires-2
-    mul-result
-    add-result
-    returns
-    returns-2)
+    returns-2
+    returns-3)

@@ -9,8 +9,18 @@ use Rattle.codec.proofs.field.u32_at.Statement.{statement}
 use Rattle.codec.proofs.field.u32_at.Tie as tie
 use Rattle.codec.proofs.field.u32_at.Reads as reads
 use Rattle.codec.proofs.field.u32_at.Lts as lts
+use Rattle.codec.proofs.field.four.Reads as four-reads
 use Rattle.codec.proofs.field.u16_at.Reads as u16-at-reads
 use Rattle.codec.proofs.field.wide16.Reads as wide16-reads
+
+returns : tie.Need-returns
+returns c = sym (field-past 4 _ (now (c .before .before .args .s)) (c .if1 .taken))
+
+sub-if2 : tie.Need-sub-if2
+sub-if2 c = search needs
+
+four-requires : tie.Need-four-requires
+four-requires c κs = search needs
 
 u16-at-requires : tie.Need-u16-at-requires
 u16-at-requires c κs = search needs
@@ -33,18 +43,21 @@ mul-result c = search needs
 add-result : tie.Need-add-result
 add-result c = search needs
 
-returns : tie.Need-returns
-returns c =
-    let a = c .before .before .before .before .before .before .args in
-    omega (arith, field-add 2 2 (a .at) (now (a .s)), c .wide162 .ensures .0, c .before .u16-at2 .ensures, c .before .before .wide16 .ensures .0, c .before .before .before .u16-at .ensures)
-
 returns-2 : tie.Need-returns-2
-returns-2 c = sym (field-past 4 _ (now (c .before .before .args .s)) (c .if1 .left))
+returns-2 c = search needs
+
+returns-3 : tie.Need-returns-3
+returns-3 c =
+    let a = c .before .before .before .before .before .before .before .args in
+    omega (arith, field-add 2 2 (a .at) (now (a .s)), c .wide162 .ensures .0, c .before .u16-at2 .ensures, c .before .before .wide16 .ensures .0, c .before .before .before .u16-at .ensures)
 
 pub u32-at-spec : {M : Type 1} → statement M
 u32-at-spec =
     tie.close
     (tie.spec
+    returns
+    sub-if2
+    four-requires
     u16-at-requires
     wide16-requires
     add-u16-at
@@ -52,5 +65,5 @@ u32-at-spec =
     wide16-requires-2
     mul-result
     add-result
-    returns
-    returns-2)
+    returns-2
+    returns-3)

@@ -12,12 +12,12 @@ use Rattle.model.specs.Scan.{logIndex, recordFits}
 use Rattle.model.specs.declared.geometry.Geometry.{Geometry}
 use Rattle.index.proofs.Entries.{row-below}
 use Rattle.index.proofs.Located.{record-fits, record-length, log-placed}
-use Rattle.index.proofs.LogPass.{Judged, judged-none, judged-more, run-low, log-judged, log-breaks, log-ends, log-columns}
+use Rattle.index.proofs.LogPass.{log-known, Judged, judged-none, judged-more, run-low, log-judged, log-breaks, log-ends, log-columns}
 use Rattle.index.proofs.log.scan.Statement.{statement}
 use Rattle.index.proofs.log.scan.Tie as tie
 use Rattle.index.proofs.log.scan.Reads as reads
 use Rattle.index.proofs.log.scan.Lts as lts
-use Rattle.codec.proofs.checksum.holds.Reads as holds-reads
+use Rattle.index.proofs.section.whole.Reads as whole-reads
 use Rattle.index.proofs.log.fits.Reads as fits-reads
 use Rattle.index.proofs.log.locate.Reads as locate-reads
 use Rattle.index.proofs.rows.row.Reads as row-reads
@@ -29,10 +29,10 @@ use Rattle.item.proofs.record.read.Reads as read-reads
 use Rattle.volume.proofs.place.record.Reads as record-reads
 
 abbrev Inv-loop : tie.InvT-loop
-Inv-loop volume g run last₀ pages first below span i₀ last i = (i ≤ span) × Judged g volume (run .first) i last
+Inv-loop volume g run last₀ pages first front below span i₀ last i = (i ≤ span) × Judged g volume (run .first) i last
 
 abbrev μ-loop : tie.MeasureT-loop
-μ-loop volume g run last₀ pages first below span i₀ last i = span - i
+μ-loop volume g run last₀ pages first front below span i₀ last i = span - i
 
 abbrev head : tie.After-fits2 Inv-loop μ-loop → tie.At-loop Inv-loop μ-loop
 head c = c .before .before .before .before .before .before .before .before .before .before
@@ -54,7 +54,7 @@ judged : (c : tie.After-fits2 Inv-loop μ-loop)
 judged c =
     let a = head c in
     log-judged (geo a) (vol a) (a .before .before .before .before .pre .0 .pages) _ _ _ (a .loop .inv .1 .same) _ (c .before .before .before .before .before .before .before .before .nth .ensures) _ refl _ (c .before .before .before .before .before .before .before .«record» .ensures) _
-    (c .before .before .before .before .before .before .read .ensures) _ (c .before .before .before .before .row .ensures) _ _ _ (c .before .before .holds .ensures) (c .before .layout .ensures) (c .fits2 .ensures)
+    (c .before .before .before .before .before .before .read .ensures) _ (c .before .before .before .before .row .ensures) _ _ _ (c .before .before .whole .ensures) (c .before .layout .ensures) (c .fits2 .ensures)
 
 sub-below : tie.Need-sub-below Inv-loop μ-loop
 sub-below c = omega (arith, run-low _ _ _ (c .before .before .pre .1 .0))
@@ -86,8 +86,8 @@ mul-was c = omega (arith, row-at c)
 slice-read-was : tie.Need-slice-read-was Inv-loop μ-loop
 slice-read-was c = omega (arith, row-at (c .before), c .before .before .before .before .before .before .before .loop .inv .1 .long)
 
-holds-requires : tie.Need-holds-requires Inv-loop μ-loop
-holds-requires c κs = search needs
+whole-requires : tie.Need-whole-requires Inv-loop μ-loop
+whole-requires c κs = let s = c .before .before .before .before .before .before .before .before .before .before .before in (s .pre .0 .some, log-known _ _ _ (s .pre .1 .0) _ _ (c .before .before .before .before .«record» .ensures))
 
 layout-requires : tie.Need-layout-requires Inv-loop μ-loop
 layout-requires c κs = let s = c .before .before .before .before .before .before .before .before .before .before .before .before in omega (arith, record-length (s .args .g) (now (s .args .volume)) (s .pre .0) (c .before .before .before .before .before .before .nth .result), ap length (c .before .before .before .before .before .«record» .ensures))
@@ -121,7 +121,7 @@ loop-again : tie.Need-loop-again Inv-loop μ-loop
 loop-again c =
     let f = c .before in
     let a = head f in
-    (omega (arith, c .before .before .before .before .before .before .before .before .before .before .loop-test .taken), judged-more (geo a) (vol a) (a .before .before .before .before .pre .0 .pages) _ _ _ (a .loop .inv .1 .same) _ (c .before .before .before .before .before .before .before .before .before .nth .ensures) _ refl _ (c .before .before .before .before .before .before .before .before .«record» .ensures) _ (c .before .before .before .before .before .before .before .read .ensures) _ (c .before .before .before .before .before .row .ensures) _ _ _ (c .before .before .before .holds .ensures) (c .before .before .layout .ensures) (f .fits2 .ensures) (a .loop .inv .1) (not-false _ (c .if1 .left)))
+    (omega (arith, c .before .before .before .before .before .before .before .before .before .before .loop-test .taken), judged-more (geo a) (vol a) (a .before .before .before .before .pre .0 .pages) _ _ _ (a .loop .inv .1 .same) _ (c .before .before .before .before .before .before .before .before .before .nth .ensures) _ refl _ (c .before .before .before .before .before .before .before .before .«record» .ensures) _ (c .before .before .before .before .before .before .before .read .ensures) _ (c .before .before .before .before .before .row .ensures) _ _ _ (c .before .before .before .whole .ensures) (c .before .before .layout .ensures) (f .fits2 .ensures) (a .loop .inv .1) (not-false _ (c .if1 .left)))
 
 locate-requires : tie.Need-locate-requires Inv-loop μ-loop
 locate-requires c κs = search needs
@@ -156,7 +156,7 @@ scan-spec =
     row-requires
     mul-was
     slice-read-was
-    holds-requires
+    whole-requires
     layout-requires
     fits-requires
     same-length

@@ -13,13 +13,13 @@ use Rattle.index.specs.declared.section.Run.{Run}
 use Rattle.index.proofs.Entries.{row-below}
 use Rattle.index.proofs.ColumnLaws.{Long, blank-long}
 use Rattle.index.proofs.Located.{note-fits, note-placed}
-use Rattle.index.proofs.NotePass.{Entered, entered-none, entered-more, run-low, run-some, note-judged, notes-break, notes-end, notes-columns}
+use Rattle.index.proofs.NotePass.{note-whole, Entered, entered-none, entered-more, run-low, run-some, note-judged, notes-break, notes-end, notes-columns}
 use Rattle.index.proofs.notes.scan.Statement.{statement}
 use Rattle.index.proofs.notes.scan.Tie as tie
 use Rattle.index.proofs.notes.scan.Reads as reads
 use Rattle.index.proofs.notes.scan.Lts as lts
-use Rattle.codec.proofs.checksum.holds.Reads as holds-reads
-use Rattle.index.proofs.columns.used.Reads as used-reads
+use Rattle.index.proofs.section.whole.Reads as whole-reads
+use Rattle.index.proofs.columns.taken.Reads as taken-reads
 use Rattle.index.proofs.notes.agrees.Reads as agrees-reads
 use Rattle.index.proofs.notes.earlier.Reads as earlier-reads
 use Rattle.index.proofs.notes.fits.Reads as fits-reads
@@ -34,11 +34,11 @@ use Rattle.item.proofs.note.read.Reads as read-reads
 use Rattle.volume.proofs.place.note.Reads as note-reads
 
 abbrev Inv-loop : tie.InvT-loop
-Inv-loop volume g log run written₀ slots₀ backup₀ pages count first span i₀ written slots backup i =
+Inv-loop volume g log run written₀ slots₀ backup₀ pages count first front span i₀ written slots backup i =
     (i ≤ span) × Entered g volume (run .first) i written slots backup
 
 abbrev μ-loop : tie.MeasureT-loop
-μ-loop volume g log run written₀ slots₀ backup₀ pages count first span i₀ written slots backup i = span - i
+μ-loop volume g log run written₀ slots₀ backup₀ pages count first front span i₀ written slots backup i = span - i
 
 abbrev head : tie.After-fits2 Inv-loop μ-loop → tie.At-loop Inv-loop μ-loop
 head c = c .before .before .before .before .before .before .before .before .before .before .before .before .before .before .before .before .before
@@ -61,7 +61,7 @@ judged c =
     let a = head c in
     let h = a .before .before .before .before .before .before .pre in
     note-judged (geo a) (vol a) (h .0 .pages) _ _ _ _ _ (a .loop .inv .1 .same) _ (c .before .before .before .before .before .before .before .before .before .before .before .before .before .before .before .nth .ensures) _ (c .before .before .before .before .before .before .before .before .before .before .before .before .before .before .note .ensures) _ (c .before .before .before .before .before .before .before .before .before .before .before .before .before .read .ensures) _ (c .before .before .before .before .before .before .before .before .before .before .before .row .ensures) _ (c .before .before .before .before .before .before .before .earlier .ensures) _ _
-    (ap (λ (r : Run). r .count) (h .1 .0 .0)) (ap (λ (r : Run). r .first) (h .1 .0 .0)) _ _ _ _ _ (c .before .holds .ensures) (c .before .before .before .before .used .ensures) (c .before .before .before .follows .ensures) (c .before .before .agrees .ensures) (c .fits2 .ensures)
+    (ap (λ (r : Run). r .count) (h .1 .0 .0)) (ap (λ (r : Run). r .first) (h .1 .0 .0)) _ _ _ _ _ (c .before .whole .ensures) (c .before .before .before .before .taken .ensures) (c .before .before .before .follows .ensures) (c .before .before .agrees .ensures) (c .fits2 .ensures)
 
 -- the run is no longer than its last number
 few : (a : tie.At-loop Inv-loop μ-loop) → a .before .span .result ≤ 4294967295
@@ -114,11 +114,11 @@ slice-read-earlier-3 c = omega (arith, row-at (c .before .before .before), c .be
 earlier-requires : tie.Need-earlier-requires Inv-loop μ-loop
 earlier-requires c κs = search needs
 
-cast-used : tie.Need-cast-used Inv-loop μ-loop
-cast-used c = search needs
+cast-taken : tie.Need-cast-taken Inv-loop μ-loop
+cast-taken c = search needs
 
-used-requires : tie.Need-used-requires Inv-loop μ-loop
-used-requires c κs = search needs
+taken-requires : tie.Need-taken-requires Inv-loop μ-loop
+taken-requires c κs = search needs
 
 follows-requires : tie.Need-follows-requires Inv-loop μ-loop
 follows-requires c κs = search needs
@@ -126,8 +126,12 @@ follows-requires c κs = search needs
 agrees-requires : tie.Need-agrees-requires Inv-loop μ-loop
 agrees-requires c κs = c .before .before .before .before .before .before .before .before .before .before .before .before .before .before .before .before .before .before .before .before .pre .0 .some
 
-holds-requires : tie.Need-holds-requires Inv-loop μ-loop
-holds-requires c κs = search needs
+whole-requires : tie.Need-whole-requires Inv-loop μ-loop
+whole-requires c κs =
+    let s = c .before .before .before .before .before .before .before .before .before .before .before .before .before .before .before .before .before .before .before .before .before in
+    let l = c .before .before .before .before .before .before .before .before .before .before .before .before .before .before .before in
+    let m = run-some _ _ _ (s .pre .1 .0 .1) (l .loop .i) (omega (arith, c .before .before .before .before .before .before .before .before .before .before .before .before .before .before .loop-test .taken, l .before .span .ensures)) in
+    (m, note-whole _ _ _ (s .pre .1 .0 .1) _ _ (c .before .before .before .before .before .before .before .before .before .before .before .before .note .ensures))
 
 fits-requires : tie.Need-fits-requires Inv-loop μ-loop
 fits-requires c κs = search needs
@@ -179,7 +183,7 @@ loop-again c =
     let h = a .before .before .before .before .before .before .pre in (
       omega (arith, c .before .before .before .before .before .before .before .before .before .before .before .before .before .before .before .before .before .before .loop-test .taken),
       entered-more (geo a) (vol a) (h .0 .pages) _ _ _ _ _ (a .loop .inv .1 .same) _ (c .before .before .before .before .before .before .before .before .before .before .before .before .before .before .before .before .before .nth .ensures) _ (c .before .before .before .before .before .before .before .before .before .before .before .before .before .before .before .before .note .ensures) _ (c .before .before .before .before .before .before .before .before .before .before .before .before .before .before .before .read .ensures) _ (c .before .before .before .before .before .before .before .before .before .before .before .before .before .row .ensures) _ (c .before .before .before .before .before .before .before .before .before .earlier .ensures) _ _
-          (ap (λ (r : Run). r .count) (h .1 .0 .0)) (ap (λ (r : Run). r .first) (h .1 .0 .0)) _ _ _ _ _ (c .before .before .before .holds .ensures) (c .before .before .before .before .before .before .used .ensures) (c .before .before .before .before .before .follows .ensures) (c .before .before .before .before .agrees .ensures) (f .fits2 .ensures)
+          (ap (λ (r : Run). r .count) (h .1 .0 .0)) (ap (λ (r : Run). r .first) (h .1 .0 .0)) _ _ _ _ _ (c .before .before .before .whole .ensures) (c .before .before .before .before .before .before .taken .ensures) (c .before .before .before .before .before .follows .ensures) (c .before .before .before .before .agrees .ensures) (f .fits2 .ensures)
           (a .loop .inv .1) (not-false _ (c .before .if1 .left)) _ (c .noted .ensures),
     )
 
@@ -225,11 +229,11 @@ scan-spec =
     mul-earlier-2
     slice-read-earlier-3
     earlier-requires
-    cast-used
-    used-requires
+    cast-taken
+    taken-requires
     follows-requires
     agrees-requires
-    holds-requires
+    whole-requires
     fits-requires
     same-length
     same-length-2

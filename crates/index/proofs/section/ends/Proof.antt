@@ -7,13 +7,13 @@ use Rattle.index.proofs.section.ends.Tie as tie
 use Rattle.index.proofs.section.ends.Reads as reads
 use Rattle.index.proofs.section.ends.Lts as lts
 use Rattle.index.proofs.section.rest.Reads as rest-reads
-use Rattle.index.proofs.section.whole.Reads as whole-reads
+use Rattle.index.proofs.section.next.Reads as next-reads
 
 returns : tie.Need-returns
 returns c = ends-past _ _ _ _ (c .if1 .taken)
 
-whole-requires : tie.Need-whole-requires
-whole-requires c κs = let p = c .before .before .before .before .pre in (p .room, p .short, p .none)
+next-requires : tie.Need-next-requires
+next-requires c κs = let p = c .before .before .before .before .pre in (p .room, p .short, p .none)
 
 add-rest : tie.Need-add-rest
 add-rest c = omega (arith, c .before .before .before .before .before .before .pre .short)
@@ -28,9 +28,9 @@ rest-requires : tie.Need-rest-requires
 rest-requires c κs = c .before .before .before .before .before .before .before .pre .room
 
 returns-2 : tie.Need-returns-2
-returns-2 c = ends-here _ _ _ _ _ _ (c .before .before .before .before .before .if1 .left) (c .before .before .before .whole .ensures) (c .rest .ensures)
+returns-2 c = ends-here _ _ _ _ _ _ (c .before .before .before .before .before .if1 .left) (c .before .before .before .next .ensures) (c .rest .ensures)
 
 pub ends-spec : {M : Type 1} → statement M
 ends-spec =
     tie.close
-    (tie.spec returns whole-requires add-rest cast-rest cast-rest-2 rest-requires returns-2)
+    (tie.spec returns next-requires add-rest cast-rest cast-rest-2 rest-requires returns-2)

@@ -7,7 +7,7 @@ use Rattle.index.proofs.section.first.Tie as tie
 use Rattle.index.proofs.section.first.Reads as reads
 use Rattle.index.proofs.section.first.Lts as lts
 use Rattle.index.proofs.section.above.Reads as above-reads
-use Rattle.index.proofs.section.whole.Reads as whole-reads
+use Rattle.index.proofs.section.next.Reads as next-reads
 
 returns : tie.Need-returns
 returns c = first-one _ _ _ (not-true _ (c .if1 .taken))
@@ -15,8 +15,8 @@ returns c = first-one _ _ _ (not-true _ (c .if1 .taken))
 above-requires : tie.Need-above-requires
 above-requires c κs = search needs
 
-whole-requires : tie.Need-whole-requires
-whole-requires c κs = let p = c .before .before .before .before .pre in (p .room, p .short, p .none)
+next-requires : tie.Need-next-requires
+next-requires c κs = let p = c .before .before .before .before .pre in (p .room, p .short, p .none)
 
 cast-result : tie.Need-cast-result
 cast-result c = search needs
@@ -31,10 +31,10 @@ add-result-2 : tie.Need-add-result-2
 add-result-2 c = search needs
 
 returns-2 : tie.Need-returns-2
-returns-2 c = first-whole _ _ _ _ _ (c .before .before .above .ensures) (c .before .whole .ensures) (not-false _ (c .before .before .before .if1 .left)) (c .if2 .taken)
+returns-2 c = first-whole _ _ _ _ _ (c .before .before .above .ensures) (c .before .next .ensures) (not-false _ (c .before .before .before .if1 .left)) (c .if2 .taken)
 
 returns-3 : tie.Need-returns-3
-returns-3 c = first-torn _ _ _ _ _ (c .before .before .above .ensures) (c .before .whole .ensures) (not-false _ (c .before .before .before .if1 .left)) (c .if2 .left)
+returns-3 c = first-torn _ _ _ _ _ (c .before .before .above .ensures) (c .before .next .ensures) (not-false _ (c .before .before .before .if1 .left)) (c .if2 .left)
 
 pub first-spec : {M : Type 1} → statement M
 first-spec =
@@ -42,7 +42,7 @@ first-spec =
     (tie.spec
     returns
     above-requires
-    whole-requires
+    next-requires
     cast-result
     add-result
     cast-result-2

@@ -1,6 +1,6 @@
 -- `index::section::highest` meets its contract. The loop keeps: the highest number of the slots passed.
 use mathlib.Core.Path.{_≡_, refl, sym, ap, _∙_}
-use Prim.Native.Nat.{ℕ, _+_, _*_, _-_, _≤_}
+use Prim.Native.Nat.{ℕ, _+_, _*_, _-_, _≤_, _<_}
 use mathlib.Core.Bool.{cond}
 use mathlib.Core.List.{List}
 use native.Mathlib.Nat.{sub-zero, mul-zero, add-zero}
@@ -10,7 +10,9 @@ use lib.ListN.{length}
 use denote.Ref.{now}
 use Rattle.laws.proofs.Parts.{part-lent}
 use Rattle.model.specs.Bytes.{le, field, part}
-use Rattle.model.specs.Checksum.{sealed}
+use borrow.Author.Tests.{ltb-true}
+use Rattle.laws.proofs.Checksums.{run-sealed}
+use Rattle.model.specs.Checksum.{sealed, sealedRun}
 use Rattle.index.specs.Section.{highestAt}
 use Rattle.index.proofs.Sections.{none, one-more, step-on, turn}
 use Rattle.index.proofs.section.highest.Statement.{statement}
@@ -21,14 +23,14 @@ use Rattle.index.proofs.section.larger.Reads as larger-reads
 use Rattle.index.proofs.section.number.Reads as number-reads
 
 abbrev Inv-loop : tie.InvT-loop
-Inv-loop v at n most k₀ from₀ top₀ k from top =
+Inv-loop v at n most front k₀ from₀ top₀ k from top =
     (k ≤ most) × (from + (n + 4) * (most - k) ≤ length v) × (from ≡ at + (n + 4) * k) × (top ≡ highestAt n v at k)
 
 abbrev μ-loop : tie.MeasureT-loop
-μ-loop v at n most k₀ from₀ top₀ k from top = most - k
+μ-loop v at n most front k₀ from₀ top₀ k from top = most - k
 
 loop-holds : tie.Need-loop-holds Inv-loop μ-loop
-loop-holds c = (search needs, rw sub-zero (c .before .pre .0), omega arith, none _ _ _)
+loop-holds c = (search needs, rw sub-zero (c .before .pre .0 .0), omega arith, none _ _ _)
 
 add-end : tie.Need-add-end Inv-loop μ-loop
 add-end c = search needs
@@ -48,7 +50,12 @@ part-number-end c =
     omega (arith, turn (a .n + 4) (a .most) (c .before .loop .k) (c .loop-test .taken))
 
 number-requires : tie.Need-number-requires Inv-loop μ-loop
-number-requires c κs = search needs
+number-requires c κs t =
+    let a = c .before .before .before .before .args in
+    let l = c .before .before .loop in
+    let v = now (a .v) in
+    let h : l .k < sealedRun (a .n) (a .most) v (a .at) = rw (c .before .before .before .before .pre .1) at (ltb-true (l .k) (a .front) t) in
+    ap (sealed (a .n)) (part-lent v (l .from) (a .n + 4) _ refl) ∙ ap (λ (x : ℕ). sealed (a .n) (part v x (a .n + 4))) (l .inv .2) ∙ run-sealed (a .n) v (a .most) (a .at) (l .k) h
 
 larger-requires : tie.Need-larger-requires Inv-loop μ-loop
 larger-requires c κs = search needs

@@ -1,0 +1,50 @@
+-- `codec::field::eight` meets its contract.
+use borrow.Author.Needs.{needs}
+use denote.Ref.{now}
+use native.Mathlib.Omega.{arith}
+use Rattle.laws.proofs.Fields.{field-add}
+use Rattle.codec.proofs.field.eight.Statement.{statement}
+use Rattle.codec.proofs.field.eight.Tie as tie
+use Rattle.codec.proofs.field.eight.Reads as reads
+use Rattle.codec.proofs.field.eight.Lts as lts
+use Rattle.codec.proofs.field.four.Reads as four-reads
+use Rattle.codec.proofs.field.wide32.Reads as wide32-reads
+
+four-requires : tie.Need-four-requires
+four-requires c κs = search needs
+
+wide32-requires : tie.Need-wide32-requires
+wide32-requires c κs = search needs
+
+add-four : tie.Need-add-four
+add-four c = search needs
+
+four-requires-2 : tie.Need-four-requires-2
+four-requires-2 c κs = search needs
+
+wide32-requires-2 : tie.Need-wide32-requires-2
+wide32-requires-2 c κs = search needs
+
+mul-result : tie.Need-mul-result
+mul-result c = search needs
+
+add-result : tie.Need-add-result
+add-result c = search needs
+
+returns : tie.Need-returns
+returns c =
+    let a = c .before .before .before .before .before .args in
+    omega (arith, field-add 4 4 (a .at) (now (a .s)), c .wide322 .ensures .0, c .before .four2 .ensures, c .before .before .wide32 .ensures .0, c .before .before .before .four .ensures)
+
+pub eight-spec : {M : Type 1} → statement M
+eight-spec =
+    tie.close
+    (tie.spec
+    four-requires
+    wide32-requires
+    add-four
+    four-requires-2
+    wide32-requires-2
+    mul-result
+    add-result
+    returns)

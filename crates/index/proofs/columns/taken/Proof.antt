@@ -1,0 +1,26 @@
+-- `index::columns::taken` meets its contract.
+use borrow.Author.Needs.{needs}
+use mathlib.Core.Logic.{_≢_}
+use Prim.Native.Nat.{ℕ, _≤_}
+use native.Mathlib.Omega.{arith}
+use borrow.Author.Tests.{le-leb}
+use Rattle.index.proofs.columns.taken.Statement.{statement}
+use Rattle.index.proofs.columns.taken.Tie as tie
+use Rattle.index.proofs.columns.taken.Reads as reads
+use Rattle.index.proofs.columns.taken.Lts as lts
+use Rattle.index.proofs.columns.used.Reads as used-reads
+
+lower : (n : ℕ) → n ≢ 0 → 1 ≤ n
+lower n h = omega arith
+
+returns : tie.Need-returns
+returns c = rw (c .if1 .taken)
+
+used-requires : tie.Need-used-requires
+used-requires c κs = search needs
+
+returns-2 : tie.Need-returns-2
+returns-2 c = rw (c .used .ensures, le-leb 1 _ (lower _ (c .before .if1 .left)))
+
+pub taken-spec : {M : Type 1} → statement M
+taken-spec = tie.close (tie.spec returns used-requires returns-2)
