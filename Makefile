@@ -25,8 +25,9 @@ STATICLIB = python3 tools/prove.py staticlib
 # make archive VOLUME=file    the volume's log archive, to standard output
 # make unarchive ARCHIVE=file   what a log archive holds: a line a page
 # make mirror FIRST=file SECOND=file   two volumes' logs held against each other
-.PHONY: scan forecast archive unarchive mirror scan-program demo-check
-export VOLUME ARCHIVE FIRST SECOND
+# make carry VOLUME=file OUT=file   a volume carried over to the second heading, as a new file; what was done is told
+.PHONY: scan forecast archive unarchive mirror carry scan-program demo-check
+export VOLUME ARCHIVE FIRST SECOND OUT
 # The file that a target is given by name, as VOLUME=file.
 define GIVEN
 @test -n "$${$(1):-}" || { echo "say which file: make $@ $(1)=file"; exit 2; }
@@ -54,6 +55,14 @@ forecast:
 	@$(CHECK) forecast
 	@./target/bin/forecast < "$$VOLUME"
 
+carry:
+	$(call GIVEN,VOLUME)
+	@test -n "$${OUT:-}" || { echo "say where to: make carry VOLUME=file OUT=file"; exit 2; }
+	@test ! -e "$$OUT" || { echo "make carry: there is a file $$OUT already"; exit 2; }
+	@$(CHECK) carry
+	@./target/bin/carry < "$$VOLUME" > "$$OUT.part"
+	@if test -s "$$OUT.part"; then mv "$$OUT.part" "$$OUT"; else rm "$$OUT.part"; exit 1; fi
+
 # What is said of the proof goes to standard error: the archive alone is standard output.
 archive:
 	$(call GIVEN,VOLUME)
@@ -71,6 +80,13 @@ mirror:
 	@$(CHECK) mirror
 	@./target/bin/mirror "$$FIRST" "$$SECOND"
 
+# make rehearse [LIST=file]   frames and backup habits tried on the two lists, or on a list of events of one's own
+.PHONY: rehearse
+rehearse:
+	@$(CHECK) rehearse
+	@echo
+	@./target/bin/rehearse < "$${LIST:-/dev/null}"
+
 # make demo-check         the program on the sample volumes against what it must print, the room left on standard error
 demo-check: scan-program
 	@for name in demo demo-first turned; do \
@@ -83,6 +99,14 @@ demo-check: scan-program
 	    && cmp target/demo.arc crates/unarchive/stdin && cmp samples/demo.vol crates/archive/stdin
 	@python3 tools/sample.py mirror target/mirror.vol && cmp target/mirror.vol crates/mirror/data/mirror.vol \
 	    && cmp samples/demo.vol crates/mirror/data/ward.vol
+
+# make carry-check        the sample volume of the first heading carried over is that of the second, byte by byte
+.PHONY: carry-check
+carry-check:
+	@$(CHECK) carry
+	@./target/bin/carry < samples/demo-first.vol 2> target/carried.txt | cmp - samples/demo.vol
+	@printf 'RESTAMPED 4\nFAILING 4\n' | diff target/carried.txt -
+	@./target/bin/carry < samples/demo.vol 2>&1 | diff - <(echo REFUSED 1)
 
 # make c-test             the C functions: K6 to K12, every refusal, full, smallest and random volumes, the stack they take
 # make example-check      the program that README quotes, on the sample volume, against what it must print
@@ -97,9 +121,7 @@ inspect-library:
 
 c-test: inspect-library
 	@$(CC_TEST) tests/c/inspect_test.c tests/c/volume.c target/staticlib/libinspect.a -o target/c/inspect_test
-	@$(CC_TEST) -pthread tests/c/stack_test.c tests/c/volume.c target/staticlib/libinspect.a -o target/c/stack_test
 	@./target/c/inspect_test
-	@./target/c/stack_test
 	@$(STATICLIB) estimate
 	@$(call C_TEST,forecast,estimate inspect)
 	@$(STATICLIB) export
@@ -107,6 +129,9 @@ c-test: inspect-library
 	@$(call C_TEST,archive,export extract inspect)
 	@$(STATICLIB) compare
 	@$(call C_TEST,compare,compare inspect)
+	@$(CC_TEST) -pthread tests/c/stack_test.c tests/c/volume.c \
+	    $(patsubst %,target/staticlib/lib%.a,inspect estimate export extract compare) -o target/c/stack_test
+	@./target/c/stack_test
 
 example-check: inspect-library
 	@$(CC_TEST) examples/show.c target/staticlib/libinspect.a -o target/c/show

@@ -74,7 +74,7 @@ static bool zeros(const uint8_t *s, size_t n) {
 /* ---- the volume */
 
 static bool opened(struct volume *v, const uint8_t *s, size_t len) {
-    if (len < 20 || memcmp(s, "CHP", 3) || (s[3] != 'V' && s[3] != '2')) return false;
+    if (len < 20 || memcmp(s, "CHP", 3) || !strchr("V2C", s[3]) || !s[3]) return false;
     v->at = s;
     v->tag = s[3];
     size_t at = 4;
@@ -98,7 +98,8 @@ static const uint8_t *record_of(const struct volume *v, uint32_t n) {
 
 static bool valid_image(const struct volume *v, uint32_t page, const uint8_t *x) {
     if (two(x) != page || two(x + 2)) return false;
-    return (v->tag == 'V' ? peer_checksum(x, 252) : peer_byte_sum(x, 252)) == four(x + 252);
+    uint32_t sum = four(x + 252);
+    return (v->tag != '2' && peer_checksum(x, 252) == sum) || (v->tag != 'V' && peer_byte_sum(x, 252) == sum);
 }
 
 /* ---- the scans */

@@ -77,7 +77,7 @@ def defined_orders():
         words = re.findall(r"\b(\w+)Rows\b|, (\d+)\)", body)
         return list(itertools.chain(*(numbers(bodies[other]) if other else [int(n)] for other, n in words)))
 
-    own = {CALLED.get(name, name): body for name, body in bodies.items() if name not in SHARED}
+    own = {CALLED.get(name, name.lower()): body for name, body in bodies.items() if name not in SHARED}
     return {name: list(dict.fromkeys(numbers(body))) for name, body in own.items()}
 
 

@@ -22,7 +22,7 @@ BEFORE = [
 ]
 AFTER = [
     ("layout of the sources (rt fmt --check)", ["rt", "fmt", "--check"]),
-    ("the program on the sample volume", make("demo-check")),
+    ("the programs on the sample volumes", make("demo-check", "carry-check")),
     ("README's example; the C function: cases, refusals, full volumes, stack", make("example-check", "c-test")),
     ("the second implementation: tests and plain book", make("reference-test")),
     ("the C function against the second implementation", make("against")),

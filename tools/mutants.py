@@ -36,12 +36,14 @@ use lib.Dec.{T}
 use lib.Text.{eqt}
 use Rattle.cases.specs.Opened.{opened}
 use Rattle.cases.specs.Rows.{Row, same}
-use Rattle.cases.specs.All.{rows, diskRows, callRows, laterRows}
+use Rattle.cases.specs.All.{rows, diskRows, callRows, laterRows, carryRows, allHistories}
 use Rattle.cases.specs.Forecasts.{forecastRows}
 use Rattle.cases.specs.Archives.{archiveRows}
 use Rattle.cases.specs.Mirrors.{mirrorRows}
 use Rattle.cases.specs.Neighbours.{neighbourRows}
 use Rattle.cases.specs.Rehearsals.{rehearsalCases, rehearsalRuns}
+use Rattle.cases.specs.Carried.{carriedRows}
+use Rattle.cases.specs.CarriedEvents.{carriedEvents}
 use Rattle.cases.specs.Worked.{Worked, computes}
 use Rattle.cases.specs.Histories.{histories}
 
@@ -55,7 +57,10 @@ history n [] = true
 history n (w ∷ ws) = let rest = history n ws in let here = cond (computes w) rest false in cond (eqt (w .name) n) here rest
 """
 # what a row's test unfolds: the table's parts, and all that they compute with
-OPENED = "opened rows diskRows callRows laterRows forecastRows archiveRows mirrorRows neighbourRows rehearsalCases rehearsalRuns histories"
+OPENED = (
+    "opened rows diskRows callRows laterRows forecastRows archiveRows mirrorRows neighbourRows "
+    "rehearsalCases rehearsalRuns carryRows carriedRows carriedEvents histories allHistories"
+)
 # errors that say that an edit is no definition, and nothing of what it means
 NOT_READ = re.compile(
     r"Parse|cannot be named|not in scope|unknown name|was not admitted|cannot be unfolded|has no `|components"
@@ -111,7 +116,7 @@ def copy(crate, to):
 def write_probe(to, rows, names):
     text = PROBE
     for i, name in enumerate(names):
-        kind, of = ("row", "rows") if name in rows else ("history", "histories")
+        kind, of = ("row", "rows") if name in rows else ("history", "allHistories")
         text += f'\ncaught-{i} : T ({kind} "{name}" {of})\nunfolding {OPENED} {kind}\ncaught-{i} = tt\n'
     (to / "crates/cases/proofs/Probe.antt").write_text(text)
 

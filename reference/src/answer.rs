@@ -27,6 +27,8 @@ pub enum Refusal {
     LogBroken = 17,
     NotesBroken = 18,
     ChainBroken = 19,
+    /// Images are left that pass by the old sum only.
+    ImagesLeft = 20,
     ArchiveBuffer = 21,
     ArchiveBroken = 22,
     BelowRun = 23,
@@ -73,7 +75,7 @@ pub struct Rebuild {
 #[derive(Clone, Copy, Debug, PartialEq, Eq)]
 pub enum Answer {
     Done,
-    /// Force, Write or Note had nothing to store.
+    /// Force, Write, Note or Restamp had nothing to store.
     Nothing,
     Rebuilt(Rebuild),
     /// A hash of the figures.

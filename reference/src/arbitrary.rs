@@ -1,6 +1,7 @@
 //! Generator of arbitrary volumes, memories and states, as mutations of valid ones.
 
 use crate::bytes::put_u32;
+use crate::carry_episodes;
 use crate::cell::{Call, Cell, Op, MAX_CELLS};
 use crate::choose::Kind;
 use crate::edge_episodes;
@@ -17,7 +18,7 @@ use crate::world::World;
 /// A mutation and the calls that look at it.
 pub type Episode = fn(&mut World, &mut Rng);
 
-const EPISODES: [(Episode, usize); 19] = [
+const EPISODES: [(Episode, usize); 21] = [
     (episodes::wrong_length, 5),
     (episodes::wrong_heading, 5),
     (episodes::other_heading, 4),
@@ -35,6 +36,8 @@ const EPISODES: [(Episode, usize); 19] = [
     (item_episodes::edited_memory, 8),
     (item_episodes::dirty_tail, 4),
     (item_episodes::copied_item, 6),
+    (carry_episodes::carried_images, 3),
+    (carry_episodes::carry_calls, 1),
     (episodes::silly_calls, 6),
     (episodes::odd_cells, 2),
 ];
@@ -121,7 +124,7 @@ fn counts_out_of_range(world: &mut World, rng: &mut Rng) {
     let length = notes_at + 4 + 16 * notes + rng.pick(&[0, 0, 0, 1]);
     let script = &mut world.script;
     script.sizes(length, script.driver.memory_len, 256);
-    let heading = rng.pick(&Heading::ALL);
+    let heading = rng.pick(&Heading::MADE);
     script.call(Call::Make { heading, counts: counts.map(|count| count as u32) });
     script.emit(Op::Fill { target: 0, byte: 0 });
     if length > script.driver.volume.len() {

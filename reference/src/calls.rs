@@ -1,4 +1,4 @@
-//! The ten calls. Each checks its refusals in the table's order, then acts.
+//! Document 01's calls, and Release. Each checks its refusals in the table's order, then acts.
 
 use crate::answer::{Answer, Class, Refusal};
 use crate::geometry::{frame_count, frame_place, pending_place, Geometry, IMAGE_LEN, MAX_PENDING};
@@ -10,7 +10,7 @@ use crate::restart::recover;
 use crate::state::{Frame, State};
 use crate::walk::rebuild;
 
-type Next = Result<(State, Answer), Refusal>;
+pub type Next = Result<(State, Answer), Refusal>;
 
 /// Writes heading, counts (P, B, L, N) and zeros.
 pub fn make(volume: &mut [u8], heading: Heading, counts: [u32; 4]) -> Answer {
@@ -229,12 +229,12 @@ impl State {
     }
 
     /// The state after a call: as it was if the call is refused.
-    fn settle(self, next: Next) -> (State, Answer) {
+    pub fn settle(self, next: Next) -> (State, Answer) {
         next.unwrap_or_else(|refusal| (self, Answer::Refused(refusal)))
     }
 
     /// Refusals 1 and 2; gives the geometry and F.
-    fn admit(&self, volume: &[u8], memory: &[u8]) -> Result<(Geometry, usize), Refusal> {
+    pub fn admit(&self, volume: &[u8], memory: &[u8]) -> Result<(Geometry, usize), Refusal> {
         let geometry = Geometry::read(volume)?;
         let frames = frame_count(memory.len()).ok_or(Refusal::Lent)?;
         ensure(self.is_sound(&geometry, frames), Refusal::Lent)?;
@@ -285,7 +285,7 @@ impl State {
     }
 }
 
-fn ensure(holds: bool, refusal: Refusal) -> Result<(), Refusal> {
+pub fn ensure(holds: bool, refusal: Refusal) -> Result<(), Refusal> {
     holds.then_some(()).ok_or(refusal)
 }
 

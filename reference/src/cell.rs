@@ -52,6 +52,9 @@ pub enum Call {
     Release {
         page: u16,
     },
+    Start,
+    Restamp,
+    Finish,
     Forecast,
     /// The length of the volume's archive.
     Length,
@@ -97,8 +100,8 @@ impl Call {
     /// The op number of the script format.
     pub fn code(&self) -> u8 {
         match self {
-            Call::Make { heading: Heading::Second, .. } => 1,
             Call::Make { heading: Heading::First, .. } => 21,
+            Call::Make { .. } => 1,
             Call::Restart => 2,
             Call::Begin { .. } => 3,
             Call::Load { .. } => 4,
@@ -109,6 +112,9 @@ impl Call {
             Call::Note => 9,
             Call::Inspect { .. } => 10,
             Call::Release { .. } => 17,
+            Call::Start => 18,
+            Call::Restamp => 19,
+            Call::Finish => 20,
             Call::Forecast => 22,
             Call::Length => 23,
             Call::Archive => 24,
@@ -144,6 +150,9 @@ pub fn decode(cell: &Cell) -> Op {
         9 => Call::Note,
         10 => Call::Inspect { page },
         17 => Call::Release { page },
+        18 => Call::Start,
+        19 => Call::Restamp,
+        20 => Call::Finish,
         22 => Call::Forecast,
         23 => Call::Length,
         24 => Call::Archive,

@@ -4,6 +4,7 @@ use crate::answer::{Answer, Class, Refusal};
 use crate::book::Book;
 use crate::bytes::all_zero;
 use crate::cell::Call;
+use crate::check_carry::BeforeCarry;
 use crate::check_inspect::same;
 use crate::check_pair::check_pair;
 use crate::check_rehearse::check_rehearsal;
@@ -11,14 +12,14 @@ use crate::check_ring::RingView;
 use crate::check_same::{check_left, held_pages, pushes_out, Held};
 use crate::compare::Comparison;
 use crate::geometry::{frame_count, frame_place};
-use crate::history::{choose_geometry, choose_ring, Style};
+use crate::history::{choose_carried, choose_geometry, choose_ring, Style};
 use crate::image::CHECKSUM;
 use crate::note::NoteKind;
 use crate::restart::recover;
 use crate::rng::Rng;
 use crate::script::Script;
 use crate::state::{IndexEntry, State};
-use crate::world::{Event, Outcome, World};
+use crate::world::{Event, Left, Outcome, World};
 
 /// Inspecting all pages is put off in large geometries: one event in so much work.
 const WORK_PER_EVENT: usize = 2_000;
@@ -31,14 +32,17 @@ pub struct Checker {
     notes: Vec<(u16, NoteKind)>,
     notes_base: u32,
     damaged: bool,
+    restamped: usize,
+    finished: usize,
 }
 
 /// Runs the history of a seed; an error tells the contradiction and the events before it.
 pub fn check_history(seed: u64) -> Result<Counts, String> {
     let mut rng = Rng::new(seed);
-    let geometry = match rng.chance(400) {
-        true => choose_ring(&mut rng),
-        false => choose_geometry(&mut rng),
+    let geometry = match rng.below(10) {
+        0..=2 => choose_ring(&mut rng),
+        3..=5 => choose_carried(&mut rng),
+        _ => choose_geometry(&mut rng),
     };
     let style = Style::choose(&mut rng);
     let world = World::make(Script::default(), geometry, rng.byte());
@@ -63,6 +67,9 @@ pub struct Counts {
     /// Histories in which record 1 has left the log, and pages beyond repair at their ends.
     pub turned: usize,
     pub lost: usize,
+    /// Images restamped, and volumes carried over to the end.
+    pub restamped: usize,
+    pub finished: usize,
     /// How the logs of the history and of one that followed it compared.
     pub pairs: Vec<Comparison>,
     /// Lists of events whose real calls were all taken.
@@ -75,6 +82,8 @@ impl Counts {
         self.kept += other.kept;
         self.turned += other.turned;
         self.lost += other.lost;
+        self.restamped += other.restamped;
+        self.finished += other.finished;
         self.pairs.extend(&other.pairs);
         self.rehearsed += other.rehearsed;
     }
@@ -89,6 +98,8 @@ impl Checker {
             notes: Vec::new(),
             notes_base: 0,
             damaged: false,
+            restamped: 0,
+            finished: 0,
         }
     }
 
@@ -97,6 +108,7 @@ impl Checker {
         self.events.push(event.clone());
         let owed = self.world.script.driver.state.owed;
         let held = held_pages(&self.world);
+        let carry = BeforeCarry::take(&self.world, &event);
         let outcome = self.world.apply(&event);
         self.feed(&event, &outcome);
         let noted = match event {
@@ -110,17 +122,29 @@ impl Checker {
         self.check_answer(&event, &outcome, waiting_before)
             .and_then(|()| self.check_live())
             .and_then(|()| self.check_left(&event, &outcome, &held))
+            .and_then(|()| {
+                carry.map_or(Ok(()), |before| before.check(&self.world, &event, &outcome))
+            })
             .and_then(|()| if inspect_all { self.inspect_all() } else { Ok(()) })
             .map_err(|text| self.report(&text))
     }
 
     fn feed(&mut self, event: &Event, outcome: &Outcome) {
+        if outcome.left_new || outcome.answer == Some(Answer::Done) {
+            self.restamped += usize::from(event.call() == Some(&Call::Restamp));
+            self.finished += usize::from(event.call() == Some(&Call::Finish));
+        }
         match event {
             Event::Call(call) => {
                 let refused = outcome.answer.is_some_and(|answer| answer.is_refused());
                 self.book.call(call, refused);
             }
-            Event::Cut { within, .. } => self.book.cut(within.as_ref(), outcome.left_new),
+            Event::Cut { within, left } => {
+                self.book.cut(within.as_ref(), outcome.left_new);
+                // A backup may be lost by it as by damage.
+                let torn = matches!((within, left), (Some(Call::Restamp), Left::Torn(_)));
+                self.damaged = self.damaged || torn;
+            }
             Event::Lend { .. } => {}
             Event::Damage { .. } => self.damaged = true,
             Event::Lift(lift) => {
@@ -139,7 +163,11 @@ impl Checker {
         let memory_fits = frame_count(self.world.script.driver.memory_len).is_some();
         let broken = match answer {
             Answer::Refused(Refusal::Lent) => *call != Call::Restart || memory_fits,
-            Answer::Refused(refusal) => matches!(refusal.number(), 1 | 17..=19),
+            // Each of these has its own heading.
+            Answer::Refused(Refusal::Volume) => {
+                !matches!(call, Call::Start | Call::Restamp | Call::Finish)
+            }
+            Answer::Refused(refusal) => matches!(refusal.number(), 17..=19),
             _ => false,
         };
         ensure(!broken, || format!("a history made {call:?} answer {answer}"))?;
@@ -236,6 +264,8 @@ impl Checker {
             kept: self.book.kept.len(),
             turned: ring.gone().into(),
             lost: pages.filter(|&page| ring.beyond_repair(page)).count(),
+            restamped: self.restamped,
+            finished: self.finished,
             ..Counts::default()
         }
     }

@@ -4,9 +4,11 @@ use crate::answer::{Answer, Class, Rebuild, Refusal, Start};
 use crate::book::Replay;
 use crate::bytes::{u16_at, u32_at};
 use crate::calls::inspect;
+use crate::carrying::sums;
 use crate::check::{ensure, Checker};
 use crate::check_archive::{check_archive, check_read_back};
 use crate::check_forecast::{check_figure, check_forecast};
+use crate::heading::Heading;
 use crate::image::BODY;
 
 impl Checker {
@@ -32,7 +34,7 @@ impl Checker {
                 }
                 (Answer::Rebuilt(rebuild), replay @ Some(_)) => {
                     same(&buffer, replay, "Inspect", page)?;
-                    ensure(self.world.item_sealed(&buffer), || "Inspect set no checksum".into())?;
+                    ensure(self.newly_sealed(&buffer), || "Inspect set no checksum".into())?;
                     self.check_rebuild(page, &rebuild, &buffer)?;
                 }
                 (answer, replay) => {
@@ -42,6 +44,14 @@ impl Checker {
             }
         }
         Ok(())
+    }
+
+    /// Whether an image has the sum of new ones: words under the first heading, else bytes.
+    fn newly_sealed(&self, image: &[u8]) -> bool {
+        match self.world.geometry.heading {
+            Heading::First => sums(image).words,
+            _ => sums(image).bytes,
+        }
     }
 
     /// Class, start and count replayed, told from the book, the own image and the notes.

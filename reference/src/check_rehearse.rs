@@ -54,7 +54,7 @@ fn choose_room(model: &Rehearsal, rng: &mut Rng) -> Geometry {
     let (records, notes, backed_up) = wanted(model);
     let last_page = (1..=MAX_PAGES).rev().find(|page| model[page - 1].records > 0).unwrap_or(1);
     let (heading, records, notes) = match rng.chance(500) {
-        true => (rng.pick(&Heading::ALL), records.max(1), notes),
+        true => (rng.pick(&Heading::MADE), records.max(1), notes),
         false => (Heading::Second, rng.between(2, records.max(2)), rng.between(0, notes)),
     };
     let counts = [last_page, backed_up + 1, records, notes.min(1024)].map(|count| count as u32);

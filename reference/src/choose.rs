@@ -20,6 +20,9 @@ pub enum Kind {
     Release,
     Forecast,
     Length,
+    Start,
+    Restamp,
+    Finish,
 }
 
 /// What the choice of arguments looks at.
@@ -60,6 +63,9 @@ impl Chooser<'_> {
             Kind::Release => Call::Release { page: self.page(rng, |page| self.releasable(page)) },
             Kind::Forecast => Call::Forecast,
             Kind::Length => Call::Length,
+            Kind::Start => Call::Start,
+            Kind::Restamp => Call::Restamp,
+            Kind::Finish => Call::Finish,
         }
     }
 

@@ -2,11 +2,13 @@
 
 use crate::answer::{Answer, Refusal};
 use crate::cell::{decode, Call, Cell, Op};
+use crate::coverage_carry::{carry_cases, carry_targets};
 use crate::coverage_reading::{cases, mirror_targets, reading_targets, rehearse_targets};
 use crate::coverage_table::{is_reading, name_of, ROWS};
 use crate::driver::Driver;
 use crate::fault::Fault;
 use crate::geometry::{frame_count, Geometry};
+use crate::heading::Heading;
 use crate::restart::recover;
 use crate::sound::clause_names;
 use crate::state::State;
@@ -84,6 +86,7 @@ pub fn sought(kind: &str) -> Option<BTreeSet<Hit>> {
         "reading" => Some(reading_targets()),
         "mirror" => Some(mirror_targets()),
         "rehearse" => Some(rehearse_targets()),
+        "carrying" => Some(carry_targets()),
         _ => None,
     }
 }
@@ -106,6 +109,7 @@ pub fn hits(cells: &[Cell]) -> BTreeSet<Hit> {
             continue;
         };
         let state = driver.state;
+        let before = has_third_heading_or_carries(&driver, &call).then(|| driver.trial());
         let answer = driver.call(&call);
         all.insert((name_of(&call), label(&answer.to_string())));
         let behind = match answer {
@@ -115,9 +119,16 @@ pub fn hits(cells: &[Cell]) -> BTreeSet<Hit> {
             }
             _ => Vec::new(),
         };
-        all.extend(behind.into_iter().map(|cause| (CAUSE, cause)));
+        let carried = before.map_or(Vec::new(), |before| carry_cases(&before, &call, &answer));
+        all.extend(behind.into_iter().chain(carried).map(|cause| (CAUSE, cause)));
     }
     all
+}
+
+/// Whether a call's cases need the driver as it was.
+fn has_third_heading_or_carries(driver: &Driver, call: &Call) -> bool {
+    Heading::read(driver.volume()) == Some(Heading::Carrying)
+        || matches!(call, Call::Start | Call::Restamp | Call::Finish)
 }
 
 /// What is behind a refusal by volume, state, log, notes or chain. An unsound state counts

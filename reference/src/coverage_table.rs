@@ -52,6 +52,13 @@ pub const ROWS: &[Row] = &[
     Row { name: "release", refusals: &[1, 2, 3, 8, 10], answers: OK },
 ];
 
+/// The calls that carry a volume from the first heading to the second.
+pub const CARRY_ROWS: &[Row] = &[
+    Row { name: "start", refusals: &[1, 2], answers: OK },
+    Row { name: "restamp", refusals: &[1, 2], answers: OK_OR_NOTHING },
+    Row { name: "finish", refusals: &[1, 2, 20], answers: OK },
+];
+
 /// The calls that take a volume or an archive but no state.
 pub const READING_ROWS: &[Row] = &[
     Row { name: "forecast", refusals: &[1, 17, 18], answers: &["FORECAST"] },
@@ -81,8 +88,8 @@ pub fn is_reading(call: &Call) -> bool {
 /// The name of a call in the tables.
 pub fn name_of(call: &Call) -> &'static str {
     match call {
-        Call::Make { heading: Heading::Second, .. } => "make",
         Call::Make { heading: Heading::First, .. } => "makefirst",
+        Call::Make { .. } => "make",
         Call::Restart => "restart",
         Call::Begin { .. } => "begin",
         Call::Load { .. } => "load",
@@ -93,6 +100,9 @@ pub fn name_of(call: &Call) -> &'static str {
         Call::Note => "note",
         Call::Inspect { .. } => "inspect",
         Call::Release { .. } => "release",
+        Call::Start => "start",
+        Call::Restamp => "restamp",
+        Call::Finish => "finish",
         Call::Forecast => "forecast",
         Call::Length => "length",
         Call::Archive => "archive",

@@ -1,6 +1,6 @@
 //! Damage and torn writes, as far as document 01 allows them.
 
-use crate::bytes::u16_at;
+use crate::carrying::belongs;
 use crate::geometry::IMAGE_LEN;
 use crate::heading::Heading;
 use crate::image::set_image_lsn;
@@ -47,19 +47,9 @@ fn failing_image(world: &World, noted: &State, place: Place, rng: &mut Rng) -> V
     vec![0; IMAGE_LEN]
 }
 
-/// Whether an image passes in a place, the index being what the volume's notes give. Told
-/// apart from the store's own test, which it is to contradict.
+/// Whether an image passes in a place, the index being what the volume's notes give.
 fn passes_in(world: &World, noted: &State, place: Place, image: &[u8]) -> bool {
-    let page = u16_at(image, 0);
-    let in_range = (1..=world.geometry.pages).contains(&usize::from(page));
-    let page_right = match place {
-        Place::Page(own) => page == own,
-        Place::Slot(slot) => {
-            let owner = noted.index.iter().position(|entry| u16::from(entry.backup_slot) == slot);
-            owner.map_or(in_range, |at| usize::from(page) == at + 1)
-        }
-    };
-    world.item_sealed(image) && page_right && image[2..4] == [0, 0]
+    world.item_sealed(image) && belongs(world, noted, place, image)
 }
 
 /// The place's image with something wrong; a sealed image is among the choices.
@@ -74,11 +64,11 @@ fn spoiled(world: &World, noted: &State, place: Place, rng: &mut Rng) -> Vec<u8>
         }
         3 => {
             bytes[2 + rng.below(2)] = rng.byte() | 1;
-            rng.pick(&Heading::ALL).seal_image(&mut bytes);
+            rng.pick(&Heading::MADE).seal_image(&mut bytes);
         }
         4 => {
             bytes[0] = rng.pick(&[0, world.geometry.pages as u8 + 1, bytes[0].wrapping_add(1)]);
-            rng.pick(&Heading::ALL).seal_image(&mut bytes);
+            rng.pick(&Heading::MADE).seal_image(&mut bytes);
         }
         // A forged image of any page, at a number near those given.
         _ => {
@@ -86,7 +76,7 @@ fn spoiled(world: &World, noted: &State, place: Place, rng: &mut Rng) -> Vec<u8>
             bytes[..8].fill(0);
             bytes[0] = rng.between(1, world.geometry.pages) as u8;
             set_image_lsn(&mut bytes, rng.between(1, noted.durable as usize + 2) as u32);
-            rng.pick(&Heading::ALL).seal_image(&mut bytes);
+            rng.pick(&Heading::MADE).seal_image(&mut bytes);
         }
     }
     bytes

@@ -140,6 +140,9 @@ impl Driver {
             Call::Backup { page, slot } => state.backup(volume, memory, page, slot),
             Call::Note => state.note(volume, memory),
             Call::Release { page } => state.release(volume, memory, page),
+            Call::Start => state.start(volume, memory),
+            Call::Restamp => state.restamp(volume, memory),
+            Call::Finish => state.finish(volume, memory),
             _ => (state, self.read(call)),
         };
         self.state = state;

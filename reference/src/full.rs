@@ -36,7 +36,7 @@ pub fn full_script(rng: &mut Rng) -> Vec<Cell> {
 
 /// Begins all pages and changes them until the log has no room.
 fn fill_log(script: &mut Script, rng: &mut Rng) {
-    let heading = rng.pick(&Heading::ALL);
+    let heading = rng.pick(&Heading::MADE);
     let geometry = Geometry::new(heading, COUNTS).expect("the counts are in range");
     script.reset();
     script.sizes(geometry.volume_len(), memory_len_for(MAX_FRAMES), IMAGE_LEN);

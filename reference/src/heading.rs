@@ -8,16 +8,21 @@ pub const HEADING_LEN: usize = 4;
 pub enum Heading {
     /// Images sum 16-bit words.
     First,
+    /// From the first to the second: images pass by either sum, new ones get the byte sum.
+    Carrying,
     /// Images sum single bytes.
     Second,
 }
 
 impl Heading {
-    pub const ALL: [Heading; 2] = [Heading::First, Heading::Second];
+    pub const ALL: [Heading; 3] = [Heading::First, Heading::Carrying, Heading::Second];
+    /// Those that Make writes.
+    pub const MADE: [Heading; 2] = [Heading::First, Heading::Second];
 
     pub fn bytes(self) -> [u8; HEADING_LEN] {
         let last = match self {
             Heading::First => 0x56,
+            Heading::Carrying => 0x43,
             Heading::Second => 0x32,
         };
         [0x43, 0x48, 0x50, last]
@@ -30,11 +35,10 @@ impl Heading {
 
     /// Whether an image's last four bytes hold a sum that the heading takes.
     pub fn image_sealed(self, image: &[u8]) -> bool {
-        let at = image.len() - 4;
-        let (before, held) = (&image[..at], u32_at(image, at));
         match self {
-            Heading::First => held == checksum(before),
-            Heading::Second => held == byte_checksum(before),
+            Heading::First => sealed_by_words(image),
+            Heading::Carrying => sealed_by_words(image) || sealed_by_bytes(image),
+            Heading::Second => sealed_by_bytes(image),
         }
     }
 
@@ -43,8 +47,18 @@ impl Heading {
         let at = image.len() - 4;
         let sum = match self {
             Heading::First => checksum(&image[..at]),
-            Heading::Second => byte_checksum(&image[..at]),
+            Heading::Carrying | Heading::Second => byte_checksum(&image[..at]),
         };
         put_u32(image, at, sum);
     }
+}
+
+pub fn sealed_by_words(image: &[u8]) -> bool {
+    let at = image.len() - 4;
+    checksum(&image[..at]) == u32_at(image, at)
+}
+
+pub fn sealed_by_bytes(image: &[u8]) -> bool {
+    let at = image.len() - 4;
+    byte_checksum(&image[..at]) == u32_at(image, at)
 }

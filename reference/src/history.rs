@@ -1,16 +1,17 @@
 //! Generator of histories: calls, cuts, torn writes, damage and live restarts.
 
 use crate::answer::Answer;
+use crate::carrying::in_the_way_of_start;
 use crate::cell::{Call, Cell, MAX_CELLS};
 use crate::choose::{Chooser, Kind};
 use crate::damage::{choose_damage, torn};
-use crate::geometry::{memory_len_for, Geometry, MAX_FRAMES};
-use crate::heading::Heading;
+use crate::geometry::{memory_len_for, Geometry, IMAGE_LEN, MAX_FRAMES};
+use crate::heading::{Heading, HEADING_LEN};
 use crate::keeper::keeper_call;
 use crate::lift::Lift;
 use crate::rng::Rng;
 use crate::script::Script;
-use crate::world::{Event, Left, World};
+use crate::world::{Event, Left, Place, World};
 
 /// Tries for a call that does something.
 const TRIES: usize = 6;
@@ -24,6 +25,8 @@ pub struct Style {
     /// Calls of someone who keeps a ring turning.
     keep: usize,
     lift: usize,
+    /// Calls that carry a volume over, while it has not the second heading.
+    carry: usize,
     weights: Vec<(Kind, usize)>,
 }
 
@@ -36,6 +39,7 @@ impl Style {
             bad_memory: 100,
             keep: rng.pick(&[0, 400, 900]),
             lift: rng.pick(&[0, 0, 3]),
+            carry: rng.pick(&[0, 15, 60, 150]),
             weights: vec![
                 (Kind::Begin, rng.pick(&[6, 15])),
                 (Kind::Load, rng.pick(&[8, 20])),
@@ -72,6 +76,9 @@ impl Style {
             return self.revive(world, rng);
         }
         let call = self.call(world, rng);
+        if let Some(place) = start_in_the_way(world, &call) {
+            return Event::Damage { place, bytes: vec![0; IMAGE_LEN] };
+        }
         match rng.chance(self.cut) {
             true => cut(world, call, rng),
             false => Event::Call(call),
@@ -93,10 +100,28 @@ impl Style {
         Event::Call(Call::Restart)
     }
 
+    /// The next step of carrying the volume over, or any of the three; None once it is done.
+    fn carry_call(&self, world: &World, rng: &mut Rng) -> Option<Call> {
+        let steps: &[Call] = match world.geometry.heading {
+            _ if rng.chance(self.silly) => &[Call::Start, Call::Restamp, Call::Finish],
+            // Late enough for some images to be there.
+            Heading::First if rng.chance(750) => return None,
+            Heading::First => &[Call::Start],
+            Heading::Carrying => &[Call::Restamp, Call::Restamp, Call::Restamp, Call::Finish],
+            Heading::Second => return None,
+        };
+        Some(rng.pick(steps))
+    }
+
     /// A call; one that does nothing is mostly given up for another.
     fn call(&self, world: &World, rng: &mut Rng) -> Call {
         if world.geometry.is_ring() && rng.chance(self.keep) {
             return keeper_call(world, rng);
+        }
+        if rng.chance(self.carry) {
+            if let Some(call) = self.carry_call(world, rng) {
+                return call;
+            }
         }
         let chooser = chooser(world);
         for _ in 0..TRIES {
@@ -117,6 +142,12 @@ impl Style {
     }
 }
 
+/// What must first be damaged, where the call would start to carry the volume over.
+fn start_in_the_way(world: &World, call: &Call) -> Option<Place> {
+    let starts = *call == Call::Start && world.geometry.heading == Heading::First;
+    starts.then(|| in_the_way_of_start(world)).flatten()
+}
+
 /// A cut between calls or within this one.
 fn cut(world: &World, call: Call, rng: &mut Rng) -> Event {
     if rng.chance(150) {
@@ -124,7 +155,8 @@ fn cut(world: &World, call: Call, rng: &mut Rng) -> Event {
     }
     let left = match (rng.below(3), world.item_of(&call), world.item_after(&call)) {
         (0, Some(_), _) => Left::New,
-        (1, Some(item), Some(new)) => {
+        // A heading is stored whole or not at all.
+        (1, Some(item), Some(new)) if item.len() > HEADING_LEN => {
             let sealed = |bytes: &[u8]| world.item_sealed(bytes);
             Left::Torn(torn(&world.volume()[item], &new, sealed, rng))
         }
@@ -156,6 +188,14 @@ pub fn choose_ring(rng: &mut Rng) -> Geometry {
     Geometry::new(Heading::Second, counts).expect("the counts are in range")
 }
 
+/// Under the first heading, with counts that soon turn once the volume is carried over.
+pub fn choose_carried(rng: &mut Rng) -> Geometry {
+    let Geometry { pages, slots, records, notes, .. } = choose_ring(rng);
+    let records = if rng.chance(150) { 1 } else { records + rng.between(0, 6) };
+    let counts = [pages, slots, records, notes].map(|count| count as u32);
+    Geometry::new(Heading::First, counts).expect("the counts are in range")
+}
+
 /// Mostly a small geometry, sometimes any, rarely the full one.
 pub fn choose_geometry(rng: &mut Rng) -> Geometry {
     let counts = match rng.below(40) {
@@ -167,7 +207,7 @@ pub fn choose_geometry(rng: &mut Rng) -> Geometry {
         10..=15 => [rng.between(1, 5), rng.between(0, 5), rng.between(8, 40), rng.between(0, 15)],
         _ => [rng.between(1, 5), rng.between(1, 5), rng.between(20, 200), rng.between(10, 100)],
     };
-    let heading = rng.pick(&Heading::ALL);
+    let heading = rng.pick(&Heading::MADE);
     Geometry::new(heading, counts.map(|count| count as u32)).expect("the counts are in range")
 }
 

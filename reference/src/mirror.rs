@@ -118,6 +118,6 @@ pub fn other_geometry(geometry: &Geometry, records: usize, rng: &mut Rng) -> Geo
         false => rng.between(1, records + 1),
     };
     let counts = [pages, rng.between(0, pages + 2), room.clamp(1, 1024), rng.between(0, 20)];
-    let heading = rng.pick(&Heading::ALL);
+    let heading = rng.pick(&Heading::MADE);
     Geometry::new(heading, counts.map(|count| count as u32)).expect("the counts are in range")
 }

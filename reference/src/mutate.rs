@@ -27,7 +27,7 @@ pub fn edit_item(
 pub fn seal_item(bytes: &mut [u8], heading: Heading, rng: &mut Rng) {
     match bytes.len() {
         IMAGE_LEN if rng.chance(850) => heading.seal_image(bytes),
-        IMAGE_LEN => rng.pick(&Heading::ALL).seal_image(bytes),
+        IMAGE_LEN => rng.pick(&Heading::MADE).seal_image(bytes),
         _ => seal(bytes),
     }
 }

@@ -2,6 +2,7 @@
 
 use crate::arbitrary::{grow, revive, Episode};
 use crate::archive_episodes::archive_and_back;
+use crate::carry_episodes::one_carrying;
 use crate::cell::{Cell, MAX_CELLS};
 use crate::episodes::{wrong_heading, wrong_length};
 use crate::forecast_episodes::look_ahead;
@@ -49,6 +50,11 @@ pub fn mirror_script(rng: &mut Rng, cells: usize) -> Vec<Cell> {
 /// A script of lists of events.
 pub fn rehearse_script(rng: &mut Rng, cells: usize) -> Vec<Cell> {
     script_of_pieces(cells, rng, |script, _, rng| one_rehearsal(script, rng))
+}
+
+/// A script of volumes that are carried over.
+pub fn carrying_script(rng: &mut Rng, cells: usize) -> Vec<Cell> {
+    script_of_pieces(cells, rng, one_carrying)
 }
 
 fn script_of_pieces(

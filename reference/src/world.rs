@@ -4,7 +4,7 @@ use crate::answer::Answer;
 use crate::bytes::{byte_checksum, checksum, u32_at};
 use crate::cell::{Call, Op};
 use crate::geometry::{frame_count, Geometry, IMAGE_LEN};
-use crate::heading::Heading;
+use crate::heading::{Heading, HEADING_LEN};
 use crate::lift::Lift;
 use crate::script::Script;
 use std::ops::Range;
@@ -45,6 +45,16 @@ pub enum Event {
     Lift(Lift),
 }
 
+impl Event {
+    /// The call that was made or cut.
+    pub fn call(&self) -> Option<&Call> {
+        match self {
+            Event::Call(call) | Event::Cut { within: Some(call), .. } => Some(call),
+            _ => None,
+        }
+    }
+}
+
 /// What an event came to.
 #[derive(Clone, Copy, Debug, Default)]
 pub struct Outcome {
@@ -58,7 +68,7 @@ pub struct World {
     pub geometry: Geometry,
     /// Whether a Restart that was not refused gave the present state.
     pub live: bool,
-    /// Every image that a Write or Backup has stored, with its place.
+    /// Every image that counts as stored, with its place.
     pub stored: Vec<(Place, Vec<u8>)>,
 }
 
@@ -130,19 +140,57 @@ impl World {
         }
     }
 
-    /// Runs a call and keeps the image that it stores.
+    /// Runs a call, keeps the image that it stores and takes over the heading that it sets.
     fn complete(&mut self, call: &Call) -> Answer {
+        let restamped = self.restamped(call);
+        let was_stored = restamped.is_some_and(|place| self.is_stored(place));
         let answer = self.script.call(*call);
-        let place = match *call {
-            Call::Write { page } => Place::Page(page),
-            Call::Backup { page: _, slot } => Place::Slot(slot),
-            _ => return answer,
-        };
-        if answer == Answer::Done {
-            let image = self.volume()[self.place(place)].to_vec();
-            self.stored.push((place, image));
+        if answer != Answer::Done {
+            return answer;
+        }
+        match *call {
+            Call::Write { page } => self.keep(Place::Page(page)),
+            Call::Backup { page: _, slot } => self.keep(Place::Slot(slot)),
+            Call::Start => self.geometry.heading = Heading::Carrying,
+            Call::Finish => self.geometry.heading = Heading::Second,
+            _ => {}
+        }
+        // A restamped image counts as stored exactly if the one before it does.
+        if let Some(place) = restamped.filter(|_| was_stored) {
+            self.keep(place);
         }
         answer
+    }
+
+    fn keep(&mut self, place: Place) {
+        let image = self.volume()[self.place(place)].to_vec();
+        self.stored.push((place, image));
+    }
+
+    /// Whether a place's image was stored there.
+    fn is_stored(&self, place: Place) -> bool {
+        let image = &self.volume()[self.place(place)];
+        self.stored.iter().any(|(at, stored)| *at == place && stored == image)
+    }
+
+    /// The place of the image that a Restamp would change now.
+    fn restamped(&self, call: &Call) -> Option<Place> {
+        if *call != Call::Restamp {
+            return None;
+        }
+        let mut trial = self.script.driver.trial();
+        trial.call(call);
+        let changes = |place: &Place| {
+            let bytes = self.place(*place);
+            trial.volume[bytes.clone()] != self.volume()[bytes]
+        };
+        self.places().into_iter().find(changes)
+    }
+
+    /// The places of images, pages before slots.
+    pub fn places(&self) -> Vec<Place> {
+        let pages = (1..=self.geometry.pages as u16).map(Place::Page);
+        pages.chain((1..=self.geometry.slots as u16).map(Place::Slot)).collect()
     }
 
     /// Leaves the item of a call that is cut; true if it counts as stored.
@@ -174,6 +222,8 @@ impl World {
             Call::Write { page } => Some(self.geometry.page(page.into())),
             Call::Backup { page: _, slot } => Some(self.geometry.slot(slot.into())),
             Call::Note => Some(self.geometry.note_place(state.notes + 1)),
+            Call::Start | Call::Finish => Some(0..HEADING_LEN),
+            Call::Restamp => self.restamped(call).map(|place| self.place(place)),
             _ => None,
         }
     }
@@ -183,9 +233,11 @@ impl World {
     pub fn item_sealed(&self, item: &[u8]) -> bool {
         let at = item.len() - 4;
         let (before, held) = (&item[..at], u32_at(item, at));
+        let (words, bytes) = (checksum(before) == held, byte_checksum(before) == held);
         match (item.len(), self.geometry.heading) {
-            (IMAGE_LEN, Heading::Second) => byte_checksum(before) == held,
-            _ => checksum(before) == held,
+            (IMAGE_LEN, Heading::Second) => bytes,
+            (IMAGE_LEN, Heading::Carrying) => words || bytes,
+            _ => words,
         }
     }
 

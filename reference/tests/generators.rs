@@ -6,7 +6,7 @@ use reference::check::check_history;
 use reference::coverage::{hits, sought};
 use reference::driver::drive;
 use reference::history::{history_script, ring_script};
-use reference::reading::{mirror_script, reading_script, rehearse_script};
+use reference::reading::{carrying_script, mirror_script, reading_script, rehearse_script};
 use reference::rng::Rng;
 use std::collections::BTreeSet;
 
@@ -37,9 +37,10 @@ fn scripts_give_only_answers_that_the_table_knows() {
         reached.extend(hits(&history_script(&mut Rng::new(seed), 1_000)));
         reached.extend(hits(&ring_script(&mut Rng::new(seed), 1_000)));
     }
-    let kinds = ["mixed", "turning", "reading", "mirror", "rehearse"];
+    let kinds = ["mixed", "turning", "reading", "mirror", "rehearse", "carrying"];
     let known: BTreeSet<_> = kinds.into_iter().flat_map(sought).flatten().collect();
-    assert!(reached.is_subset(&known), "{:?}", reached.difference(&known));
+    let unknown: Vec<_> = reached.difference(&known).collect();
+    assert!(unknown.is_empty(), "{unknown:?}");
 }
 
 /// What eight scripts of a kind miss of what they are for.
@@ -65,6 +66,11 @@ fn mirror_scripts_reach_all_that_they_are_for() {
 #[test]
 fn rehearse_scripts_reach_all_that_they_are_for() {
     left_out("rehearse", rehearse_script);
+}
+
+#[test]
+fn carrying_scripts_reach_all_that_they_are_for() {
+    left_out("carrying", carrying_script);
 }
 
 #[test]

@@ -1,5 +1,6 @@
-/* The stack that inspection takes: on a painted stack, the lowest byte that a call changes; and calls on the smallest
- * stack that a thread may have. Exits with 1 if a call takes more than PAGESTORE_STACK, or does not end well. */
+/* The stack that the C functions take: on a painted stack, the lowest byte that a call changes; and calls of inspection
+ * on the smallest stack that a thread may have. Exits with 1 if a call takes more than PAGESTORE_STACK, or does not end
+ * well. */
 #define _GNU_SOURCE
 #include "pagestore.h"
 #include "volume.h"
@@ -27,9 +28,18 @@ static const char *const NAMES[KINDS] = {
 
 static uint8_t volume[PAGESTORE_VOLUME_MAX], buffer[PAGESTORE_IMAGE_SIZE], expected[PAGESTORE_IMAGE_SIZE];
 
+/* The functions; all but inspection are tried on the largest volume. */
+enum function { INSPECT, FORECAST, LENGTH, WRITE, READ, PAGES, COMPARE, FUNCTIONS };
+static const char *const CALLED[FUNCTIONS] = {
+    "inspect", "forecast", "archive_length", "archive_write", "archive_read", "archive_pages", "compare",
+};
+static uint8_t archive[PAGESTORE_ARCHIVE_MAX], area[PAGESTORE_AREA_MAX];
+static uint32_t numbers[PAGESTORE_FORECAST_SIZE];
+
 struct call {
     size_t size;
     uint32_t page, wanted, answer;
+    enum function function;
 };
 
 /* Notes of every number: written ones, or backups that go into slot 1 and slot 2 in turns. */
@@ -51,14 +61,24 @@ static struct call prepared(struct counts c, enum kind kind) {
     if (kind == WHOLE) chain_image(volume + page_at(c.pages), c, c.pages);
     chain_image(expected, c, c.pages);
     memset(buffer, 0xee, sizeof buffer);
-    if (kind != NO_PAGE) return (struct call){size_of(c), c.pages, PAGESTORE_OK, UNANSWERED};
+    if (kind != NO_PAGE) return (struct call){size_of(c), c.pages, PAGESTORE_OK, UNANSWERED, INSPECT};
     memset(expected, 0xee, sizeof expected);
-    return (struct call){size_of(c), 0, PAGESTORE_NO_SUCH_PAGE, UNANSWERED};
+    return (struct call){size_of(c), 0, PAGESTORE_NO_SUCH_PAGE, UNANSWERED, INSPECT};
 }
 
-static __attribute__((noinline)) void run(struct call *c) {
-    c->answer = pagestore_inspect(volume, c->size, c->page, buffer, sizeof buffer);
+static __attribute__((noinline)) uint32_t called(const struct call *c) {
+    switch (c->function) {
+        case FORECAST: return pagestore_forecast(volume, c->size, numbers, PAGESTORE_FORECAST_SIZE);
+        case LENGTH: return pagestore_archive_length(volume, c->size);
+        case WRITE: return pagestore_archive_write(volume, c->size, archive, sizeof archive);
+        case READ: return pagestore_archive_read(archive, sizeof archive, area, sizeof area);
+        case PAGES: return pagestore_archive_pages(archive, sizeof archive);
+        case COMPARE: return pagestore_compare(volume, c->size, volume, c->size, numbers, PAGESTORE_COMPARE_SIZE);
+        default: return pagestore_inspect(volume, c->size, c->page, buffer, sizeof buffer);
+    }
 }
+
+static __attribute__((noinline)) void run(struct call *c) { c->answer = called(c); }
 
 static int right(const struct call *c) {
     return c->answer == c->wanted && memcmp(buffer, expected, sizeof buffer) == 0;
@@ -155,10 +175,23 @@ static int check(struct counts n, enum kind kind) {
     return answers && small && ends;
 }
 
+/* Another function on the largest volume, its log full: the archive's length is told, its pages are 64, others give 0.
+ */
+static int check_other(enum function f) {
+    struct call c = prepared(SIZES[sizeof SIZES / sizeof SIZES[0] - 1], TORN);
+    c.function = f;
+    c.wanted = f == LENGTH ? sizeof archive : f == PAGES ? 64 : PAGESTORE_OK;
+    size_t bytes = touched(&c);
+    int well = c.answer == c.wanted && bytes <= PAGESTORE_STACK;
+    printf("%s %s: %zu bytes of stack, at most %u\n", well ? "ok    " : "FAILED", CALLED[f], bytes, PAGESTORE_STACK);
+    return well;
+}
+
 int main(void) {
     int failures = 0;
     for (size_t i = 0; i < sizeof SIZES / sizeof SIZES[0]; i++)
         for (int kind = 0; kind < KINDS; kind++) failures += !check(SIZES[i], (enum kind)kind);
+    for (int f = FORECAST; f < FUNCTIONS; f++) failures += !check_other((enum function)f);
     printf("%s\n", failures ? "some calls FAILED" : "every call keeps to its stack");
     return failures ? 1 : 0;
 }

@@ -5,12 +5,14 @@ use mathlib.Core.Bool.{Bool, true, false, _&&_}
 use mathlib.Core.List.{List, [], _∷_, _++_}
 use lib.Dec.{T, eqb, eqb→eq}
 use Rattle.cases.specs.Rows.{Row, same, every, Hold}
-use Rattle.cases.specs.All.{diskRows, callRows, laterRows, rows}
+use Rattle.cases.specs.All.{diskRows, callRows, laterRows, carryRows, rows}
 use Rattle.cases.specs.Forecasts.{forecastRows}
 use Rattle.cases.specs.Archives.{archiveRows}
 use Rattle.cases.specs.Mirrors.{mirrorRows}
 use Rattle.cases.specs.Neighbours.{neighbourRows}
 use Rattle.cases.specs.Rehearsals.{rehearsalCases, rehearsalRuns}
+use Rattle.cases.specs.Carried.{carriedRows}
+use Rattle.cases.specs.CarriedEvents.{carriedEvents}
 use Rattle.cases.specs.Rings.{ringRows, ringEvents}
 
 pub left : (a b : Bool) → T (a && b) → T a
@@ -69,15 +71,29 @@ rehearsal-runs : Hold rehearsalRuns
 unfolding rehearsalRuns
 rehearsal-runs = all rehearsalRuns tt
 
-pub cases : Hold rows
-unfolding rows laterRows
-cases =
-    joined diskRows (callRows ++ laterRows) disk-cases
-    (joined callRows laterRows call-cases
-    (joined forecastRows (archiveRows ++ (mirrorRows ++ (neighbourRows ++ (rehearsalCases ++ rehearsalRuns)))) forecast-cases
+later-cases : Hold laterRows
+unfolding laterRows
+later-cases =
+    joined forecastRows (archiveRows ++ (mirrorRows ++ (neighbourRows ++ (rehearsalCases ++ rehearsalRuns)))) forecast-cases
     (joined archiveRows (mirrorRows ++ (neighbourRows ++ (rehearsalCases ++ rehearsalRuns))) archive-cases
     (joined mirrorRows (neighbourRows ++ (rehearsalCases ++ rehearsalRuns)) mirror-cases
-    (joined neighbourRows (rehearsalCases ++ rehearsalRuns) neighbour-cases (joined rehearsalCases rehearsalRuns rehearsal-cases rehearsal-runs))))))
+    (joined neighbourRows (rehearsalCases ++ rehearsalRuns) neighbour-cases
+    (joined rehearsalCases rehearsalRuns rehearsal-cases rehearsal-runs))))
+
+carried-cases : Hold carriedRows
+unfolding carriedRows
+carried-cases = all carriedRows tt
+
+carried-events : Hold carriedEvents
+unfolding carriedEvents
+carried-events = all carriedEvents tt
+
+pub cases : Hold rows
+unfolding rows carryRows
+cases =
+    joined diskRows (callRows ++ (laterRows ++ carryRows)) disk-cases
+    (joined callRows (laterRows ++ carryRows) call-cases
+    (joined laterRows carryRows later-cases (joined carriedRows carriedEvents carried-cases carried-events)))
 
 pub ring-cases : Hold ringRows
 unfolding ringRows

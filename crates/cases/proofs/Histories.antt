@@ -16,6 +16,7 @@ use Rattle.cases.specs.Rows.{same}
 use Rattle.cases.specs.Worked.{Worked, historyOf, joined, makes, answersOf, eventStep, taleFrom, taleOf, saysAnswers, loggedNumbers, sameChanges, pagesOf, allReplay, agrees, computes, allCompute, Computed, AllComputed}
 use Rattle.model.specs.declared.geometry.Heading.the-variants.{First, Second}
 use Rattle.cases.specs.Histories.{under, others, histories}
+use Rattle.cases.specs.CarriedOver.{carriedHistories}
 use Rattle.cases.proofs.Steps.{machine-step, log-step, answer-step}
 use Rattle.cases.proofs.Cases.{left, right, equal}
 
@@ -129,3 +130,7 @@ others-worked = all others tt
 pub worked : AllComputed histories
 unfolding histories
 worked = both (under First) (under Second ++ others) first-worked (both (under Second) others second-worked others-worked)
+
+pub carried-worked : AllComputed carriedHistories
+unfolding opened
+carried-worked = all carriedHistories tt

@@ -20,4 +20,7 @@ pub mod Archives
 pub mod Mirrors
 pub mod Neighbours
 pub mod Rehearsals
+pub mod Carried
+pub mod CarriedEvents
+pub mod CarriedOver
 pub mod All

@@ -13,7 +13,7 @@ use Rattle.model.specs.Change.{kindOf, lengthOf, offsetOf, fillOf}
 use Rattle.model.specs.Item.{imageLsn, imageBody}
 use Rattle.model.specs.Calls.{StoredItem, Call, makeOf, inspectOf, restartOf, outcomeOf, volumeAfter, refusalOf}
 use Rattle.model.specs.AbstractLog.{Logged, AbstractLog, emptyLog, lastPlace, replay, forget, stepCall}
-use Rattle.model.specs.History.{Power, off, on, Machine, Event, restart, perform, crash, crashIn, damage, lent, step, allowed, stepLog}
+use Rattle.model.specs.History.{Power, off, on, Machine, Event, restart, perform, crash, crashIn, damage, pastAfter, lent, step, allowed, stepLog}
 use Rattle.model.specs.Claim.{History, Legal, fresh, reached, durableOf}
 use Rattle.model.specs.declared.geometry.Heading.{Heading}
 use Rattle.model.specs.declared.answer.Answer.{Answer}
@@ -99,7 +99,7 @@ callStep (on m s) v c past b =
       machine = record {
         volume = volumeAfter v (o .stored);
         power = on (o .memory) (o .state);
-        past = o .stored ∷ past;
+        past = pastAfter c v (o .stored) past;
       };
       log = cond (isRefused (o .answer)) b (stepCall b c);
       answer = numbers (o .answer);

@@ -1,4 +1,4 @@
-// The cells that call the store, ops 1 to 10, 17 and 21: each call gets the lent parts of the buffers.
+// The cells that call the store, ops 1 to 10 and 17 to 21: each call gets the lent parts of the buffers.
 use crate::cell;
 use crate::session;
 use crate::session::Session;

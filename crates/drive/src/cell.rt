@@ -49,7 +49,7 @@ pub fn change(c: &[u8]) -> Change {
     }
 }
 
-// The call on the state, for ops 3 to 9 and 17.
+// The call on the state, for ops 3 to 9 and 17 to 20.
 pub fn command(c: &[u8]) -> Command {
     let page = page(c);
     let place = place(c);
@@ -66,6 +66,9 @@ pub fn command(c: &[u8]) -> Command {
         7 => Command::Write { page },
         8 => Command::Backup { page, slot: place },
         17 => Command::Release { page },
+        18 => Command::StartCarry,
+        19 => Command::Restamp,
+        20 => Command::FinishCarry,
         _ => Command::Note,
     }
 }

@@ -29,7 +29,7 @@ fn turn(
 ) -> Turn {
     match cell::op(c) {
         1 | 10 | 21 => calls::plain(b, c, volume, lent),
-        2..=9 | 17 => calls::stateful(b, c, volume, memory),
+        2..=9 | 17..=20 => calls::stateful(b, c, volume, memory),
         22 => forecast::turn(b, volume),
         23..=25 | 29 => archive::turn(b, c, volume, lent, second),
         26 => mirror::turn(b, volume, second),

@@ -33,7 +33,7 @@ use Rattle.history.proofs.Logs.{at, lastAt, lastOf, bodyOf, replayAt, l
 use Rattle.history.proofs.Records.{recOf, length-replay}
 use Rattle.history.proofs.Sections.{volume-sized}
 use Rattle.history.proofs.Disk.{Holds, Noted, first, started, rec-at, durable-count, not-gone}
-use Rattle.history.proofs.Reached.{Undamaged, madeWith, tied}
+use Rattle.history.proofs.Reached.{Undamaged, present, tied}
 use Rattle.history.proofs.Theorem.{demand2}
 
 -- ---- a section with one record more
@@ -120,17 +120,17 @@ module _ (h : History) (legal : Legal h) (x : List ℕ) (done : archiveOf (reach
   written : Whole (reached h .volume) × (archiveOf (reached h .volume) x .buffer ≡ archiveBytes (sectionsOf (reached h .volume)))
   written = wrote (reached h .volume) x done
 
-  heading : geometryOf (reached h .volume) ≡ madeWith h
+  heading : geometryOf (reached h .volume) ≡ present h
   heading = tied h legal .holds .vol .geo
 
   -- page p's section holds its changes
   section-is : (p : ℕ) → Replayed p (durableOf h) (length (durableOf h)) (heldRecords (reached h .volume) p)
   section-is p =
       let i = tied h legal in
-      let w : gone (madeWith h) (reached h .volume) ≡ false = rw heading at (written .0 .here) in
-      let n = durable-count (madeWith h) (reached h .volume) (durableOf h) (i .holds) (i .ns) (i .noted) in
+      let w : gone (present h) (reached h .volume) ≡ false = rw heading at (written .0 .here) in
+      let n = durable-count (present h) (reached h .volume) (durableOf h) (i .holds) (i .ns) (i .noted) in
       rw (held-is (reached h .volume) (written .0) p, heading, n)
-      (replayed (madeWith h) (reached h .volume) (durableOf h) (i .holds) (i .ns) (i .noted) w p (length (durableOf h)) (omega arith))
+      (replayed (present h) (reached h .volume) (durableOf h) (i .holds) (i .ns) (i .noted) w p (length (durableOf h)) (omega arith))
 
   module _ (area : List ℕ) (size : length area ≡ 256 * h .pages) where
     sized : length area ≡ 256 * geometryOf (reached h .volume) .pages

@@ -1,12 +1,12 @@
--- Every call keeps the invariant, whole or cut short by a crash.
+-- Every call but those that carry a volume over keeps the invariant, whole or cut short by a crash.
 use mathlib.Core.Path.{_≡_, refl, sym, subst}
-use mathlib.Core.Bool.{true, cond, not, _&&_}
+use mathlib.Core.Bool.{true, false, cond, not, _&&_}
 use mathlib.Core.List.{List, [], _∷_, _++_}
 use Prim.Native.Nat.{ℕ, _+_}
 use lib.ListN.{length}
 use lib.Dec.{eqb}
 use borrow.Author.Tests.{eqb-true, not-true}
-use Rattle.laws.proofs.Tables.{byCases, and-left, and-right}
+use Rattle.laws.proofs.Tables.{byCases, and-left, and-right, true-not-false}
 use Rattle.model.specs.Tables.{Row, firstOf}
 use Rattle.model.specs.Checksum.{sealImage}
 use Rattle.model.specs.Geometry.{Place, pageAt, slotAt, recordAt, noteAt, logSlot, noteSlot, width, geometryOf}
@@ -16,9 +16,10 @@ use Rattle.model.specs.Index.{entryOf}
 use Rattle.model.specs.Repair.{viewOf, repairOf, classIn}
 use Rattle.model.specs.State.{frameBytes, pendingBytes, holder, lastNote}
 use Rattle.model.specs.Refusals.{pageDirty, beginRows, loadRows, changeRows, forceRows, writeRows, backupRows, releaseRows, noteRows}
-use Rattle.model.specs.Calls.{StoredItem, nothing, oneItem, Outcome, volumeAfter, decided, isGood, beginOf, loadOf, changeCall, forceOf, writeOf, backupOf, releaseOf, noteCall, noteStored, Call, begin, load, change, force, write, backup, release, note, rowsOf, outcomeOf}
+use Rattle.model.specs.Calls.{StoredItem, nothing, oneItem, Outcome, volumeAfter, decided, isGood, beginOf, loadOf, changeCall, forceOf, writeOf, backupOf, releaseOf, noteCall, noteStored, Call, begin, load, change, force, write, backup, release, note, startCarry, restamp, finishCarry, rowsOf, outcomeOf}
 use Rattle.model.specs.AbstractLog.{moveFirst, Logged, AbstractLog, Left, old, new, torn, forget, stepCall, stepCut}
-use Rattle.model.specs.History.{off, leftVolume, leftPast, itemSealed, tornFits, payloadFits}
+use Rattle.model.specs.History.{off, leftVolume, leftPast, pastAfter, itemSealed, tornFits, payloadFits}
+use Rattle.model.specs.Carry.{carries}
 use Rattle.model.specs.declared.geometry.Geometry.{Geometry}
 use Rattle.model.specs.declared.answer.Answer.the-variants.{Done, Repaired}
 use Rattle.model.specs.declared.item.Note.{Note}
@@ -33,26 +34,54 @@ use Rattle.history.proofs.Release.{keep-release}
 use Rattle.history.proofs.Images.{StoreOk, write-store, backup-store}
 use Rattle.history.proofs.Keeps.{force-store, forced, none-pending, some-pending, keep-force, Writes, writes, written, keep-write, backs, keep-backup, note-store, keep-note}
 
+-- ---- what these calls store counts as stored
+
+abbrev pub plainPast : StoredItem → Left → List StoredItem → List StoredItem
+plainPast i old past = past
+plainPast i new past = i ∷ past
+plainPast i (torn xs) past = past
+
+pub plain-after : (c : Call) → carries c ≡ false → (v : List ℕ) (i : StoredItem) (past : List StoredItem) → pastAfter c v i past ≡ i ∷ past
+plain-after (begin page f fill) o v i past = refl
+plain-after (load page f) o v i past = refl
+plain-after (change page c payload) o v i past = refl
+plain-after force o v i past = refl
+plain-after (write page) o v i past = refl
+plain-after (backup page b) o v i past = refl
+plain-after (release page) o v i past = refl
+plain-after note o v i past = refl
+plain-after startCarry o v i past = absurd (true-not-false refl o)
+plain-after restamp o v i past = absurd (true-not-false refl o)
+plain-after finishCarry o v i past = absurd (true-not-false refl o)
+
+pub plain-left : (c : Call) → carries c ≡ false → (v : List ℕ) (i : StoredItem) (l : Left) (past : List StoredItem) → leftPast c v i l past ≡ plainPast i l past
+plain-left c o v i old past = refl
+plain-left c o v i new past = plain-after c o v i past
+plain-left c o v i (torn xs) past = refl
+
 module _ {C : Type 0} {g : Geometry} {v m : List ℕ} {past : List StoredItem} {s : State} {k w : List Logged} (x : Ctx C g v m past s k w) where
-  pub inv-call : (c : Call) → payloadFits c ≡ true
+  pub inv-call : (c : Call) → carries c ≡ false → payloadFits c ≡ true
       → Kept C g v past (outcomeOf c v m s) (cond (not (eqb (firstOf (rowsOf c v m s)) 0)) (record { durable = k; pending = w }) (stepCall (record { durable = k; pending = w }) c))
   unfolding beginOf loadOf changeCall forceOf writeOf backupOf releaseOf noteCall stepCall
-  inv-call (begin page f fill) h = keep-decided x (beginRows v m s page f) _ _ (keep-begin x page f fill)
-  inv-call (load page f) h =
+  inv-call (begin page f fill) o h = keep-decided x (beginRows v m s page f) _ _ (keep-begin x page f fill)
+  inv-call (load page f) o h =
       keep-decided x (loadRows v m s page f) _ _
       (keep-load x page f (Repaired (repairOf (geometryOf v) page (viewOf (geometryOf v) v (firstHeld (geometryOf v) v (s .durable)) (entryOf (s .index) page) page)))
       (not (isGood (classIn (geometryOf v) page (viewOf (geometryOf v) v (firstHeld (geometryOf v) v (s .durable)) (entryOf (s .index) page) page)))))
-  inv-call (change page c payload) h = keep-decided x (changeRows v m s page c) _ _ (keep-change x page c payload (eqb-true (length payload) 44 h))
-  inv-call force h = keep-decided x (forceRows v m s) (forced x) _ (λ e. keep-force x w refl)
-  inv-call (write page) h = keep-decided x (writeRows v m s page) (written x page) _ (λ e. keep-write x page (writes x page e))
-  inv-call (backup page b) h = keep-decided x (backupRows v m s page b) _ _ (λ e. keep-backup x page b (backs x page b e))
-  inv-call (release page) h = keep-decided x (releaseRows v m s page) _ _ (keep-release x page Done)
-  inv-call note h = keep-decided x (noteRows v m s) (noteStored v m s (s .note)) _ (λ e. keep-note x (s .note) (x .al .note-ok))
+  inv-call (change page c payload) o h = keep-decided x (changeRows v m s page c) _ _ (keep-change x page c payload (eqb-true (length payload) 44 h))
+  inv-call force o h = keep-decided x (forceRows v m s) (forced x) _ (λ e. keep-force x w refl)
+  inv-call (write page) o h = keep-decided x (writeRows v m s page) (written x page) _ (λ e. keep-write x page (writes x page e))
+  inv-call (backup page b) o h = keep-decided x (backupRows v m s page b) _ _ (λ e. keep-backup x page b (backs x page b e))
+  inv-call (release page) o h = keep-decided x (releaseRows v m s page) _ _ (keep-release x page Done)
+  inv-call note o h = keep-decided x (noteRows v m s) (noteStored v m s (s .note)) _ (λ e. keep-note x (s .note) (x .al .note-ok))
+  inv-call startCarry o h = absurd (true-not-false refl o)
+  inv-call restamp o h = absurd (true-not-false refl o)
+  inv-call finishCarry o h = absurd (true-not-false refl o)
 
   -- ---- a crash within a call
 
   abbrev Cut : StoredItem → Left → AbstractLog → Type 0
-  Cut i l b = Inv C g (leftVolume v i l) (leftPast i l past) off (forget b)
+  Cut i l b = Inv C g (leftVolume v i l) (plainPast i l past) off (forget b)
 
   cut-old : Inv C g v past off (record { durable = k; pending = [] })
   cut-old = record { ns = x .ns; holds = x .hs; noted = x .no; past-ok = x .ps; live = tt }
@@ -147,16 +176,19 @@ module _ {C : Type 0} {g : Geometry} {v m : List ℕ} {past : List StoredItem} {
   cut-decided rows done b l t f =
       byCases (eqb (firstOf rows) 0) (λ e. rw e (f (eqb-true (firstOf rows) 0 e) (rw e at t))) (λ e. rw e (cut-nothing l w))
 
-  pub inv-crash : (c : Call) (l : Left) → tornFits (geometryOf v) (outcomeOf c v m s .stored) l ≡ true
+  pub inv-crash : (c : Call) → carries c ≡ false → (l : Left) → tornFits (geometryOf v) (outcomeOf c v m s .stored) l ≡ true
       → Cut (outcomeOf c v m s .stored) l (cond (not (eqb (firstOf (rowsOf c v m s)) 0)) (record { durable = k; pending = w }) (stepCut (record { durable = k; pending = w }) c l))
   unfolding beginOf loadOf changeCall forceOf writeOf backupOf releaseOf noteCall stepCut
-  inv-crash (begin page f fill) l t = cut-decided (beginRows v m s page f) _ _ l t (λ e u. cut-nothing l w)
-  inv-crash (load page f) l t = cut-decided (loadRows v m s page f) _ _ l t (λ e u. cut-nothing l w)
-  inv-crash (change page c payload) l t = cut-decided (changeRows v m s page c) _ _ l t (λ e u. cut-nothing l w)
-  inv-crash force l t = cut-decided (forceRows v m s) (forced x) (stepCut (record { durable = k; pending = w }) force l) l t (λ e u. cut-force w refl l u)
-  inv-crash (write page) l t = cut-decided (writeRows v m s page) (written x page) _ l t (λ e u. cut-write page (writes x page e) l u)
-  inv-crash (backup page b) l t =
+  inv-crash (begin page f fill) o l t = cut-decided (beginRows v m s page f) _ _ l t (λ e u. cut-nothing l w)
+  inv-crash (load page f) o l t = cut-decided (loadRows v m s page f) _ _ l t (λ e u. cut-nothing l w)
+  inv-crash (change page c payload) o l t = cut-decided (changeRows v m s page c) _ _ l t (λ e u. cut-nothing l w)
+  inv-crash force o l t = cut-decided (forceRows v m s) (forced x) (stepCut (record { durable = k; pending = w }) force l) l t (λ e u. cut-force w refl l u)
+  inv-crash (write page) o l t = cut-decided (writeRows v m s page) (written x page) _ l t (λ e u. cut-write page (writes x page e) l u)
+  inv-crash (backup page b) o l t =
       cut-decided (backupRows v m s page b) _ _ l t
       (λ e u. let f = backs x page b e in cut-image (slotAt b) (frameBytes m (holder s page)) (backup-store x page (f .frame-of) (f .forced-to) b (f .slot-low) (f .slot-high) (f .spare)) l u)
-  inv-crash (release page) l t = cut-decided (releaseRows v m s page) _ _ l t (λ e u. cut-nothing l w)
-  inv-crash note l t = cut-decided (noteRows v m s) (noteStored v m s (s .note)) _ l t (λ e u. cut-note (s .note) (x .al .note-ok) l u)
+  inv-crash (release page) o l t = cut-decided (releaseRows v m s page) _ _ l t (λ e u. cut-nothing l w)
+  inv-crash note o l t = cut-decided (noteRows v m s) (noteStored v m s (s .note)) _ l t (λ e u. cut-note (s .note) (x .al .note-ok) l u)
+  inv-crash startCarry o l t = absurd (true-not-false refl o)
+  inv-crash restamp o l t = absurd (true-not-false refl o)
+  inv-crash finishCarry o l t = absurd (true-not-false refl o)

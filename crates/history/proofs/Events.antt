@@ -21,7 +21,8 @@ use Rattle.model.specs.State.{validMemory, frameCount, emptyFrame}
 use Rattle.model.specs.Refusals.{restartRows}
 use Rattle.model.specs.Calls.{StoredItem, restartState, restartOf}
 use Rattle.model.specs.AbstractLog.{Logged, AbstractLog, forget}
-use Rattle.model.specs.History.{Power, off, on, restarted, isImage, storedBefore, validAsNoted, passesAt}
+use Rattle.model.specs.Passes.{isImage, validAsNoted, passesAt}
+use Rattle.model.specs.History.{Power, off, on, restarted, storedBefore}
 use Rattle.model.specs.declared.geometry.Geometry.{Geometry}
 use Rattle.model.specs.declared.item.Note.{Note}
 use Rattle.model.specs.declared.state.Entry.{Entry}
@@ -209,7 +210,7 @@ inv-damage C g v past x b (slotAt n) xs no-c r five d i =
     record {
       ns = i .ns;
       holds = slot-holds g v (b .durable) (i .holds) (i .ns) (i .noted) n xs (w .0) (w .1) five;
-      noted = slot-noted g v (b .durable) (i .holds) (i .ns) (i .noted) n xs (w .0) (w .1) five (f .given) (λ c p a z. absurd (no-c c));
+      noted = slot-noted g v (b .durable) (i .holds) (i .ns) (i .noted) n xs (w .0) (w .1) five (f .given) (λ c p a z e. absurd (no-c c));
       past-ok = i .past-ok;
       live = live-keep C g v (store g v (slotAt n) xs) x b (i .ns) (pending-damage g v (b .durable) (i .holds) (i .ns) (i .noted) n xs (w .0) (w .1) five no-c f) (i .live);
     }

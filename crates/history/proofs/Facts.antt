@@ -11,7 +11,8 @@ use Rattle.model.specs.Item.{imageLsn, validImage}
 use Rattle.model.specs.Index.{entryOf}
 use Rattle.model.specs.Scan.{indexOf}
 use Rattle.model.specs.AbstractLog.{Logged}
-use Rattle.model.specs.History.{Power, on, isImage, storedBefore}
+use Rattle.model.specs.Passes.{isImage}
+use Rattle.model.specs.History.{Power, on, storedBefore}
 use Rattle.model.specs.Claim.{History, Legal, reached, logOf, durableOf}
 use Rattle.model.specs.declared.state.Entry.{Entry}
 use Rattle.model.specs.declared.state.State.{State}
@@ -26,7 +27,7 @@ use Rattle.history.proofs.Context.{Ctx, entry-is, last-entry, durable-l
 use Rattle.history.proofs.WellFormed.{state-ok, memory-ok}
 use Rattle.history.proofs.Refusals.{call-ordinary, load-durable, restart-right, restart-wrong, inspect-right, inspect-wrong, inspect-durable}
 use Rattle.history.proofs.LetGo.{releases-is, lets-go}
-use Rattle.history.proofs.Reached.{Undamaged, madeWith, tied, live}
+use Rattle.history.proofs.Reached.{Undamaged, present, tied, live}
 
 -- a replay in the words of the facts
 is-replay : (p : ℕ) (k : List Logged) (x : List ℕ) → ReplayOf p k x → IsReplay p k x
@@ -39,30 +40,30 @@ is-replay p k x f =
     }
 
 module _ (h : History) (legal : Legal h) where
-  i : Inv (Undamaged h) (madeWith h) (reached h .volume) (reached h .past) (reached h .power) (logOf h)
+  i : Inv (Undamaged h) (present h) (reached h .volume) (reached h .past) (reached h .power) (logOf h)
   i = tied h legal
 
-  pub heading : headingOf h ≡ madeWith h
+  pub heading : headingOf h ≡ present h
   heading = i .holds .vol .geo
 
   p64 : h .pages ≤ 64
-  p64 = volume-sized (madeWith h) (volumeOf h) (i .holds .vol) .p-high
+  p64 = volume-sized (present h) (volumeOf h) (i .holds .vol) .p-high
 
   -- a page's entry, as the volume gives it
   entry : (p : ℕ) → 1 ≤ p → p ≤ h .pages → entryOf (indexOf (headingOf h) (volumeOf h)) p ≡ entryFrom (lastOf p (durableOf h)) (lastOf p (durableOf h)) (markAt p (i .ns) (length (i .ns)))
   entry p lo hi =
-      rw heading (index-is (madeWith h) (volumeOf h) (durableOf h) (i .holds) (i .ns) (i .noted) .entry p lo (omega (arith, p64)))
+      rw heading (index-is (present h) (volumeOf h) (durableOf h) (i .holds) (i .ns) (i .noted) .entry p lo (omega (arith, p64)))
 
   -- the machine that is on
   module _ (m : List ℕ) (s : State) (e : reached h .power ≡ on m s) where
-    ctx : Ctx (Undamaged h) (madeWith h) (volumeOf h) m (reached h .past) s (durableOf h) (logOf h .pending)
+    ctx : Ctx (Undamaged h) (present h) (volumeOf h) m (reached h .past) s (durableOf h) (logOf h .pending)
     ctx = live h legal m s e
 
     same-entry : (p : ℕ) → 1 ≤ p → p ≤ h .pages → SameEntry h s p
     same-entry p lo hi =
         let a = entry-is ctx p lo hi in
         let b : entryOf (indexOf (headingOf h) (volumeOf h)) p ≡ entryFrom (lastOf p (durableOf h)) (lastOf p (durableOf h)) (markAt p (ctx .ns) (length (ctx .ns))) =
-        rw heading (index-is (madeWith h) (volumeOf h) (durableOf h) (ctx .hs) (ctx .ns) (ctx .no) .entry p lo (omega (arith, p64))) in
+        rw heading (index-is (present h) (volumeOf h) (durableOf h) (ctx .hs) (ctx .ns) (ctx .no) .entry p lo (omega (arith, p64))) in
         let d = durable-last ctx p lo hi in
         record {
           durable = ap (λ (y : Entry). y .durable) a ∙ (d ∙ sym (ap (λ (y : Entry). y .durable) b));
@@ -86,7 +87,7 @@ module _ (h : History) (legal : Legal h) where
   stored-image : (at : Place) (x : List ℕ) → isImage (headingOf h) at ≡ true → storedBefore at x (reached h .past) ≡ true → StoredImage h x
   stored-image at x r e =
       let f = i .past-ok at x (rw heading at r) e in
-      record { page = f .page; low = f .low; high = f .high; valid = rw heading (f .valid); is-replay = is-replay (f .page) (durableOf h) x (f .good) }
+      record { page = f .page; low = f .low; high = f .high; number = f .number; is-replay = is-replay (f .page) (durableOf h) x (f .good) }
 
   module _ (p : ℕ) (lo : 1 ≤ p) (hi : p ≤ h .pages) where
     abbrev own : List ℕ
@@ -123,14 +124,14 @@ pub facts : Facts
 facts =
     record {
       sound = λ h l m s e. record { memory = memory-ok (ctx h l m s e); state = state-ok (ctx h l m s e) };
-      calls = λ h l m s e c. call-ordinary (ctx h l m s e) c;
+      calls = λ h l m s e c o. call-ordinary (ctx h l m s e) c o;
       restarts = λ h l m. record {
-        right = restart-right (madeWith h) (volumeOf h) (durableOf h) (i h l .holds) (i h l .ns) (i h l .noted) m;
-        wrong = restart-wrong (madeWith h) (volumeOf h) (durableOf h) (i h l .holds) (i h l .ns) (i h l .noted) m;
+        right = restart-right (present h) (volumeOf h) (durableOf h) (i h l .holds) (i h l .ns) (i h l .noted) m;
+        wrong = restart-wrong (present h) (volumeOf h) (durableOf h) (i h l .holds) (i h l .ns) (i h l .noted) m;
       };
       answers = λ h l p buffer. record {
-        right = inspect-right (madeWith h) (volumeOf h) (durableOf h) (i h l .holds) (i h l .ns) (i h l .noted) p buffer;
-        wrong = inspect-wrong (madeWith h) (volumeOf h) (durableOf h) (i h l .holds) (i h l .ns) (i h l .noted) p buffer;
+        right = inspect-right (present h) (volumeOf h) (durableOf h) (i h l .holds) (i h l .ns) (i h l .noted) p buffer;
+        wrong = inspect-wrong (present h) (volumeOf h) (durableOf h) (i h l .holds) (i h l .ns) (i h l .noted) p buffer;
       };
       stored = stored-image;
       own = own-image;
@@ -147,6 +148,6 @@ facts =
           (λ z. nz (a ∙ z)) (sym a ∙ (e ∙ b));
       loads = λ h l m s e p f nz. load-durable (ctx h l m s e) p f (λ z. nz (last-is p (durableOf h) ∙ z));
       inspects = λ h l p buffer nz.
-          inspect-durable (madeWith h) (volumeOf h) (durableOf h) (i h l .holds) (i h l .ns) (i h l .noted) p buffer
-          (λ lo hi z. nz (last-is p (durableOf h) ∙ (sym (ap (λ (y : Entry). y .durable) (index-is (madeWith h) (volumeOf h) (durableOf h) (i h l .holds) (i h l .ns) (i h l .noted) .entry p lo (omega (arith, p64 h l)))) ∙ z)));
+          inspect-durable (present h) (volumeOf h) (durableOf h) (i h l .holds) (i h l .ns) (i h l .noted) p buffer
+          (λ lo hi z. nz (last-is p (durableOf h) ∙ (sym (ap (λ (y : Entry). y .durable) (index-is (present h) (volumeOf h) (durableOf h) (i h l .holds) (i h l .ns) (i h l .noted) .entry p lo (omega (arith, p64 h l)))) ∙ z)));
     }

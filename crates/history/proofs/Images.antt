@@ -6,8 +6,9 @@ use mathlib.Core.List.{List, _∷_}
 use Prim.Native.Nat.{ℕ, zero, suc, _+_, _-_, _≤_}
 use native.Mathlib.Omega.{arith}
 use lib.ListN.{length}
+use lib.Dec.{lit≤}
 use Rattle.laws.proofs.Tables.{true-not-false}
-use Rattle.laws.proofs.Items.{sealImage-valid, frameImage-page, frameImage-zeros}
+use Rattle.laws.proofs.Items.{sealImage-valid, sealImage-field, frameImage-page, frameImage-zeros}
 use Rattle.model.specs.Checksum.{imageSealed, sealImage}
 use Rattle.model.specs.Geometry.{topNumber, Place, pageAt, slotAt, width, store}
 use Rattle.model.specs.Item.{imageLsn, validImage, frameImage, isWritten}
@@ -35,7 +36,7 @@ pub record StoreOk (C : Type 0) (g : Geometry) (v : List ℕ) (past : List Store
   pub torn′ : (ys : List ℕ) → itemSealed g at ys ≡ false → length ys ≡ width at → Holds g (store g v at ys) k × Noted C g (store g v at ys) k ns
 
 -- a torn image is nobody's
-torn-fine : (g : Geometry) (k : List Logged) (ys : List ℕ) → imageSealed g ys ≡ false → Fine g k ys
+pub torn-fine : (g : Geometry) (k : List Logged) (ys : List ℕ) → imageSealed g ys ≡ false → Fine g k ys
 torn-fine g k ys t q z = absurd (true-not-false (valid-sealed g q ys z) t)
 
 module _ {C : Type 0} {g : Geometry} {v m : List ℕ} {past : List StoredItem} {s : State} {k w : List Logged} (x : Ctx C g v m past s k w) where
@@ -76,7 +77,7 @@ module _ {C : Type 0} {g : Geometry} {v m : List ℕ} {past : List StoredItem} {
               page = p;
               low = f .framed .low;
               high = f .framed .high;
-              valid = sealImage-valid g (frameImage p N B) (frame-size g p N B pg nm (body-size x p)) p (frameImage-page p N B (body-size x p) (omega (arith, pg))) (frameImage-zeros p N B (body-size x p));
+              number = sealImage-field g (frameImage p N B) (frame-size g p N B pg nm (body-size x p)) 2 0 (lit≤ tt) ∙ frameImage-page p N B (body-size x p) (omega (arith, pg));
               good = record {
                 place = j;
                 lsn-is = image-lsn g p N B pg nm (body-size x p) ∙ q;
@@ -155,14 +156,14 @@ module _ {C : Type 0} {g : Geometry} {v m : List ℕ} {past : List StoredItem} {
 
     pub backup-store : (sl : ℕ) → 1 ≤ sl → sl ≤ g .slots → slotUsed sl (s .index) ≡ false → StoreOk C g v past k (x .ns) (slotAt sl) (sealImage g (frameBytes m (holder s p))) k (x .ns)
     backup-store sl lo hi un =
-        let nobody : C → (q : ℕ) → 1 ≤ q → q ≤ g .pages → markAt q (x .ns) (length (x .ns)) .slot ≢ sl =
-        λ c q a b. slot-spare (s .index) (x .all) (length (x .all)) (length k) (x .ns) (length (x .ns)) (x .al .index) sl un q a (omega (arith, sized x .p-high)) in
+        let nobody : (q : ℕ) → 1 ≤ q → q ≤ g .pages → markAt q (x .ns) (length (x .ns)) .slot ≢ sl =
+        λ q a b. slot-spare (s .index) (x .all) (length (x .all)) (length k) (x .ns) (length (x .ns)) (x .al .index) sl un q a (omega (arith, sized x .p-high)) in
         record {
           holds′ = slot-holds g v k (x .hs) (x .ns) (x .no) sl (sealImage g (frameBytes m (holder s p))) lo hi sealed-size;
-          noted′ = slot-noted g v k (x .hs) (x .ns) (x .no) sl (sealImage g (frameBytes m (holder s p))) lo hi sealed-size (λ q l₁ h₁ z. fine q) nobody;
+          noted′ = slot-noted g v k (x .hs) (x .ns) (x .no) sl (sealImage g (frameBytes m (holder s p))) lo hi sealed-size (λ q l₁ h₁ z. fine q) (λ c q a b e. absurd (nobody q a b e));
           past′ = past-cons g k past (oneItem (slotAt sl) (sealImage g (frameBytes m (holder s p)))) (λ z. image-is) (x .ps);
           torn′ = λ ys t n. (
             slot-holds g v k (x .hs) (x .ns) (x .no) sl ys lo hi n,
-            slot-noted g v k (x .hs) (x .ns) (x .no) sl ys lo hi n (λ q l₁ h₁ z. torn-fine g k ys t q) nobody,
+            slot-noted g v k (x .hs) (x .ns) (x .no) sl ys lo hi n (λ q l₁ h₁ z. torn-fine g k ys t q) (λ c q a b e. absurd (nobody q a b e)),
           );
         }

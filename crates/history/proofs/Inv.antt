@@ -13,11 +13,12 @@ use Rattle.laws.proofs.Tables.{and-left, and-right, or-cases, true-not-false}
 use Rattle.laws.proofs.Ring.{Displaced}
 use Rattle.model.specs.Bytes.{sameBytes}
 use Rattle.model.specs.Geometry.{Place, pageAt, slotAt, recordAt, noteAt, item, most, mostNotes}
-use Rattle.model.specs.Item.{validImage, frameImage, isWritten}
+use Rattle.model.specs.Item.{imagePage, frameImage, isWritten}
+use Rattle.model.specs.Passes.{isImage}
 use Rattle.model.specs.State.{frameBytes, pendingBytes, emptyFrame}
-use Rattle.model.specs.Calls.{StoredItem, nothing, oneItem}
+use Rattle.model.specs.Calls.{StoredItem, nothing, oneItem, newHeading}
 use Rattle.model.specs.AbstractLog.{Logged, AbstractLog}
-use Rattle.model.specs.History.{Power, off, on, isImage, samePlace, storedBefore}
+use Rattle.model.specs.History.{Power, off, on, samePlace, storedBefore}
 use Rattle.model.specs.declared.geometry.Geometry.{Geometry}
 use Rattle.model.specs.declared.item.Note.{Note}
 use Rattle.model.specs.declared.state.Frame.{Frame}
@@ -27,7 +28,7 @@ use Rattle.model.specs.declared.state.State.{State}
 use Rattle.history.proofs.Logs.{noLogged, at, lastAt, lastOf, bodyOf}
 use Rattle.history.proofs.Entries.{note, NoteOk, Indexed, Later}
 use Rattle.history.proofs.Leaf.{valid-page}
-use Rattle.history.proofs.Records.{AllFair, recOf, ReplayOf, Faithful, valid-append}
+use Rattle.history.proofs.Records.{AllFair, recOf, ReplayOf, Faithful, replay-grows}
 use Rattle.history.proofs.Disk.{Holds, Noted, Copy, Spare}
 
 -- ---- what calls stored
@@ -36,22 +37,22 @@ use Rattle.history.proofs.Disk.{Holds, Noted, Copy, Spare}
 abbrev pub Fine : Geometry → List Logged → List ℕ → Type 0
 Fine g k xs = (p : ℕ) → Faithful g p k xs
 
--- the image is valid as some page in range, and is that page's replay
+-- the image names a page in range, and is that page's replay; its sum may be either, since the heading may change
 pub record Image (g : Geometry) (k : List Logged) (xs : List ℕ) : Type 0 where
   pub page : ℕ
   pub low : 1 ≤ page
   pub high : page ≤ g .pages
-  pub valid : validImage g page xs ≡ true
+  pub number : imagePage xs ≡ page
   pub good : ReplayOf page k xs
 
 pub image-fine : (g : Geometry) (k : List Logged) (xs : List ℕ) → Image g k xs → Fine g k xs
 image-fine g k xs x p t =
-    let e : x .page ≡ p = sym (valid-page g (x .page) xs (x .valid)) ∙ valid-page g p xs t in
+    let e : x .page ≡ p = sym (x .number) ∙ valid-page g p xs t in
     subst (λ (q : ℕ). ReplayOf q k xs) e (x .good)
 
 pub image-append : (g : Geometry) (k r : List Logged) (xs : List ℕ) → Image g k xs → Image g (k ++ r) xs
 image-append g k r xs x =
-    record { page = x .page; low = x .low; high = x .high; valid = x .valid; good = valid-append g (x .page) k r xs (λ t. x .good) (x .valid) }
+    record { page = x .page; low = x .low; high = x .high; number = x .number; good = replay-grows (x .page) k r xs (x .good) }
 
 -- every image stored so far is such
 abbrev pub Past : Geometry → List Logged → List StoredItem → Type 0
@@ -60,6 +61,7 @@ Past g k past = (at : Place) (xs : List ℕ) → isImage g at ≡ true → store
 abbrev pub ItemFine : Geometry → List Logged → StoredItem → Type 0
 ItemFine g k nothing = Unit {0}
 ItemFine g k (oneItem at ys) = isImage g at ≡ true → Image g k ys
+ItemFine g k (newHeading tag) = Unit {0}
 
 pub past-append : (g : Geometry) (k r : List Logged) (past : List StoredItem) → Past g k past → Past g (k ++ r) past
 past-append g k r past f at xs i e = image-append g k r xs (f at xs i e)
@@ -92,6 +94,7 @@ same-place (noteAt i) (noteAt j) h = ap noteAt (eqb-true i j h)
 pub past-cons : (g : Geometry) (k : List Logged) (past : List StoredItem) (x : StoredItem) → ItemFine g k x → Past g k past → Past g k (x ∷ past)
 unfolding storedBefore
 past-cons g k past nothing t f at xs i e = f at xs i e
+past-cons g k past (newHeading tag) t f at xs i e = f at xs i e
 past-cons g k past (oneItem at′ ys) t f at xs i e =
     ⊎-elim
     (λ h.

@@ -9,7 +9,7 @@ use native.Mathlib.Decide.{ℕ-discrete}
 use native.Mathlib.Nat.{add-assoc}
 use lib.ListN.{length, getD, set, length-set}
 use lib.Seq.{getD-set-same, getD-set-other}
-use lib.Dec.{eqb}
+use lib.Dec.{eqb, ltb}
 use borrow.Author.Tests.{eqb-true, ne-eqb, ltb-true, lt-ltb, le-ltb, not-false}
 use Rattle.laws.proofs.Tables.{byCases, within-holds, true-not-false}
 use Rattle.laws.proofs.Frames.{not-held, is-held}
@@ -19,8 +19,9 @@ use Rattle.model.specs.Item.{frameImage}
 use Rattle.model.specs.Index.{entryOf}
 use Rattle.model.specs.Scan.{indexOf, gone}
 use Rattle.model.specs.State.{frameCount, frameBytes, emptyFrame, frameRow, holder, held, blank}
-use Rattle.model.specs.Refusals.{frameBlocked, pageDirty, chainBroken, chainBelow, beginRows, loadRows, changeRows, forceRows, writeRows, backupRows, releaseRows, noteRows}
-use Rattle.model.specs.Calls.{StoredItem, nothing, Outcome, volumeAfter, unchanged, decided, withFrame, withFrames, appendedState, forcedState, notedState, noteStored, isGood, refusalOf, beginOf, loadOf, changeCall, forceOf, writeOf, backupOf, releaseOf, noteCall, Call, begin, load, change, force, write, backup, release, note, outcomeOf}
+use Rattle.model.specs.Refusals.{frameBlocked, pageDirty, chainBroken, chainBelow, beginRows, loadRows, changeRows, forceRows, writeRows, backupRows, releaseRows, noteRows, startCarryRows, restampRows, finishCarryRows}
+use Rattle.model.specs.Passes.{imageCount, firstOld}
+use Rattle.model.specs.Calls.{StoredItem, nothing, Outcome, volumeAfter, unchanged, decided, withFrame, withFrames, appendedState, forcedState, notedState, noteStored, isGood, refusalOf, beginOf, loadOf, changeCall, forceOf, writeOf, backupOf, releaseOf, noteCall, startCarryOf, restampOf, finishCarryOf, Call, begin, load, change, force, write, backup, release, note, startCarry, restamp, finishCarry, outcomeOf}
 use Rattle.model.specs.AbstractLog.{Logged, AbstractLog, lastPlace, loggedChange}
 use Rattle.model.specs.History.{on}
 use Rattle.model.specs.Claim.{History, Legal, reached, logOf, durableOf, startStands, Gone, Proviso}
@@ -44,7 +45,8 @@ use Rattle.history.proofs.Loads.{keep-load}
 use Rattle.history.proofs.Release.{keep-release}
 use Rattle.history.proofs.Refusals.{call-refusal, ownRows, rows-are}
 use Rattle.history.proofs.Theorem.{load-refusal, loaded-bytes}
-use Rattle.history.proofs.Reached.{madeWith, tied, context, live}
+use Rattle.history.proofs.Steps.{context}
+use Rattle.history.proofs.Reached.{present, tied, live}
 
 -- what a call that took page p out of its frame leaves, in a machine that keeps the invariant
 record Leaves (g : Geometry) (v m : List ℕ) (s : State) (p : ℕ) (o : Outcome) : Type 0 where
@@ -205,7 +207,7 @@ module _ {C : Type 0} {g : Geometry} {v m : List ℕ} {past : List StoredItem} {
     ]
 
   leaves : (c : Call) → held (outcomeOf c v m s .state) p ≡ false → Leaves g v m s p (outcomeOf c v m s)
-  unfolding changeCall changeRows forceOf writeOf writeRows backupOf noteCall appendedState forcedState notedState
+  unfolding changeCall changeRows forceOf writeOf writeRows backupOf noteCall startCarryOf restampOf finishCarryOf appendedState forcedState notedState
   leaves (begin page f fill) = begin-leaves page f fill
   leaves (load page f) = load-leaves page f
   leaves (change page c payload) = by-table (changeRows v m s page c) _ (λ e h.
@@ -220,6 +222,9 @@ module _ {C : Type 0} {g : Geometry} {v m : List ℕ} {past : List StoredItem} {
       (λ d. rw d (stays _ (length-set (s .frames) (holder s page - 1) _, put-same page (q .0) (t .1 .1 .1 .1 .0) false))) (λ d. rw d (stays _ (refl, λ i. refl))))
   leaves (backup page b) = by-table (backupRows v m s page b) _ (λ e. stays _ (refl, λ i. refl))
   leaves (release page) = release-leaves page
+  leaves startCarry = by-table (startCarryRows v m s) _ (λ e. stays _ (refl, λ i. refl))
+  leaves restamp = by-table (restampRows v m s) _ (λ e. byCases (ltb (firstOld (geometryOf v) v (s .index)) (imageCount (geometryOf v))) (λ t. rw t (stays _ (refl, λ i. refl))) (λ t. rw t (stays _ (refl, λ i. refl))))
+  leaves finishCarry = by-table (finishCarryRows v m s) _ (λ e. stays _ (refl, λ i. refl))
   leaves note = by-table (noteRows v m s) (noteStored v m s (s .note)) (λ e. noted (s .note))
     where
       noted : (y : PendingNote) → held (noteStored v m s y .state) p ≡ false → Leaves g v m s p (noteStored v m s y)
@@ -229,7 +234,7 @@ module _ {C : Type 0} {g : Geometry} {v m : List ℕ} {past : List StoredItem} {
 -- ---- every legal history
 
 module _ (h : History) (legal : Legal h) (m : List ℕ) (s : State) (e : reached h .power ≡ on m s) where
-  heading : headingOf h ≡ madeWith h
+  heading : headingOf h ≡ present h
   heading = tied h legal .holds .vol .geo
 
   pub releases-is : (p : ℕ) → 1 ≤ p → p ≤ h .pages → held s p ≡ true → Releases h m s p

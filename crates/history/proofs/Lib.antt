@@ -8,6 +8,8 @@ pub mod Disk
 pub mod Walk
 pub mod Inv
 pub mod Stores
+pub mod Turn
+pub mod Carry
 pub mod Memory
 pub mod LogSteps
 pub mod FrameSteps
@@ -21,12 +23,17 @@ pub mod Images
 pub mod Keeps
 pub mod Calls
 pub mod Events
+pub mod CarryKeeps
+pub mod CarryCalls
+pub mod Steps
 pub mod Reached
 pub mod Inspection
+pub mod CarrySame
 pub mod WellFormed
 pub mod Theorem
 pub mod Refusals
 pub mod LetGo
+pub mod CarryClaims
 pub mod Facts
 pub mod Health
 pub mod Lost

@@ -37,7 +37,7 @@ use Rattle.history.proofs.Records.{Fair, recOf}
 use Rattle.history.proofs.Sections.{volume-sized, most-high}
 use Rattle.history.proofs.Disk.{Holds, Noted, durable-count}
 use Rattle.history.proofs.Archive.{stands, page-read}
-use Rattle.history.proofs.Reached.{Undamaged, madeWith, tied}
+use Rattle.history.proofs.Reached.{Undamaged, present, tied}
 use Rattle.history.proofs.Theorem.{demand2}
 
 -- ---- the record of a change
@@ -144,28 +144,28 @@ module _ (p : ℕ) (l : List Logged) (k : ℕ) (none : (i : ℕ) → k ≤ i →
 -- ---- one history: its log is its kept changes
 
 module _ (h : History) (legal : Legal h) (here : gone (geometryOf (reached h .volume)) (reached h .volume) ≡ false) where
-  heading : geometryOf (reached h .volume) ≡ madeWith h
+  heading : geometryOf (reached h .volume) ≡ present h
   heading = tied h legal .holds .vol .geo
 
-  here′ : gone (madeWith h) (reached h .volume) ≡ false
+  here′ : gone (present h) (reached h .volume) ≡ false
   here′ = rw heading at here
 
   pub count-is : durableIn (reached h .volume) ≡ length (durableOf h)
-  count-is = let i = tied h legal in rw heading (durable-count (madeWith h) (reached h .volume) (durableOf h) (i .holds) (i .ns) (i .noted))
+  count-is = let i = tied h legal in rw heading (durable-count (present h) (reached h .volume) (durableOf h) (i .holds) (i .ns) (i .noted))
 
   pub record-is : (c : ℕ) → c < length (durableOf h) → recordIn (reached h .volume) (suc c) ≡ recOf (durableOf h) c
-  record-is c b = let i = tied h legal in rw heading (stands (madeWith h) (reached h .volume) (durableOf h) (i .holds) (i .ns) (i .noted) here′ c b)
+  record-is c b = let i = tied h legal in rw heading (stands (present h) (reached h .volume) (durableOf h) (i .holds) (i .ns) (i .noted) here′ c b)
 
   pub page-is : (c : ℕ) → c < length (durableOf h) → logRecord (geometryOf (reached h .volume)) (reached h .volume) (suc c) .page ≡ at (durableOf h) c .page
-  page-is c b = let i = tied h legal in rw heading (page-read (madeWith h) (reached h .volume) (durableOf h) (i .holds) (i .ns) (i .noted) here′ c b)
+  page-is c b = let i = tied h legal in rw heading (page-read (present h) (reached h .volume) (durableOf h) (i .holds) (i .ns) (i .noted) here′ c b)
 
   pub pages-few : h .pages ≤ 64
-  pages-few = let i = tied h legal in volume-sized (madeWith h) (reached h .volume) (i .holds .vol) .p-high
+  pages-few = let i = tied h legal in volume-sized (present h) (reached h .volume) (i .holds .vol) .p-high
 
   pub number-low : (c : ℕ) → c < length (durableOf h) → c < topNumber
   number-low c b =
       let i = tied h legal in
-      omega (arith, i .holds .room, most-high (madeWith h) (volume-sized (madeWith h) (reached h .volume) (i .holds .vol)))
+      omega (arith, i .holds .room, most-high (present h) (volume-sized (present h) (reached h .volume) (i .holds .vol)))
 
   pub fair-at : (c : ℕ) → c < length (durableOf h) → Fair (h .pages) (durableOf h) c
   fair-at c b = tied h legal .holds .fair c b

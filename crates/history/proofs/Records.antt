@@ -114,9 +114,8 @@ abbrev pub Faithful : Geometry → ℕ → List Logged → List ℕ → Type 0
 Faithful g p l x = validImage g p x ≡ true → ReplayOf p l x
 
 -- a replay stays one as the list grows
-pub valid-append : (g : Geometry) (p : ℕ) (l r : List Logged) (x : List ℕ) → Faithful g p l x → Faithful g p (l ++ r) x
-valid-append g p l r x f t =
-    let v = f t in
+pub replay-grows : (p : ℕ) (l r : List Logged) (x : List ℕ) → ReplayOf p l x → ReplayOf p (l ++ r) x
+replay-grows p l r x v =
     let b : v .place < length l = v .below in
     record {
       place = v .place;
@@ -125,3 +124,6 @@ valid-append g p l r x f t =
       page-is = rw (List·getD-append l r noLogged (v .place)) (v .page-is);
       body-is = rw (replay-append p l r (suc (v .place)) b) (v .body-is);
     }
+
+pub valid-append : (g : Geometry) (p : ℕ) (l r : List Logged) (x : List ℕ) → Faithful g p l x → Faithful g p (l ++ r) x
+valid-append g p l r x f t = replay-grows p l r x (f t)

@@ -9,17 +9,21 @@ use native.Mathlib.Decide.{ℕ-discrete}
 use lib.ListN.{length}
 use lib.Dec.{eqb}
 use borrow.Author.Tests.{eqb-true, eq-eqb, ne-eqb}
-use Rattle.laws.proofs.Tables.{byCases}
+use Rattle.laws.proofs.Tables.{byCases, true-not-false}
+use Rattle.laws.proofs.Progress.{restamp-refusal}
 use Rattle.model.specs.Tables.{Row, firstOf, within}
-use Rattle.model.specs.Geometry.{geometryOf}
+use Rattle.model.specs.Geometry.{tagOf, carryTag, headed, geometryOf}
 use Rattle.model.specs.Change.{fits}
 use Rattle.model.specs.Index.{entryOf, slotUsed}
 use Rattle.model.specs.Scan.{indexOf}
 use Rattle.model.specs.State.{frameCount, validMemory, holder, held, blank, logFull, notesFull, notePending}
-use Rattle.model.specs.Refusals.{frameBlocked, pageDirty, notDurable, chainBroken, chainBelow, foundBelow, restartRows, beginRows, loadRows, changeRows, forceRows, writeRows, backupRows, releaseRows, noteRows, inspectRows}
-use Rattle.model.specs.Calls.{StoredItem, Outcome, decided, refusalOf, beginOf, loadOf, changeCall, forceOf, writeOf, backupOf, releaseOf, noteCall, noteStored, restartOf, inspectOf, Call, begin, load, change, force, write, backup, release, note, rowsOf, outcomeOf}
+use Rattle.model.specs.Refusals.{frameBlocked, pageDirty, notDurable, chainBroken, chainBelow, foundBelow, restartRows, beginRows, loadRows, changeRows, forceRows, writeRows, backupRows, releaseRows, noteRows, startCarryRows, restampRows, finishCarryRows, inspectRows}
+use Rattle.model.specs.Calls.{StoredItem, Outcome, decided, refusalOf, beginOf, loadOf, changeCall, forceOf, writeOf, backupOf, releaseOf, noteCall, noteStored, startCarryOf, restampOf, finishCarryOf, restartOf, inspectOf, Call, begin, load, change, force, write, backup, release, note, startCarry, restamp, finishCarry, rowsOf, outcomeOf}
+use Rattle.model.specs.Passes.{oldLeft}
+use Rattle.model.specs.Carry.{carries}
 use Rattle.model.specs.AbstractLog.{Logged}
 use Rattle.model.specs.declared.geometry.Geometry.{Geometry}
+use Rattle.model.specs.declared.geometry.Heading.the-variants.{First}
 use Rattle.model.specs.declared.item.Note.{Note}
 use Rattle.model.specs.declared.state.PendingNote.{PendingNote}
 use Rattle.model.specs.declared.state.PendingNote.the-variants.{Absent, Present}
@@ -36,7 +40,7 @@ decided-refusal : (rows : List Row) (m : List ℕ) (s : State) (done : Outcome) 
 decided-refusal rows m s done z = byCases (eqb (firstOf rows) 0) (λ t. rw t (z ∙ sym (eqb-true (firstOf rows) 0 t))) (λ t. rw t)
 
 pub call-refusal : (c : Call) (v m : List ℕ) (s : State) → refusalOf (outcomeOf c v m s .answer) ≡ firstOf (rowsOf c v m s)
-unfolding beginOf loadOf changeCall forceOf writeOf backupOf releaseOf noteCall
+unfolding beginOf loadOf changeCall forceOf writeOf backupOf releaseOf noteCall startCarryOf restampOf finishCarryOf
 call-refusal (begin page f fill) v m s = decided-refusal (beginRows v m s page f) m s _ refl
 call-refusal (load page f) v m s = decided-refusal (loadRows v m s page f) m s _ refl
 call-refusal (change page c payload) v m s = decided-refusal (changeRows v m s page c) m s _ refl
@@ -44,6 +48,9 @@ call-refusal force v m s = decided-refusal (forceRows v m s) m s _ (byCases (eqb
 call-refusal (write page) v m s = decided-refusal (writeRows v m s page) m s _ (byCases (pageDirty s page) (λ t. rw t) (λ t. rw t))
 call-refusal (backup page b) v m s = decided-refusal (backupRows v m s page b) m s _ refl
 call-refusal (release page) v m s = decided-refusal (releaseRows v m s page) m s _ refl
+call-refusal startCarry v m s = decided-refusal (startCarryRows v m s) m s _ refl
+call-refusal restamp v m s = restamp-refusal v m s
+call-refusal finishCarry v m s = decided-refusal (finishCarryRows v m s) m s _ refl
 call-refusal note v m s = decided-refusal (noteRows v m s) m s _ (stored (s .note))
   where
     stored : (y : PendingNote) → refusalOf (noteStored v m s y .answer) ≡ 0
@@ -93,10 +100,13 @@ module _ {C : Type 0} {g : Geometry} {v m : List ℕ} {past : List StoredItem} {
       ∷ (notesFull (geometryOf v) v s, 14) ∷ (notDurable m s page, 15) ∷ (slotUsed b (s .index), 16) ∷ []
   ownRows (release page) = (not (within (geometryOf v .pages) page), 3) ∷ (not (held s page), 8) ∷ (frameBlocked s (holder s page), 10) ∷ []
   ownRows note = []
+  ownRows startCarry = (not (headed (tagOf First) v), 1) ∷ []
+  ownRows restamp = (not (headed carryTag v), 1) ∷ []
+  ownRows finishCarry = (not (headed carryTag v), 1) ∷ (oldLeft (geometryOf v) v (s .index), 20) ∷ []
 
   -- the rows 1 and 2 do not hold
   pub rows-are : (c : Call) → firstOf (rowsOf c v m s) ≡ firstOf (ownRows c)
-  unfolding ownRows beginRows loadRows changeRows forceRows writeRows backupRows releaseRows noteRows
+  unfolding ownRows beginRows loadRows changeRows forceRows writeRows backupRows releaseRows noteRows startCarryRows restampRows finishCarryRows
   rows-are (begin page f fill) = rw (volume-ok x, memory-ok x, state-ok x)
   rows-are (load page f) = rw (volume-ok x, memory-ok x, state-ok x)
   rows-are (change page c payload) = rw (volume-ok x, memory-ok x, state-ok x)
@@ -105,21 +115,27 @@ module _ {C : Type 0} {g : Geometry} {v m : List ℕ} {past : List StoredItem} {
   rows-are (backup page b) = rw (volume-ok x, memory-ok x, state-ok x)
   rows-are (release page) = rw (volume-ok x, memory-ok x, state-ok x)
   rows-are note = rw (volume-ok x, memory-ok x, state-ok x)
+  rows-are startCarry = rw (volume-ok x, memory-ok x, state-ok x)
+  rows-are restamp = rw (volume-ok x, memory-ok x, state-ok x)
+  rows-are finishCarry = rw (volume-ok x, memory-ok x, state-ok x)
 
-  own-ordinary : (c : Call) → Ordinary (firstOf (ownRows c))
+  own-ordinary : (c : Call) → carries c ≡ false → Ordinary (firstOf (ownRows c))
   unfolding ownRows
-  own-ordinary (begin page f fill) = usual (ownRows (begin page f fill)) (omega arith) (omega arith) (omega arith) (omega arith) (omega arith)
-  own-ordinary (load page f) =
+  own-ordinary (begin page f fill) o = usual (ownRows (begin page f fill)) (omega arith) (omega arith) (omega arith) (omega arith) (omega arith)
+  own-ordinary (load page f) o =
       ordinary (ownRows (load page f)) (omega arith) (omega arith) (omega arith) (omega arith) (λ e. never-broken x page f (rows-are (load page f) ∙ e))
-  own-ordinary (change page c payload) = usual (ownRows (change page c payload)) (omega arith) (omega arith) (omega arith) (omega arith) (omega arith)
-  own-ordinary force = usual [] tt tt tt tt tt
-  own-ordinary (write page) = usual (ownRows (write page)) (omega arith) (omega arith) (omega arith) (omega arith) (omega arith)
-  own-ordinary (backup page b) = usual (ownRows (backup page b)) (omega arith) (omega arith) (omega arith) (omega arith) (omega arith)
-  own-ordinary (release page) = usual (ownRows (release page)) (omega arith) (omega arith) (omega arith) (omega arith) (omega arith)
-  own-ordinary note = usual [] tt tt tt tt tt
+  own-ordinary (change page c payload) o = usual (ownRows (change page c payload)) (omega arith) (omega arith) (omega arith) (omega arith) (omega arith)
+  own-ordinary force o = usual [] tt tt tt tt tt
+  own-ordinary (write page) o = usual (ownRows (write page)) (omega arith) (omega arith) (omega arith) (omega arith) (omega arith)
+  own-ordinary (backup page b) o = usual (ownRows (backup page b)) (omega arith) (omega arith) (omega arith) (omega arith) (omega arith)
+  own-ordinary (release page) o = usual (ownRows (release page)) (omega arith) (omega arith) (omega arith) (omega arith) (omega arith)
+  own-ordinary note o = usual [] tt tt tt tt tt
+  own-ordinary startCarry o = absurd (true-not-false refl o)
+  own-ordinary restamp o = absurd (true-not-false refl o)
+  own-ordinary finishCarry o = absurd (true-not-false refl o)
 
-  pub call-ordinary : (c : Call) → Ordinary (refusalOf (outcomeOf c v m s .answer))
-  call-ordinary c = rw (call-refusal c v m s, rows-are c) (own-ordinary c)
+  pub call-ordinary : (c : Call) → carries c ≡ false → Ordinary (refusalOf (outcomeOf c v m s .answer))
+  call-ordinary c o = rw (call-refusal c v m s, rows-are c) (own-ordinary c o)
 
   -- a page with a durable change is not blank
   pub load-durable : (p f : ℕ) → lastOf p k ≢ 0 → refusalOf (loadOf v m s p f .answer) ≢ 7

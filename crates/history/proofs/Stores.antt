@@ -14,7 +14,7 @@ use Rattle.laws.proofs.Notes.{note-length}
 use Rattle.model.specs.Bytes.{allZero}
 use Rattle.model.specs.Checksum.{sealed}
 use Rattle.model.specs.Geometry.{Place, pageAt, slotAt, recordAt, noteAt, start, item, store, ring, noteRing, most, mostNotes, slotOf, logSlot, noteSlot}
-use Rattle.model.specs.Item.{noteBytes, isWritten}
+use Rattle.model.specs.Item.{imageLsn, validImage, noteBytes, isWritten}
 use Rattle.model.specs.AbstractLog.{Logged}
 use Rattle.model.specs.declared.geometry.Geometry.{Geometry}
 use Rattle.model.specs.declared.item.Note.{Note}
@@ -265,12 +265,17 @@ module _ {C : Type 0} (g : Geometry) (v : List ℕ) (k : List Logged) (h : Holds
         (λ j a b. slot-other (recordAt j) (a, b) (omega arith)) (λ p a b. rw (slot-other (pageAt p) (a, b) (omega arith)) (h .images p a b))
 
     pub slot-noted : ((p : ℕ) → 1 ≤ p → p ≤ g .pages → markAt p ns (length ns) .slot ≡ i → Faithful g p k xs)
-        → (C → (p : ℕ) → 1 ≤ p → p ≤ g .pages → markAt p ns (length ns) .slot ≢ i) → Noted C g (store g v (slotAt i) xs) k ns
-    slot-noted f none =
+        → (C → (p : ℕ) → 1 ≤ p → p ≤ g .pages → markAt p ns (length ns) .slot ≡ i → (validImage g p xs ≡ true) × (imageLsn xs ≡ markAt p ns (length ns) .backup))
+        → Noted C g (store g v (slotAt i) xs) k ns
+    slot-noted f copy =
         noted-keep g v (store g v (slotAt i) xs) k ns (sz .l-low) o (λ j a b. slot-other (recordAt j) (a, b) (omega arith)) (λ j a b. slot-other (noteAt j) (a, b) (omega arith))
         (λ p a b z. go p a b z (ℕ-discrete (slot p) i))
-        (λ c p a b z. rw (slot-other (slotAt (slot p)) (omega (arith, slot-high p)) (λ q. none c p a b (omega arith))) (o .copies c p a b z))
+        (λ c p a b z. stands c p a b z (ℕ-discrete (slot p) i))
       where
+        stands : C → (p : ℕ) → 1 ≤ p → p ≤ g .pages → slot p ≢ 0 → Dec (slot p ≡ i) → Copy g (store g v (slotAt i) xs) p (slot p) (markAt p ns (length ns) .backup)
+        stands c p a b z (yes e) = rw (e, slot-same) (copy c p a b e)
+        stands c p a b z (no e) = rw (slot-other (slotAt (slot p)) (omega (arith, slot-high p)) (omega arith)) (o .copies c p a b z)
+
         go : (p : ℕ) → 1 ≤ p → p ≤ g .pages → slot p ≢ 0 → Dec (slot p ≡ i) → Faithful g p k (item g (store g v (slotAt i) xs) (slotAt (slot p)))
         go p a b z (yes e) = rw (e, slot-same) (f p a b e)
         go p a b z (no e) = rw (slot-other (slotAt (slot p)) (omega (arith, slot-high p)) (omega arith)) (o .backups p a b z)

@@ -36,31 +36,31 @@ use Rattle.history.proofs.Loads.{Loaded, loads, loads-above, never-brok
 use Rattle.history.proofs.Inspection.{inspect-blank, inspect-durable, inspect-granted, inspect-exact, inspect-below}
 use Rattle.history.proofs.Disk.{first, first-is}
 use Rattle.history.proofs.Views.{Unserved}
-use Rattle.history.proofs.Reached.{madeWith, tied, live}
+use Rattle.history.proofs.Reached.{present, tied, live}
 
 -- ---- one history: Inspect
 
 module _ (h : History) (legal : Legal h) (p : ℕ) (lo : 1 ≤ p) (hi : p ≤ h .pages) (buffer : List ℕ) (size : length buffer ≡ 256) where
   -- the volume's geometry is what Make was given
-  made-geo : geometryOf (reached h .volume) ≡ madeWith h
+  made-geo : geometryOf (reached h .volume) ≡ present h
   made-geo = tied h legal .holds .vol .geo
 
   abbrev ShowsOf : Type 0
   ShowsOf = (inspection h p buffer ≡ 0) × (shown h p buffer ≡ bytesOf 4 (lastOf p (durableOf h)) ++ bodyOf p (durableOf h))
 
   shows-blank : lastOf p (durableOf h) ≡ 0 → inspection h p buffer ≡ 7
-  shows-blank = let i = tied h legal in inspect-blank (madeWith h) (reached h .volume) (durableOf h) (i .holds) (i .ns) (i .noted) p lo hi buffer size
+  shows-blank = let i = tied h legal in inspect-blank (present h) (reached h .volume) (durableOf h) (i .holds) (i .ns) (i .noted) p lo hi buffer size
 
   shows-durable : lastOf p (durableOf h) ≢ 0 → ShowsOf ⊎ (inspection h p buffer ≡ 23)
-  shows-durable = let i = tied h legal in inspect-durable (madeWith h) (reached h .volume) (durableOf h) (i .holds) (i .ns) (i .noted) p lo hi buffer size
+  shows-durable = let i = tied h legal in inspect-durable (present h) (reached h .volume) (durableOf h) (i .holds) (i .ns) (i .noted) p lo hi buffer size
 
   shows-granted : lastOf p (durableOf h) ≢ 0 → (Gone h → Proviso h p) → ShowsOf
   shows-granted nz f = let i = tied h legal in
-      inspect-granted (madeWith h) (reached h .volume) (durableOf h) (i .holds) (i .ns) (i .noted) p lo hi buffer size nz (rw made-geo at f)
+      inspect-granted (present h) (reached h .volume) (durableOf h) (i .holds) (i .ns) (i .noted) p lo hi buffer size nz (rw made-geo at f)
 
   shows-below : inspection h p buffer ≡ 23 → Gone h × (Proviso h p → ⊥)
   shows-below e = let i = tied h legal in
-      rw made-geo (inspect-below (madeWith h) (reached h .volume) (durableOf h) (i .holds) (i .ns) (i .noted) p lo hi buffer size e)
+      rw made-geo (inspect-below (present h) (reached h .volume) (durableOf h) (i .holds) (i .ns) (i .noted) p lo hi buffer size e)
 
   shows-seven : inspection h p buffer ≡ 7 → lastOf p (durableOf h) ≡ 0
   shows-seven e = elim (ℕ-discrete (lastOf p (durableOf h)) 0) [
@@ -74,10 +74,10 @@ module _ (h : History) (legal : Legal h) (p : ℕ) (lo : 1 ≤ p) (hi : p ≤ h 
       ↔ Unserved (geometryOf (reached h .volume)) (reached h .volume) (durableOf h) (entryOf (indexOf (geometryOf (reached h .volume)) (reached h .volume)) p) p f
   shows-exact nz f e =
       let i = tied h legal in
-      let fi : suc f ≡ suc (first (madeWith h) (reached h .volume) (durableOf h) (i .holds) (i .ns) (i .noted)) =
-      sym (rw made-geo at e) ∙ first-is (madeWith h) (reached h .volume) (durableOf h) (i .holds) (i .ns) (i .noted) in
-      let q : f ≡ first (madeWith h) (reached h .volume) (durableOf h) (i .holds) (i .ns) (i .noted) = omega arith in
-      rw (made-geo, q) (inspect-exact (madeWith h) (reached h .volume) (durableOf h) (i .holds) (i .ns) (i .noted) p lo hi buffer size (λ z. nz (last-is p (durableOf h) ∙ z)))
+      let fi : suc f ≡ suc (first (present h) (reached h .volume) (durableOf h) (i .holds) (i .ns) (i .noted)) =
+      sym (rw made-geo at e) ∙ first-is (present h) (reached h .volume) (durableOf h) (i .holds) (i .ns) (i .noted) in
+      let q : f ≡ first (present h) (reached h .volume) (durableOf h) (i .holds) (i .ns) (i .noted) = omega arith in
+      rw (made-geo, q) (inspect-exact (present h) (reached h .volume) (durableOf h) (i .holds) (i .ns) (i .noted) p lo hi buffer size (λ z. nz (last-is p (durableOf h) ∙ z)))
 
   inspects : Inspects h p buffer
   inspects =
@@ -176,7 +176,7 @@ module _ (h k : History) (lh : Legal h) (lk : Legal k) (same : h .pages ≡ k .p
       number-bound : (h : History) → Legal h → (p : ℕ) → lastOf p (durableOf h) ≤ topNumber
       number-bound h l p =
           let i = tied h l in
-          omega (arith, last-le p (durableOf h) (length (durableOf h)), i .holds .room, most-high (madeWith h) (volume-sized (madeWith h) (reached h .volume) (i .holds .vol)))
+          omega (arith, last-le p (durableOf h) (length (durableOf h)), i .holds .room, most-high (present h) (volume-sized (present h) (reached h .volume) (i .holds .vol)))
 
   -- equal lists agree
   agree : durableOf h ≡ durableOf k → (p : ℕ) → 1 ≤ p → p ≤ h .pages → Agree h k x y p

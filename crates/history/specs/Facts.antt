@@ -7,14 +7,16 @@ use mathlib.Core.Bool.{true, false}
 use mathlib.Core.List.{List, _++_}
 use lib.ListN.{length, take}
 use Rattle.model.specs.Geometry.{Place, pageAt, slotAt, geometryOf, item}
-use Rattle.model.specs.Item.{imageLsn, imageBody, validImage, frameImage}
+use Rattle.model.specs.Item.{imagePage, imageLsn, imageBody, validImage, frameImage}
 use Rattle.model.specs.Index.{entryOf}
 use Rattle.model.specs.Scan.{indexOf}
 use Rattle.model.specs.State.{frameCount, validMemory, frameBytes, holder, held, wellFormed}
 use Rattle.model.specs.Refusals.{frameBlocked}
 use Rattle.model.specs.Calls.{Outcome, volumeAfter, Call, outcomeOf, restartOf, loadOf, releaseOf, refusalOf}
 use Rattle.model.specs.AbstractLog.{Logged, lastPlace, replay}
-use Rattle.model.specs.History.{on, isImage, storedBefore}
+use Rattle.model.specs.Passes.{isImage}
+use Rattle.model.specs.History.{on, storedBefore}
+use Rattle.model.specs.Carry.{carries}
 use Rattle.model.specs.Claim.{History, Legal, reached, logOf, durableOf, inspection, Gone, Proviso}
 use Rattle.model.specs.declared.geometry.Geometry.{Geometry}
 use Rattle.model.specs.declared.state.State.{State}
@@ -59,12 +61,12 @@ pub record IsReplay (p : ℕ) (durable : List Logged) (x : List ℕ) : Type 0 wh
   pub place : lastPlace p (take (imageLsn x) durable) ≡ imageLsn x
   pub body : imageBody x ≡ replay p (take (imageLsn x) durable)
 
--- an image that a call stored is some page's
+-- an image that a call stored is some page's; under a heading that came later it need not be valid
 pub record StoredImage (h : History) (x : List ℕ) : Type 0 where
   pub page : ℕ
   pub low : 1 ≤ page
   pub high : page ≤ h .pages
-  pub valid : validImage (headingOf h) page x ≡ true
+  pub number : imagePage x ≡ page
   pub is-replay : IsReplay page (durableOf h) x
 
 -- a page's own image: where it is valid it is a replay, and no newer than the page's last durable change; so its class
@@ -133,7 +135,9 @@ pub record LetGo (h : History) (m : List ℕ) (s : State) (c : Call) (p : ℕ) :
 
 pub record Facts : Type 0 where
   pub sound : (h : History) → Legal h → (m : List ℕ) (s : State) → reached h .power ≡ on m s → Sound h m s
-  pub calls : (h : History) → Legal h → (m : List ℕ) (s : State) → reached h .power ≡ on m s → (c : Call) → Ordinary (refusalOf (outcomeOf c (volumeOf h) m s .answer))
+  -- but for the calls that carry a volume over, whose 1 is of the heading: `Carry.OnlyHeading`
+  pub calls : (h : History) → Legal h → (m : List ℕ) (s : State) → reached h .power ≡ on m s → (c : Call) → carries c ≡ false
+      → Ordinary (refusalOf (outcomeOf c (volumeOf h) m s .answer))
   pub restarts : (h : History) → Legal h → (m : List ℕ) → Restarts h m
   pub answers : (h : History) → Legal h → (p : ℕ) (buffer : List ℕ) → Answers h p buffer
   pub stored : (h : History) → Legal h → (at : Place) (x : List ℕ) → isImage (headingOf h) at ≡ true → storedBefore at x (reached h .past) ≡ true → StoredImage h x

@@ -13,11 +13,13 @@ use borrow.Author.Tests.{eqb-true, eqb-false, ne-eqb}
 use Rattle.laws.proofs.Tables.{Numbered, when-true, when-false, byCases}
 use Rattle.laws.proofs.Parts.{splice-length, splice-before, splice-after}
 use Rattle.laws.proofs.Places.{In, in-item, item-in, place-fits, valid-facts, geometry-store}
+use Rattle.laws.proofs.Headings.{geometry-heading, differs-in-tag}
 use Rattle.model.specs.Tables.{Row, firstOf}
-use Rattle.model.specs.Geometry.{Place, width, start, store, geometryOf, validVolume}
+use Rattle.model.specs.Geometry.{Place, width, start, store, geometryOf, withTag, validVolume}
 use Rattle.model.specs.Refusals.{stateRows}
-use Rattle.model.specs.Calls.{StoredItem, nothing, oneItem, Outcome, volumeAfter, unchanged, decided, refusalOf}
+use Rattle.model.specs.Calls.{StoredItem, nothing, oneItem, newHeading, Outcome, volumeAfter, unchanged, decided, refusalOf}
 use Rattle.model.specs.Demand1.{Decides, ByTable, StoresItem, AtMostOneItem}
+use Rattle.model.specs.declared.geometry.Geometry.{Geometry}
 use Rattle.model.specs.declared.state.State.{State}
 use Rattle.model.specs.declared.answer.Answer.the-variants.{Refused}
 
@@ -99,20 +101,27 @@ at-most-one v (oneItem at xs) h =
     let f : start g at + width at ≤ length v = place-fits g v (valid-facts v (h .0) .size) at (in-item g at (h .1)) in
     let e : length xs ≡ width at = h .2 in
     let k : start g at + length xs ≤ length v = omega arith in
-    inr (
+    inr (inl (
       at,
       record {
         item = h .1;
         size = splice-length v (start g at) xs k;
         outside = λ i d. ⊎-elim (λ l. splice-before v (start g at) xs k i l) (λ l. splice-after v (start g at) xs k i (omega arith)) d;
       },
-    )
+    ))
+at-most-one v (newHeading tag) h = inr (inr (differs-in-tag v (h .0) tag))
 
--- and the geometry stays
-pub geometry-after : (v : List ℕ) (x : StoredItem) → StoresItem v x → geometryOf (volumeAfter v x) ≡ geometryOf v
+-- and the geometry stays, but for the tag of a heading that is stored
+abbrev pub geometryWith : Geometry → StoredItem → Geometry
+geometryWith g nothing = g
+geometryWith g (oneItem at xs) = g
+geometryWith g (newHeading tag) = withTag g tag
+
+pub geometry-after : (v : List ℕ) (x : StoredItem) → StoresItem v x → geometryOf (volumeAfter v x) ≡ geometryWith (geometryOf v) x
 unfolding volumeAfter
 geometry-after v nothing h = refl
 geometry-after v (oneItem at xs) h = geometry-store v (h .0) at xs (in-item (geometryOf v) at (h .1)) (h .2)
+geometry-after v (newHeading tag) h = geometry-heading v (h .0) tag
 
 -- what holds of an outcome that is decided by a table
 pub record KeepsBy (rows : List Row) (v m : List ℕ) (s : State) (o : Outcome) : Type 0 where

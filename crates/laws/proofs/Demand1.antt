@@ -1,30 +1,33 @@
 -- Demand 1, proved from the outcome definitions: refused exactly by the table, a refusal changes nothing, at most one item is stored.
 use mathlib.Core.Path.{_≡_, refl, sym, ap, _∙_}
-use mathlib.Core.Logic.{_≢_}
+use mathlib.Core.Logic.{_≢_, inl, inr}
 use mathlib.Core.Bool.{Bool, true, false, _&&_, not}
 use mathlib.Core.List.{List, [], _∷_}
 use Prim.Native.Nat.{ℕ, _+_, _-_, _≤_}
 use native.Mathlib.Nat.{mod-lt}
 use native.Mathlib.Omega.{arith}
-use lib.Dec.{eqb}
+use lib.Dec.{eqb, ltb}
 use lib.ListN.{length}
-use borrow.Author.Tests.{eqb-true, eqb-false, ne-eqb, not-false}
+use borrow.Author.Tests.{eqb-true, eqb-false, ne-eqb, not-false, ltb-true}
 use Rattle.laws.proofs.Tables.{Numbered, none-at, when-false, byCases, within-bounds}
-use Rattle.laws.proofs.Places.{valid-facts}
+use Rattle.laws.proofs.Places.{valid-facts, item-length}
 use Rattle.laws.proofs.Items.{sealImage-length}
+use Rattle.laws.proofs.Carry.{image-in, image-place}
 use Rattle.laws.proofs.Notes.{note-length}
-use Rattle.laws.proofs.WellFormed.{formed-note, Ready, ready, pending-length, frame-length, holder-low, holder-within}
+use Rattle.laws.proofs.WellFormed.{formed-note, Ready, ready, ready-behind, pending-length, frame-length, holder-low, holder-within}
 use Rattle.laws.proofs.Decided.{by-table, stores, stored-within, at-most-one, KeepsBy, keeps-by, numbered-state, either}
 use Rattle.model.specs.Tables.{Row, firstOf, within}
 use Rattle.model.specs.Checksum.{sealImage}
 use Rattle.model.specs.Item.{noteBytes}
-use Rattle.model.specs.Geometry.{pageAt, slotAt, logSlot, noteSlot, geometryOf, validVolume, validCounts, lengthFor}
+use Rattle.model.specs.Geometry.{tagOf, carryTag, headed, pageAt, slotAt, logSlot, noteSlot, geometryOf, validVolume, validCounts, lengthFor, item}
 use Rattle.model.specs.State.{frameCount, frameBytes, pendingBytes, holder, held, notePending, notesFull, zeroState, pendingNoteFits}
-use Rattle.model.specs.Refusals.{pageDirty, notDurable, makeRows, restartRows, beginRows, loadRows, changeRows, forceRows, writeRows, backupRows, releaseRows, noteRows, inspectRows}
+use Rattle.model.specs.Refusals.{pageDirty, notDurable, makeRows, restartRows, beginRows, loadRows, changeRows, forceRows, writeRows, backupRows, releaseRows, noteRows, startCarryRows, restampRows, finishCarryRows, inspectRows}
 use Rattle.model.specs.Index.{slotUsed}
-use Rattle.model.specs.Calls.{nothing, beginOf, loadOf, changeCall, forceOf, writeOf, backupOf, releaseOf, noteCall, noteStored, restartOf, makeOf, inspectOf, refusalOf, Call, begin, load, change, force, write, backup, release, note, rowsOf, outcomeOf, Made, Inspected}
+use Rattle.model.specs.Passes.{imageCount, imagePlace, firstOld, oldLeft}
+use Rattle.model.specs.Calls.{nothing, beginOf, loadOf, changeCall, forceOf, writeOf, backupOf, releaseOf, noteCall, noteStored, startCarryOf, restampOf, finishCarryOf, restartOf, makeOf, inspectOf, refusalOf, Call, begin, load, change, force, write, backup, release, note, startCarry, restamp, finishCarry, rowsOf, outcomeOf, Made, Inspected}
 use Rattle.model.specs.Demand1.{ByTable, StoresItem, Keeps, Arrays, Demand1}
 use Rattle.model.specs.declared.geometry.Heading.{Heading}
+use Rattle.model.specs.declared.geometry.Heading.the-variants.{First}
 use Rattle.model.specs.declared.change.Change.{Change}
 use Rattle.model.specs.declared.state.State.{State}
 use Rattle.model.specs.declared.state.PendingNote.{PendingNote}
@@ -136,6 +139,38 @@ note-keeps v m s =
     keeps-by _ v m s _ (numbered-state v m s [] tt) (note-stored-accepts v m s (s .note))
     (λ h. let r = ready v m s [] h in note-stored-one v m s (r .volume) (s .note) (r .state .note))
 
+-- ---- the calls that carry a volume over
+
+start-keeps : (v m : List ℕ) (s : State) → KeepsBy (startCarryRows v m s) v m s (startCarryOf v m s)
+unfolding startCarryOf startCarryRows
+start-keeps v m s =
+    keeps-by _ v m s _ (eqb-false 1 0 refl, numbered-state v m s [] tt) refl
+    (λ h. (ready-behind (not (headed (tagOf First) v)) v m s [] h .1 .volume, inl refl))
+
+finish-keeps : (v m : List ℕ) (s : State) → KeepsBy (finishCarryRows v m s) v m s (finishCarryOf v m s)
+unfolding finishCarryOf finishCarryRows
+finish-keeps v m s =
+    let rest : List Row = (oldLeft (geometryOf v) v (s .index), 20) ∷ [] in
+    keeps-by _ v m s _ (eqb-false 1 0 refl, numbered-state v m s rest (eqb-false 20 0 refl, tt)) refl
+    (λ h. (ready-behind (not (headed carryTag v)) v m s rest h .1 .volume, inr refl))
+
+restamp-keeps : (v m : List ℕ) (s : State) → KeepsBy (restampRows v m s) v m s (restampOf v m s)
+unfolding restampOf restampRows
+restamp-keeps v m s =
+    let g = geometryOf v in
+    let i = firstOld g v (s .index) in
+    let at = imagePlace g i in
+    keeps-by _ v m s _ (eqb-false 1 0 refl, numbered-state v m s [] tt)
+    (either (ltb i (imageCount g)) _ _ (λ o. refusalOf (o .answer) ≡ 0) (λ _. refl) (λ _. refl))
+    (λ h.
+    let r = ready-behind (not (headed carryTag v)) v m s [] h .1 in
+    either (ltb i (imageCount g)) _ _ (λ o. StoresItem v (o .stored))
+    (λ t.
+    let q = image-place g at (image-in g i (ltb-true i (imageCount g) t)) in
+    let n : length (item g v at) ≡ 256 = item-length g v (valid-facts v (r .volume) .size) at (q .0) ∙ q .1 in
+    stored-within v (r .volume) at (sealImage g (item g v at)) (q .0) (sealImage-length g (item g v at) n ∙ sym (q .1)))
+    (λ _. tt))
+
 -- ---- the whole
 
 keeps : {c : Call} {v m : List ℕ} {s : State} → KeepsBy (rowsOf c v m s) v m s (outcomeOf c v m s) → Keeps c v m s
@@ -150,6 +185,9 @@ call-keeps (write page) v m s a = write-keeps v m s page a
 call-keeps (backup page slot) v m s a = backup-keeps v m s page slot a
 call-keeps (release page) v m s a = release-keeps v m s page
 call-keeps note v m s a = note-keeps v m s
+call-keeps startCarry v m s a = start-keeps v m s
+call-keeps restamp v m s a = restamp-keeps v m s
+call-keeps finishCarry v m s a = finish-keeps v m s
 
 make-keeps : (h : Heading) (v : List ℕ) (p b l n : ℕ) → ByTable (makeRows v p b l n) (refusalOf (makeOf h v p b l n .answer)) × (refusalOf (makeOf h v p b l n .answer) ≢ 0 → makeOf h v p b l n .volume ≡ v)
 unfolding makeOf makeRows

@@ -26,7 +26,8 @@ use Rattle.model.specs.Item.{imagePage, imageLsn, validImage, validSomewhere}
 use Rattle.model.specs.Index.{slotUsed}
 use Rattle.model.specs.Scan.{indexOf}
 use Rattle.model.specs.Repair.{View, classOf, classIn}
-use Rattle.model.specs.History.{Machine, damage, isImage, passesAt, validAsNoted, storedBefore, allowed}
+use Rattle.model.specs.Passes.{isImage, passesAt, validAsNoted}
+use Rattle.model.specs.History.{Machine, damage, storedBefore, allowed}
 use Rattle.model.specs.Detection.{withWord, WordError, ImageError, Detection}
 use Rattle.model.specs.declared.geometry.Geometry.{Geometry}
 use Rattle.model.specs.declared.geometry.Heading.the-variants.{First, Second}

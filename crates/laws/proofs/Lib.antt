@@ -5,7 +5,10 @@ pub mod Parts
 pub mod Fields
 pub mod Checksums
 pub mod Places
+pub mod Headings
+pub mod Search
 pub mod Items
+pub mod Carry
 pub mod Zeros
 pub mod ChangeRule
 pub mod Changes
@@ -17,6 +20,9 @@ pub mod Frames
 pub mod FramePut
 pub mod Decided
 pub mod Demand1
+pub mod FormedTags
+pub mod Restamped
+pub mod Progress
 pub mod StaysFormed
 pub mod Health
 pub mod Detection

@@ -16,7 +16,7 @@ use Rattle.laws.proofs.Parts.{part-at, part-length, splice-length, part
 use Rattle.laws.proofs.Fields.{le-take}
 use Rattle.model.specs.Tables.{all, within}
 use Rattle.model.specs.Bytes.{le, field, byteAt, part, splice, startsWith}
-use Rattle.model.specs.Geometry.{magic, knownMagic, slotCountAt, recordCountAt, noteCountAt, lengthFor, pagesOf, slotsOf, recordsOf, notesOf, geometryOf, validCounts, validVolume, Place, pageAt, slotAt, recordAt, noteAt, itemOf, width, start, item, store}
+use Rattle.model.specs.Geometry.{magic, magicOf, carryTag, knownMagic, slotCountAt, recordCountAt, noteCountAt, lengthFor, pagesOf, slotsOf, recordsOf, notesOf, geometryOf, validCounts, validVolume, Place, pageAt, slotAt, recordAt, noteAt, itemOf, width, start, item, store}
 use Rattle.model.specs.declared.geometry.Geometry.{Geometry}
 use Rattle.model.specs.declared.geometry.Heading.the-variants.{First, Second}
 
@@ -160,13 +160,13 @@ valid-facts v h =
 
 -- ---- a store leaves the heading
 
--- two volumes with the same heading fields have the same geometry
-same-geometry : (v w : List ℕ) → byteAt w 3 ≡ byteAt v 3 → field 4 4 w ≡ field 4 4 v
+-- two volumes with the same count fields have the same counts
+pub same-counts : (v w : List ℕ) → field 4 4 w ≡ field 4 4 v
     → field 4 (slotCountAt (pagesOf v)) w ≡ field 4 (slotCountAt (pagesOf v)) v
     → field 4 (recordCountAt (pagesOf v) (slotsOf v)) w ≡ field 4 (recordCountAt (pagesOf v) (slotsOf v)) v
     → field 4 (noteCountAt (pagesOf v) (slotsOf v) (recordsOf v)) w ≡ field 4 (noteCountAt (pagesOf v) (slotsOf v) (recordsOf v)) v
     → (pagesOf w ≡ pagesOf v) × (slotsOf w ≡ slotsOf v) × (recordsOf w ≡ recordsOf v) × (notesOf w ≡ notesOf v)
-same-geometry v w et ep eb el en =
+same-counts v w ep eb el en =
     let b : slotsOf w ≡ slotsOf v = ap (λ (k : ℕ). field 4 (slotCountAt k) w) ep ∙ eb in
     let l : recordsOf w ≡ recordsOf v = ap (λ (k : ℕ). field 4 (recordCountAt k (slotsOf w)) w) ep ∙ ap (λ (k : ℕ). field 4 (recordCountAt (pagesOf v) k) w) b ∙ el in
     let n : notesOf w ≡ notesOf v =
@@ -187,11 +187,11 @@ starts-take (x ∷ m) (y ∷ xs) (z ∷ ys) e =
     rw (p, starts-take m xs ys q)
 
 -- a test of four numbers that are equal
-same-four : (t : ℕ → ℕ → ℕ → ℕ → Bool) {p b l n p′ b′ l′ n′ : ℕ} → p ≡ p′ → b ≡ b′ → l ≡ l′ → n ≡ n′ → t p b l n ≡ t p′ b′ l′ n′
+pub same-four : (t : ℕ → ℕ → ℕ → ℕ → Bool) {p b l n p′ b′ l′ n′ : ℕ} → p ≡ p′ → b ≡ b′ → l ≡ l′ → n ≡ n′ → t p b l n ≡ t p′ b′ l′ n′
 same-four t ep eb el en = cc
 
 -- an item's place lies apart from the heading's fields
-place-after : (g : Geometry) (at : Place) → In g at → 8 ≤ start g at
+pub place-after : (g : Geometry) (at : Place) → In g at → 8 ≤ start g at
 place-after g (pageAt i) h = omega arith
 place-after g (slotAt i) h = omega arith
 place-after g (recordAt i) h = omega arith
@@ -240,8 +240,7 @@ module _ (v : List ℕ) (ok : validVolume v ≡ true) (at : Place) (xs : List �
   counts-kept : (pagesOf after ≡ pagesOf v) × (slotsOf after ≡ slotsOf v) × (recordsOf after ≡ recordsOf v) × (notesOf after ≡ notesOf v)
   unfolding geometryOf
   counts-kept =
-      same-geometry v after (sym (part-at after 0 4 3 (lit< tt)) ∙ ap (λ (l : List ℕ). getD l 3 0) four-kept ∙ part-at v 0 4 3 (lit< tt))
-      (field-kept 4 (inl (place-after (geometryOf v) at h)))
+      same-counts v after (field-kept 4 (inl (place-after (geometryOf v) at h)))
       (field-kept (slotCountAt (pagesOf v)) (clear-slots (geometryOf v) at h))
       (field-kept (recordCountAt (pagesOf v) (slotsOf v)) (clear-records (geometryOf v) at h))
       (field-kept (noteCountAt (pagesOf v) (slotsOf v) (recordsOf v)) (clear-notes (geometryOf v) at h))
@@ -266,7 +265,7 @@ module _ (v : List ℕ) (ok : validVolume v ≡ true) (at : Place) (xs : List �
   valid-store =
       let c = counts-kept in
       let f = valid-facts v ok in
-      let s : knownMagic after ≡ true = rw (starts-take (magic First) after v four-kept, starts-take (magic Second) after v four-kept) (f .heading) in
+      let s : knownMagic after ≡ true = rw (starts-take (magic First) after v four-kept, starts-take (magic Second) after v four-kept, starts-take (magicOf carryTag) after v four-kept) (f .heading) in
       let n : length after ≡ length v = store-length (geometryOf v) v size at xs h e in
       let k : validCounts (pagesOf after) (slotsOf after) (recordsOf after) (notesOf after) ≡ true =
       same-four validCounts (c .0) (c .1) (c .2) (c .3) ∙ f .counts in

@@ -115,8 +115,8 @@ module _ (ring : Bool) (L n : ℕ) (W T S W′ T′ S′ : ℕ → Type 0) (up :
       }
 
 -- a section that is no ring is also one of a ring (§4: Finish may come at any live moment); DISPLACED is empty there
-pub run-finish : (L n : ℕ) (W T S : ℕ → Type 0) → Run false L n W T S → Run true L n W T S
-run-finish L n W T S r =
+pub run-plain : (ring : Bool) (L n : ℕ) (W T S : ℕ → Type 0) → Run false L n W T S → Run ring L n W T S
+run-plain ring L n W T S r =
     record { held = r .held; oldest = λ i b e. ⊎-elim inl (λ h. absurd (true-not-false (h .0) refl)) (r .oldest i b e); lost = r .lost }
 
 pub displaced-none : (L n t : ℕ) (S : ℕ → Type 0) → t ≤ L → Displaced L n t S

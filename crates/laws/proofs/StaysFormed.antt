@@ -12,22 +12,26 @@ use lib.Seq.{getD-set-same, getD-set-other}
 use borrow.Author.Tests.{leb-false, le-leb, ltb-false, lt-ltb, eqb-true, eqb-false, eq-eqb, ne-eqb, not-false}
 use Rattle.laws.proofs.Tables.{none-at, all-holds, or-neither, byCases, within-bounds, within-holds, true-not-false}
 use Rattle.laws.proofs.Places.{valid-facts}
-use Rattle.laws.proofs.WellFormed.{Ready, ready, holder-low, holder-high, holder-page, holder-within}
+use Rattle.laws.proofs.WellFormed.{Ready, ready, ready-behind, holder-low, holder-high, holder-page, holder-within}
 use Rattle.laws.proofs.Frames.{not-held, row-fits, Numbers, entry-of, forms}
 use Rattle.laws.proofs.FramePut.{Durable, Put, put-formed}
-use Rattle.laws.proofs.Decided.{geometry-after, either}
+use Rattle.laws.proofs.Decided.{geometryWith, geometry-after, either}
+use Rattle.laws.proofs.Headings.{headed-tag, no-ring}
+use Rattle.laws.proofs.FormedTags.{formed-tag}
 use Rattle.laws.proofs.Demand1.{call-keeps}
 use Rattle.model.specs.Tables.{Row, firstOf, within}
-use Rattle.model.specs.Geometry.{most, mostNotes, geometryOf}
+use Rattle.model.specs.Geometry.{tagOf, carryTag, headed, most, mostNotes, geometryOf}
 use Rattle.model.specs.Change.{fits}
 use Rattle.model.specs.Item.{imageLsn, noteLayout}
 use Rattle.model.specs.Index.{emptyEntry, entryOf, withLast, slotUsed}
+use Rattle.model.specs.Passes.{imageCount, firstOld, oldLeft}
 use Rattle.model.specs.State.{frameCount, frameBytes, frameRow, holder, held, blank, lastNumber, logFull, notesFull, notePending, pendingNoteFits, frameFits, entryFits, pageFits, wellFormed}
-use Rattle.model.specs.Refusals.{frameBlocked, pageDirty, notDurable, chainBroken, chainBelow, beginRows, loadRows, changeRows, writeRows, backupRows, releaseRows}
-use Rattle.model.specs.Calls.{Outcome, decided, withFrame, withFrames, appendedState, nextNote, beginOf, loadOf, changeCall, writeOf, backupOf, releaseOf, Call, begin, load, change, force, write, backup, release, note, outcomeOf}
+use Rattle.model.specs.Refusals.{frameBlocked, pageDirty, notDurable, chainBroken, chainBelow, beginRows, loadRows, changeRows, writeRows, backupRows, releaseRows, startCarryRows, restampRows, finishCarryRows}
+use Rattle.model.specs.Calls.{nothing, oneItem, newHeading, Outcome, decided, withFrame, withFrames, appendedState, nextNote, beginOf, loadOf, changeCall, writeOf, backupOf, releaseOf, startCarryOf, restampOf, finishCarryOf, Call, begin, load, change, force, write, backup, release, note, startCarry, restamp, finishCarry, outcomeOf}
 use Rattle.model.specs.Demand1.{Arrays}
 use Rattle.model.specs.WellFormed.{entersIndex, KeepsWellFormed}
 use Rattle.model.specs.declared.geometry.Geometry.{Geometry}
+use Rattle.model.specs.declared.geometry.Heading.the-variants.{First, Second}
 use Rattle.model.specs.declared.change.Change.{Change}
 use Rattle.model.specs.declared.state.PendingNote.{PendingNote}
 use Rattle.model.specs.declared.state.State.{State}
@@ -39,12 +43,13 @@ record Good (g : Geometry) (frames : ℕ) (s : State) : Type 0 where
   arrays : Arrays s
   state : wellFormed g frames s ≡ true
 
--- of an outcome
+-- of an outcome, by the geometry that it leaves
 record Stays (g : Geometry) (frames : ℕ) (o : Outcome) : Type 0 where
-  good : Good g frames (o .state)
+  good : Good (geometryWith g (o .stored)) frames (o .state)
 
 -- a call by its table
-stays-by : (g : Geometry) (frames : ℕ) (rows : List Row) (m : List ℕ) (s : State) (done : Outcome) → Good g frames s → (firstOf rows ≡ 0 → Good g frames (done .state))
+stays-by : (g : Geometry) (frames : ℕ) (rows : List Row) (m : List ℕ) (s : State) (done : Outcome) → Good g frames s
+    → (firstOf rows ≡ 0 → Good (geometryWith g (done .stored)) frames (done .state))
     → Stays g frames (decided rows m s done)
 stays-by g frames rows m s done a b = record { good = byCases (eqb (firstOf rows) 0) (λ t. rw t (b (eqb-true _ _ t))) (λ t. rw t a) }
 
@@ -270,7 +275,7 @@ module _ (v m : List ℕ) (s : State) (a : Arrays s) (ok : wellFormed (geometryO
       let t = not-false (held s page) (none 1) in
       let lo = at-low v m s a rest r page (w .0) t in
       let pg = at-page v m s a rest r page (w .0) t in
-      either (pageDirty s page) _ _ (λ o. Good (geometryOf v) (frameCount (length m)) (o .state))
+      either (pageDirty s page) _ _ (λ o. Good (geometryWith (geometryOf v) (o .stored)) (frameCount (length m)) (o .state))
       (λ y. framed-good v m s a rest r page (holder s page) (w .0) (w .1) lo (at-within v m s a rest r page (w .0) t) (at-alone v m s a rest r page (w .0) t)
       (λ nz ne. absurd (ne pg)) false _ (some rest r page (w .0) t)
       (next-fits v m s a rest r page 1 0 (imageLsn (frameBytes m (holder s page))) (w .0) (w .1) (rw y at (none 3)) (ltb-false _ _ (rw y at (none 4))) refl refl))
@@ -304,6 +309,33 @@ module _ (v m : List ℕ) (s : State) (a : Arrays s) (ok : wellFormed (geometryO
       let t = not-false (held s page) (none 1) in
       emptied-good v m s a rest r (holder s page) (at-low v m s a rest r page (w .0) t) (at-within v m s a rest r page (w .0) t) (none 2))
 
+  -- a heading stored where there is no ring
+  headed-good : (old tag : ℕ) (rest : List Row) → eqb old (tagOf Second) ≡ false → headed old v ≡ true → Ready v m s rest
+      → Good (geometryWith (geometryOf v) (newHeading tag)) (frameCount (length m)) s
+  headed-good old tag rest ne h r =
+      let f = valid-facts v (r .volume) in
+      let e : eqb (geometryOf v .tag) (tagOf Second) ≡ false = rw (headed-tag old v h) ne in
+      record { arrays = a; state = formed-tag (geometryOf v) (no-ring (geometryOf v) e) (f .l-high) (f .n-high) tag (frameCount (length m)) s ok }
+
+  start-stays : StaysHere (startCarryOf v m s)
+  unfolding startCarryOf startCarryRows
+  start-stays = stays-by (geometryOf v) (frameCount (length m)) (startCarryRows v m s) m s _ same-good (λ h.
+      let r = ready-behind (not (headed (tagOf First) v)) v m s [] h in
+      headed-good (tagOf First) carryTag [] refl (not-false _ (r .0)) (r .1))
+
+  restamp-stays : StaysHere (restampOf v m s)
+  unfolding restampOf
+  restamp-stays = stays-by (geometryOf v) (frameCount (length m)) (restampRows v m s) m s _ same-good (λ h.
+      either (ltb (firstOld (geometryOf v) v (s .index)) (imageCount (geometryOf v))) _ _ (λ o. Good (geometryWith (geometryOf v) (o .stored)) (frameCount (length m)) (o .state))
+      (λ y. same-good) (λ y. same-good))
+
+  finish-stays : StaysHere (finishCarryOf v m s)
+  unfolding finishCarryOf finishCarryRows
+  finish-stays = stays-by (geometryOf v) (frameCount (length m)) (finishCarryRows v m s) m s _ same-good (λ h.
+      let rest : List Row = (oldLeft (geometryOf v) v (s .index), 20) ∷ [] in
+      let r = ready-behind (not (headed carryTag v)) v m s rest h in
+      headed-good carryTag (tagOf Second) rest refl (not-false _ (r .0)) (r .1))
+
   call-stays : (c : Call) → entersIndex c ≡ false → StaysHere (outcomeOf c v m s)
   call-stays (begin page f fill) n = begin-stays page f fill
   call-stays (load page f) n = load-stays page f
@@ -313,6 +345,9 @@ module _ (v m : List ℕ) (s : State) (a : Arrays s) (ok : wellFormed (geometryO
   call-stays (backup page slot) n = backup-stays page slot
   call-stays (release page) n = release-stays page
   call-stays note n = absurd (true-not-false refl n)
+  call-stays startCarry n = start-stays
+  call-stays restamp n = restamp-stays
+  call-stays finishCarry n = finish-stays
 
 pub keeps-well-formed : KeepsWellFormed
 keeps-well-formed c n v m s a ok =

@@ -184,3 +184,9 @@ ready v m s rows h =
       state = formed (geometryOf v) (frameCount (length m)) s (not-false _ (pick-none c 2 _ two h₂));
       rest = pick-rest c 2 _ two h₂;
     }
+
+-- and a row before them
+pub ready-behind : (t : Bool) (v m : List ℕ) (s : State) (rows : List Row) → firstOf ((t, 1) ∷ stateRows v m s rows) ≡ 0 → (t ≡ false) × Ready v m s rows
+ready-behind t v m s rows h =
+    let one : _≡_ {A = ℕ} 1 0 → ⊥ = eqb-false 1 0 refl in
+    (pick-none t 1 _ one h, ready v m s rows (pick-rest t 1 _ one h))

@@ -1,23 +1,26 @@
 -- The calls: what each answers, and what it makes of state, memory, volume and buffer. States document 01, "The calls".
--- A call's outcome holds at most one item to store, so that no call stores more, and a crash within it has one thing to
--- tear.
+-- And of document 02, §5 and §4: Release; Start, Restamp and Finish, which carry a volume over to the second heading. A
+-- call's outcome holds at most one item, or the heading, to store, so that no call stores more, and a crash within it
+-- has one thing to tear.
 use Prim.Native.Nat.{ℕ, zero, suc, _+_, _-_, _*_}
 use mathlib.Core.Bool.{Bool, true, false, cond, _&&_, not}
 use mathlib.Core.List.{List, [], _∷_, _++_}
-use lib.Dec.{eqb}
+use lib.Dec.{eqb, ltb}
 use lib.ListN.{length, take, drop, set, replicate}
 use Rattle.model.specs.Tables.{Row, firstOf, within}
 use Rattle.model.specs.Bytes.{le, bytesOf, field, part, splice}
 use Rattle.model.specs.Checksum.{sealImage}
-use Rattle.model.specs.Geometry.{Place, pageAt, slotAt, logSlot, noteSlot, geometryOf, emptyVolume, store}
+use Rattle.model.specs.Geometry.{tagOf, carryTag, Place, pageAt, slotAt, logSlot, noteSlot, geometryOf, emptyVolume, item, store, storeHeading}
 use Rattle.model.specs.Change.{zeroBody, applyChange}
 use Rattle.model.specs.Item.{imageLsn, imageBody, frameImage, encodeChange, noteBytes}
 use Rattle.model.specs.Index.{entryOf, setEntry, withLast, withDurable, enterNote}
+use Rattle.model.specs.Passes.{imageCount, imagePlace, firstOld}
 use Rattle.model.specs.Scan.{durableCount, firstHeld, noteCount, indexOf}
 use Rattle.model.specs.Repair.{viewOf, repairOf, rebuilt, classIn}
 use Rattle.model.specs.State.{pendingAt, pendingBytes, frameAt, frameBytes, zeroState, emptyFrame, lastNumber, lastNote, holder}
-use Rattle.model.specs.Refusals.{pageDirty, makeRows, restartRows, beginRows, loadRows, changeRows, forceRows, writeRows, backupRows, releaseRows, noteRows, inspectRows}
+use Rattle.model.specs.Refusals.{pageDirty, makeRows, restartRows, beginRows, loadRows, changeRows, forceRows, writeRows, backupRows, releaseRows, noteRows, startCarryRows, restampRows, finishCarryRows, inspectRows}
 use Rattle.model.specs.declared.geometry.Heading.{Heading}
+use Rattle.model.specs.declared.geometry.Heading.the-variants.{Second}
 use Rattle.model.specs.declared.change.Change.{Change}
 use Rattle.model.specs.declared.change.Change.the-variants.{Format}
 use Rattle.model.specs.declared.item.Note.{Note}
@@ -33,10 +36,11 @@ use Rattle.model.specs.declared.answer.Reply.{Reply}
 use Rattle.model.specs.declared.answer.Answer.{Answer}
 use Rattle.model.specs.declared.answer.Answer.the-variants.{Refused, Nothing, Done, Repaired}
 
--- what a call stores
+-- what a call stores; `newHeading` is the heading with another tag
 pub data StoredItem : Type 0 where
   nothing : StoredItem
   oneItem : Place → List ℕ → StoredItem
+  newHeading : ℕ → StoredItem
 
 -- what a call on the state leaves
 pub record Outcome : Type 0 where
@@ -53,6 +57,7 @@ replyOf o = record { answer = o .answer; state = o .state }
 unfoldable pub volumeAfter : List ℕ → StoredItem → List ℕ
 volumeAfter v nothing = v
 volumeAfter v (oneItem at xs) = store (geometryOf v) v at xs
+volumeAfter v (newHeading tag) = storeHeading v tag
 
 -- a call that leaves everything as it was, and answers; a refused call is one
 abbrev pub unchanged : Answer → List ℕ → State → Outcome
@@ -221,6 +226,32 @@ noteStored v m s (Present n) =
 unfoldable pub noteCall : List ℕ → List ℕ → State → Outcome
 noteCall v m s = decided (noteRows v m s) m s (noteStored v m s (s .note))
 
+-- ---- carrying a volume over (document 02, §4); memory and state stay as given
+
+-- a call that stores, and leaves memory and state
+abbrev pub storing : StoredItem → List ℕ → State → Outcome
+storing x m s = record { answer = Done; state = s; memory = m; stored = x }
+
+-- Start: it "turns a volume's first heading to 43 48 50 43"
+unfoldable pub startCarryOf : List ℕ → List ℕ → State → Outcome
+startCarryOf v m s = decided (startCarryRows v m s) m s (storing (newHeading carryTag) m s)
+
+-- Restamp: "One call restamps the first image, pages before slots, that passes only the old sum": its bytes 0 to 251 as
+-- they lie, the byte sum set (new images have it under this heading). "When none is left it answers Nothing"
+unfoldable pub restampOf : List ℕ → List ℕ → State → Outcome
+restampOf v m s =
+    let g = geometryOf v in
+    let i = firstOld g v (s .index) in
+    let at = imagePlace g i in
+    decided (restampRows v m s) m s
+    (cond (ltb i (imageCount g)) (storing (oneItem at (sealImage g (item g v at))) m s) (unchanged Nothing m s))
+
+-- Finish: it "sets §3's heading"
+unfoldable pub finishCarryOf : List ℕ → List ℕ → State → Outcome
+finishCarryOf v m s = decided (finishCarryRows v m s) m s (storing (newHeading (tagOf Second)) m s)
+
+-- ---- calls without a state
+
 -- the state that a volume's log and notes give, with no frame in use
 unfoldable pub restartState : List ℕ → State
 restartState v =
@@ -278,6 +309,9 @@ pub data Call : Type 0 where
   backup : ℕ → ℕ → Call
   release : ℕ → Call
   note : Call
+  startCarry : Call
+  restamp : Call
+  finishCarry : Call
 
 abbrev pub rowsOf : Call → List ℕ → List ℕ → State → List Row
 rowsOf (begin page frame fill) v m s = beginRows v m s page frame
@@ -288,6 +322,9 @@ rowsOf (write page) v m s = writeRows v m s page
 rowsOf (backup page slot) v m s = backupRows v m s page slot
 rowsOf (release page) v m s = releaseRows v m s page
 rowsOf note v m s = noteRows v m s
+rowsOf startCarry v m s = startCarryRows v m s
+rowsOf restamp v m s = restampRows v m s
+rowsOf finishCarry v m s = finishCarryRows v m s
 
 abbrev pub outcomeOf : Call → List ℕ → List ℕ → State → Outcome
 outcomeOf (begin page frame fill) v m s = beginOf v m s page frame fill
@@ -298,3 +335,6 @@ outcomeOf (write page) v m s = writeOf v m s page
 outcomeOf (backup page slot) v m s = backupOf v m s page slot
 outcomeOf (release page) v m s = releaseOf v m s page
 outcomeOf note v m s = noteCall v m s
+outcomeOf startCarry v m s = startCarryOf v m s
+outcomeOf restamp v m s = restampOf v m s
+outcomeOf finishCarry v m s = finishCarryOf v m s

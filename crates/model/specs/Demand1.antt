@@ -9,11 +9,12 @@ use mathlib.Core.Bool.{Bool, true, false}
 use mathlib.Core.List.{List, [], _∷_}
 use lib.ListN.{length, getD}
 use Rattle.model.specs.Tables.{Row}
-use Rattle.model.specs.Geometry.{Place, itemOf, width, start, geometryOf, validVolume}
+use Rattle.model.specs.Geometry.{tagOf, carryTag, Place, itemOf, width, start, geometryOf, validVolume}
 use Rattle.model.specs.State.{zeroState}
 use Rattle.model.specs.Refusals.{makeRows, restartRows, inspectRows}
-use Rattle.model.specs.Calls.{StoredItem, nothing, oneItem, Outcome, volumeAfter, refusalOf, Call, rowsOf, outcomeOf, makeOf, restartOf, inspectOf}
+use Rattle.model.specs.Calls.{StoredItem, nothing, oneItem, newHeading, Outcome, volumeAfter, refusalOf, Call, rowsOf, outcomeOf, makeOf, restartOf, inspectOf}
 use Rattle.model.specs.declared.geometry.Heading.{Heading}
+use Rattle.model.specs.declared.geometry.Heading.the-variants.{Second}
 use Rattle.model.specs.declared.state.State.{State}
 
 -- a row of the table holds, has the number, and no row before it holds
@@ -30,10 +31,12 @@ pub record ByTable (rows : List Row) (n : ℕ) : Type 0 where
   pub only : (k : ℕ) → Decides rows k → n ≡ k
   pub numbered : (k : ℕ) → Decides rows k → k ≢ 0
 
--- what a call may store: nothing, or one item of a valid volume, as many bytes as the item has
+-- what a call may store: nothing; one item of a valid volume, as many bytes as the item has; or, of a valid volume, the
+-- heading of one that is being carried over or the second one
 abbrev pub StoresItem : List ℕ → StoredItem → Type 0
 StoresItem v nothing = Unit {0}
 StoresItem v (oneItem at xs) = (validVolume v ≡ true) × (itemOf (geometryOf v) at ≡ true) × (length xs ≡ width at)
+StoresItem v (newHeading tag) = (validVolume v ≡ true) × ((tag ≡ carryTag) ⊎ (tag ≡ tagOf Second))
 
 -- two volumes have one length and differ at most within the place of one item of the first
 pub record DiffersAt (v w : List ℕ) (at : Place) : Type 0 where
@@ -42,9 +45,14 @@ pub record DiffersAt (v w : List ℕ) (at : Place) : Type 0 where
   pub outside : (i : ℕ) → (i < start (geometryOf v) at) ⊎ (start (geometryOf v) at + width at ≤ i)
       → getD w i 0 ≡ getD v i 0
 
--- the same volume, or one item of it stored
+-- two volumes have one length and differ at most in the last byte of the heading
+pub record DiffersInTag (v w : List ℕ) : Type 0 where
+  pub size : length w ≡ length v
+  pub outside : (i : ℕ) → i ≢ 3 → getD w i 0 ≡ getD v i 0
+
+-- the same volume, one item of it stored, or its heading
 abbrev pub AtMostOneItem : List ℕ → List ℕ → Type 0
-AtMostOneItem v w = (w ≡ v) ⊎ ((at : Place) × DiffersAt v w at)
+AtMostOneItem v w = (w ≡ v) ⊎ (((at : Place) × DiffersAt v w at) ⊎ DiffersInTag v w)
 
 -- of a call on the state
 pub record Keeps (c : Call) (v m : List ℕ) (s : State) : Type 0 where

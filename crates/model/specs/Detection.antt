@@ -15,7 +15,8 @@ use Rattle.model.specs.Geometry.{Place, tagOf, geometryOf}
 use Rattle.model.specs.Checksum.{checksum, byteSum, sumHolds, imageSealed}
 use Rattle.model.specs.Item.{validImage}
 use Rattle.model.specs.Repair.{View, classIn}
-use Rattle.model.specs.History.{Machine, damage, isImage, allowed}
+use Rattle.model.specs.Passes.{isImage}
+use Rattle.model.specs.History.{Machine, damage, allowed}
 use Rattle.model.specs.declared.geometry.Geometry.{Geometry}
 use Rattle.model.specs.declared.geometry.Heading.the-variants.{Second}
 use Rattle.model.specs.declared.answer.Class.the-variants.{Failed}

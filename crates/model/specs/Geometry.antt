@@ -1,7 +1,7 @@
 -- A volume's heading, counts and length, and the place of each item in it. States document 01, "The volume and the
 -- memory": the four bytes 43 48 50 56, then each section after its count; P 1 to 64, B 0 to 128, L 1 to 1,024, N 0 to
--- 1,024; the length. And of document 02, §3: "New volumes carry the heading 43 48 50 32"; §7: "Number n now goes to
--- slot ((n − 1) modulo L) + 1".
+-- 1,024; the length. And of document 02, §3: "New volumes carry the heading 43 48 50 32"; §4: "Start turns a volume's
+-- first heading to 43 48 50 43"; §7: "Number n now goes to slot ((n − 1) modulo L) + 1".
 use Prim.Native.Nat.{ℕ, suc, _+_, _-_, _*_, _%_}
 use mathlib.Core.Bool.{Bool, true, false, cond, _&&_, _||_}
 use mathlib.Core.List.{List, [], _∷_, _++_}
@@ -18,13 +18,24 @@ abbrev pub tagOf : Heading → ℕ
 tagOf First = 0x56
 tagOf Second = 0x32
 
--- the magic (document 01: the four bytes that a volume starts with) of a heading
+-- the tag of a volume that is being carried over from the first heading to the second; no Make writes it
+abbrev pub carryTag : ℕ
+carryTag = 0x43
+
+-- the magic (document 01: the four bytes that a volume starts with) with a tag, and that of a heading
+abbrev pub magicOf : ℕ → List ℕ
+magicOf tag = 0x43 ∷ 0x48 ∷ 0x50 ∷ tag ∷ []
+
 abbrev pub magic : Heading → List ℕ
-magic h = 0x43 ∷ 0x48 ∷ 0x50 ∷ tagOf h ∷ []
+magic h = magicOf (tagOf h)
+
+-- the volume starts with the magic of a tag
+abbrev pub headed : ℕ → List ℕ → Bool
+headed tag v = startsWith (magicOf tag) v
 
 -- the volume starts with a heading that is known
 abbrev pub knownMagic : List ℕ → Bool
-knownMagic v = startsWith (magic First) v || startsWith (magic Second) v
+knownMagic v = headed (tagOf First) v || (headed (tagOf Second) v || headed carryTag v)
 
 -- where the counts of slots, log records and notes stand; that of pages stands at 4
 abbrev pub slotCountAt : ℕ → ℕ
@@ -55,6 +66,10 @@ notesOf v = field 4 (noteCountAt (pagesOf v) (slotsOf v) (recordsOf v)) v
 -- what a volume's heading says; where the volume is not valid the numbers mean nothing
 unfoldable pub geometryOf : List ℕ → Geometry
 geometryOf v = record { tag = byteAt v 3; pages = pagesOf v; slots = slotsOf v; records = recordsOf v; notes = notesOf v }
+
+-- the same counts under another tag
+abbrev pub withTag : Geometry → ℕ → Geometry
+withTag g tag = record { tag = tag; pages = g .pages; slots = g .slots; records = g .records; notes = g .notes }
 
 -- the counts that a volume may have
 unfoldable pub validCounts : ℕ → ℕ → ℕ → ℕ → Bool
@@ -107,9 +122,13 @@ item g v at = part v (start g at) (width at)
 unfoldable pub store : Geometry → List ℕ → Place → List ℕ → List ℕ
 store g v at xs = splice v (start g at) xs
 
+-- a volume with a heading stored: four bytes, in front
+unfoldable pub storeHeading : List ℕ → ℕ → List ℕ
+storeHeading v tag = splice v 0 (magicOf tag)
+
 -- ---- rings
 
--- the log is a ring: heading 2 and at least two slots
+-- the log is a ring: the second heading and at least two slots; a volume that is being carried over is none
 abbrev pub ring : Geometry → Bool
 ring g = eqb (g .tag) 0x32 && leb 2 (g .records)
 

@@ -1,24 +1,28 @@
 -- Histories: the machine, its events and its steps, and which events may come. States document 01's paragraphs "For 2
--- and 3 they have a history" and "A cut falls between calls or within one", and the damage that demand 3 speaks of.
-use Prim.Native.Nat.{ℕ, zero, suc, _+_}
+-- and 3 they have a history" and "A cut falls between calls or within one", and the damage that demand 3 speaks of. And
+-- of document 02, §4, what carrying a volume over adds: "A heading store is whole or absent at a cut; a torn image fails
+-- both sums, and one damaged before or during the carrying passes under neither, unless it was stored earlier in its
+-- place."
+use Prim.Native.Nat.{ℕ, suc}
 use mathlib.Core.Bool.{Bool, true, false, cond, _&&_, _||_, not}
-use mathlib.Core.List.{List, [], _∷_, _++_}
-use lib.Dec.{eqb, leb, ltb}
+use mathlib.Core.List.{List, [], _∷_}
+use lib.Dec.{eqb}
 use lib.ListN.{length}
-use Rattle.model.specs.Tables.{all, firstOf, within}
+use Rattle.model.specs.Tables.{all, every, firstOf}
 use Rattle.model.specs.Bytes.{sameBytes}
 use Rattle.model.specs.Checksum.{sealed, imageSealed}
-use Rattle.model.specs.Geometry.{Place, pageAt, slotAt, recordAt, noteAt, width, geometryOf, store}
-use Rattle.model.specs.Change.{lengthOf, offsetOf, fillOf}
-use Rattle.model.specs.Item.{validImage, validSomewhere}
-use Rattle.model.specs.Index.{slotUsed}
+use Rattle.model.specs.Geometry.{Place, pageAt, slotAt, recordAt, noteAt, width, geometryOf, item, store}
+use Rattle.model.specs.Item.{isWritten}
+use Rattle.model.specs.Index.{entryRow}
+use Rattle.model.specs.Passes.{passesAt, isImage, onlyNew}
 use Rattle.model.specs.Scan.{indexOf}
-use Rattle.model.specs.Refusals.{restartRows}
-use Rattle.model.specs.Calls.{StoredItem, nothing, oneItem, Outcome, volumeAfter, restartOf, makeOf, refusalOf, Call, begin, load, change, force, write, backup, release, note, rowsOf, outcomeOf}
-use Rattle.model.specs.AbstractLog.{AbstractLog, emptyLog, Left, old, new, torn, forget, stepCall, stepCut}
+use Rattle.model.specs.Refusals.{restartRows, startCarryRows}
+use Rattle.model.specs.Calls.{StoredItem, nothing, oneItem, newHeading, volumeAfter, restartOf, makeOf, Call, begin, load, change, force, write, backup, release, note, startCarry, restamp, finishCarry, rowsOf, outcomeOf}
+use Rattle.model.specs.AbstractLog.{AbstractLog, Left, old, new, torn, forget, stepCall, stepCut}
 use Rattle.model.specs.declared.geometry.Geometry.{Geometry}
 use Rattle.model.specs.declared.geometry.Heading.{Heading}
-use Rattle.model.specs.declared.state.Entry.{Entry}
+use Rattle.model.specs.declared.state.PendingNote.{PendingNote}
+use Rattle.model.specs.declared.state.PendingNote.the-variants.{Absent, Present}
 use Rattle.model.specs.declared.state.State.{State}
 
 -- Memory and state live only while the power is on (document 01: after Make, a cut or a refused Restart there are
@@ -44,103 +48,7 @@ pub data Event : Type 0 where
   crashIn : Call → Left → Event
   damage : Place → List ℕ → Event
 
--- ---- the machine's step
-
-abbrev pub lent : Power → List ℕ → List ℕ
-lent off m = m
-lent (on m′ s) m = m′
-
--- "no call that takes the state comes before a Restart that isn't refused": a refused one leaves the power off
-abbrev pub restarted : List ℕ → List ℕ → Power
-restarted v m = cond (eqb (firstOf (restartRows v m)) 0) (on (restartOf v m .memory) (restartOf v m .state)) off
-
--- a call in a machine that is off is not allowed, and changes nothing
-abbrev pub callIn : Power → List ℕ → Call → List StoredItem → Machine
-callIn off v c past = record { volume = v; power = off; past = past }
-callIn (on m s) v c past =
-    let o = outcomeOf c v m s in
-    record { volume = volumeAfter v (o .stored); power = on (o .memory) (o .state); past = o .stored ∷ past }
-
--- the volume after a crash that left the item so
-abbrev pub leftVolume : List ℕ → StoredItem → Left → List ℕ
-leftVolume v x old = v
-leftVolume v x new = volumeAfter v x
-leftVolume v nothing (torn xs) = v
-leftVolume v (oneItem at _) (torn xs) = volumeAfter v (oneItem at xs)
-
--- "new (it counts as stored)"
-abbrev pub leftPast : StoredItem → Left → List StoredItem → List StoredItem
-leftPast x old past = past
-leftPast x new past = x ∷ past
-leftPast x (torn xs) past = past
-
-abbrev pub crashedIn : Power → List ℕ → Call → Left → List StoredItem → Machine
-crashedIn off v c l past = record { volume = v; power = off; past = past }
-crashedIn (on m s) v c l past =
-    let x = outcomeOf c v m s .stored in
-    record { volume = leftVolume v x l; power = off; past = leftPast x l past }
-
-unfoldable pub step : Machine → Event → Machine
-step w (restart m) = record { volume = w .volume; power = restarted (w .volume) (lent (w .power) m); past = w .past }
-step w (perform c) = callIn (w .power) (w .volume) c (w .past)
-step w crash = record { volume = w .volume; power = off; past = w .past }
-step w (crashIn c l) = crashedIn (w .power) (w .volume) c l (w .past)
-step w (damage at xs) = record { volume = store (geometryOf (w .volume)) (w .volume) at xs; power = w .power; past = w .past }
-
--- ---- which events may come
-
-abbrev pub isOn : Power → Bool
-isOn off = false
-isOn (on m s) = true
-
--- an item's check is right
-abbrev pub itemSealed : Geometry → Place → List ℕ → Bool
-itemSealed g (pageAt i) xs = imageSealed g xs
-itemSealed g (slotAt i) xs = imageSealed g xs
-itemSealed g (recordAt i) xs = sealed 60 xs
-itemSealed g (noteAt i) xs = sealed 12 xs
-
--- "failing its check": bytes of the item's size that do
-abbrev pub tornFits : Geometry → StoredItem → Left → Bool
-tornFits g x old = true
-tornFits g x new = true
-tornFits g nothing (torn xs) = true
-tornFits g (oneItem at _) (torn xs) = eqb (length xs) (width at) && not (itemSealed g at xs)
-
--- a payload is an array of 44; other arguments are any numbers
-abbrev pub payloadFits : Call → Bool
-payloadFits (begin page frame fill) = true
-payloadFits (load page frame) = true
-payloadFits (change page c payload) = eqb (length payload) 44
-payloadFits force = true
-payloadFits (write page) = true
-payloadFits (backup page slot) = true
-payloadFits (release page) = true
-payloadFits note = true
-
-abbrev pub crashFits : Power → List ℕ → Call → Left → Bool
-crashFits off v c l = false
-crashFits (on m s) v c l = tornFits (geometryOf v) (outcomeOf c v m s .stored) l
-
--- some page whose backup the index gives to slot b is the page that the image is valid as
-unfoldable pub validAsNoted : Geometry → ℕ → List ℕ → ℕ → List Entry → Bool
-validAsNoted g b xs p [] = false
-validAsNoted g b xs p (e ∷ es) = (eqb (e .slot) b && validImage g (suc p) xs) || validAsNoted g b xs (suc p) es
-
--- an image passes in its place: a page's own as that page's; in a slot that the index gives a page, as that page's; in
--- any other slot, as any page's. "For damage, the index is what the volume's notes give."
-abbrev pub passesAt : Geometry → List Entry → Place → List ℕ → Bool
-passesAt g index (pageAt p) xs = validImage g p xs
-passesAt g index (slotAt b) xs = cond (slotUsed b index) (validAsNoted g b xs 0 index) (validSomewhere g xs)
-passesAt g index (recordAt n) xs = true
-passesAt g index (noteAt n) xs = true
-
--- damage hits images
-abbrev pub isImage : Geometry → Place → Bool
-isImage g (pageAt p) = within (g .pages) p
-isImage g (slotAt b) = within (g .slots) b
-isImage g (recordAt n) = false
-isImage g (noteAt n) = false
+-- ---- what counts as stored
 
 abbrev pub samePlace : Place → Place → Bool
 samePlace (pageAt i) (pageAt j) = eqb i j
@@ -164,9 +72,159 @@ samePlace (noteAt i) (noteAt j) = eqb i j
 unfoldable pub storedBefore : Place → List ℕ → List StoredItem → Bool
 storedBefore at xs [] = false
 storedBefore at xs (nothing ∷ past) = storedBefore at xs past
+storedBefore at xs (newHeading tag ∷ past) = storedBefore at xs past
 storedBefore at xs (oneItem at′ ys ∷ past) = (samePlace at at′ && sameBytes xs ys) || storedBefore at xs past
 
--- damage leaves an image that does not pass, or one that was stored earlier in that place
+-- a restamped image "counts as stored in its place exactly if the image that it restamps does": otherwise a forgery that
+-- passes in a slot outside the index would be stored by its restamp, and might be returned where the slot is noted
+abbrev pub restampCounts : List ℕ → StoredItem → List StoredItem → Bool
+restampCounts v nothing past = true
+restampCounts v (oneItem at xs) past = storedBefore at (item (geometryOf v) v at) past
+restampCounts v (newHeading tag) past = true
+
+abbrev pub isRestamp : Call → Bool
+isRestamp (begin page frame fill) = false
+isRestamp (load page frame) = false
+isRestamp (change page c payload) = false
+isRestamp force = false
+isRestamp (write page) = false
+isRestamp (backup page slot) = false
+isRestamp (release page) = false
+isRestamp note = false
+isRestamp startCarry = false
+isRestamp restamp = true
+isRestamp finishCarry = false
+
+-- what calls stored, once the call has stored x in volume v
+abbrev pub pastAfter : Call → List ℕ → StoredItem → List StoredItem → List StoredItem
+pastAfter c v x past = cond (not (isRestamp c) || restampCounts v x past) (x ∷ past) past
+
+-- ---- the machine's step
+
+abbrev pub lent : Power → List ℕ → List ℕ
+lent off m = m
+lent (on m′ s) m = m′
+
+-- "no call that takes the state comes before a Restart that isn't refused": a refused one leaves the power off
+abbrev pub restarted : List ℕ → List ℕ → Power
+restarted v m = cond (eqb (firstOf (restartRows v m)) 0) (on (restartOf v m .memory) (restartOf v m .state)) off
+
+-- a call in a machine that is off is not allowed, and changes nothing
+abbrev pub callIn : Power → List ℕ → Call → List StoredItem → Machine
+callIn off v c past = record { volume = v; power = off; past = past }
+callIn (on m s) v c past =
+    let o = outcomeOf c v m s in
+    record { volume = volumeAfter v (o .stored); power = on (o .memory) (o .state); past = pastAfter c v (o .stored) past }
+
+-- the volume after a crash that left the item so
+abbrev pub leftVolume : List ℕ → StoredItem → Left → List ℕ
+leftVolume v x old = v
+leftVolume v x new = volumeAfter v x
+leftVolume v nothing (torn xs) = v
+leftVolume v (oneItem at _) (torn xs) = volumeAfter v (oneItem at xs)
+leftVolume v (newHeading tag) (torn xs) = v
+
+-- "new (it counts as stored)"
+abbrev pub leftPast : Call → List ℕ → StoredItem → Left → List StoredItem → List StoredItem
+leftPast c v x old past = past
+leftPast c v x new past = pastAfter c v x past
+leftPast c v x (torn xs) past = past
+
+abbrev pub crashedIn : Power → List ℕ → Call → Left → List StoredItem → Machine
+crashedIn off v c l past = record { volume = v; power = off; past = past }
+crashedIn (on m s) v c l past =
+    let x = outcomeOf c v m s .stored in
+    record { volume = leftVolume v x l; power = off; past = leftPast c v x l past }
+
+unfoldable pub step : Machine → Event → Machine
+step w (restart m) = record { volume = w .volume; power = restarted (w .volume) (lent (w .power) m); past = w .past }
+step w (perform c) = callIn (w .power) (w .volume) c (w .past)
+step w crash = record { volume = w .volume; power = off; past = w .past }
+step w (crashIn c l) = crashedIn (w .power) (w .volume) c l (w .past)
+step w (damage at xs) = record { volume = store (geometryOf (w .volume)) (w .volume) at xs; power = w .power; past = w .past }
+
+-- ---- which events may come
+
+abbrev pub isOn : Power → Bool
+isOn off = false
+isOn (on m s) = true
+
+-- an item's check is right
+abbrev pub itemSealed : Geometry → Place → List ℕ → Bool
+itemSealed g (pageAt i) xs = imageSealed g xs
+itemSealed g (slotAt i) xs = imageSealed g xs
+itemSealed g (recordAt i) xs = sealed 60 xs
+itemSealed g (noteAt i) xs = sealed 12 xs
+
+-- "failing its check": bytes of the item's size that do, by the sums of the heading as it is. "A heading store is whole
+-- or absent at a cut"
+abbrev pub tornFits : Geometry → StoredItem → Left → Bool
+tornFits g x old = true
+tornFits g x new = true
+tornFits g nothing (torn xs) = true
+tornFits g (oneItem at _) (torn xs) = eqb (length xs) (width at) && not (itemSealed g at xs)
+tornFits g (newHeading tag) (torn xs) = false
+
+-- a payload is an array of 44; other arguments are any numbers
+abbrev pub payloadFits : Call → Bool
+payloadFits (begin page frame fill) = true
+payloadFits (load page frame) = true
+payloadFits (change page c payload) = eqb (length payload) 44
+payloadFits force = true
+payloadFits (write page) = true
+payloadFits (backup page slot) = true
+payloadFits (release page) = true
+payloadFits note = true
+payloadFits startCarry = true
+payloadFits restamp = true
+payloadFits finishCarry = true
+
+abbrev pub crashFits : Power → List ℕ → Call → Left → Bool
+crashFits off v c l = false
+crashFits (on m s) v c l = tornFits (geometryOf v) (outcomeOf c v m s .stored) l
+
+-- the slot of a pending backup note holds no image that is its page's by bytes alone
+abbrev pub pendingCarries : Geometry → List ℕ → PendingNote → Bool
+pendingCarries g v Absent = true
+pendingCarries g v (Present n) = isWritten n || not (onlyNew g (n .page) (item g v (slotAt (n .slot))))
+
+-- the same of page i + 1's own image, and of the image in the slot that the index gives it
+abbrev pub pageCarries : Geometry → List ℕ → State → ℕ → Bool
+pageCarries g v s i =
+    let b = entryRow (s .index) i .slot in
+    not (onlyNew g (suc i) (item g v (pageAt (suc i)))) && (eqb b 0 || not (onlyNew g (suc i) (item g v (slotAt b))))
+
+-- No image that the store relies on passes by bytes alone as a volume's carrying begins. It follows from "a torn image
+-- fails both sums, and one damaged before or during the carrying passes under neither": under the first heading a torn
+-- or damaged image was only asked to fail the word sum.
+unfoldable pub carriable : Geometry → List ℕ → State → Bool
+carriable g v s = every (g .pages) (pageCarries g v s) && pendingCarries g v (s .note)
+
+abbrev pub isStartCarry : Call → Bool
+isStartCarry (begin page frame fill) = false
+isStartCarry (load page frame) = false
+isStartCarry (change page c payload) = false
+isStartCarry force = false
+isStartCarry (write page) = false
+isStartCarry (backup page slot) = false
+isStartCarry (release page) = false
+isStartCarry note = false
+isStartCarry startCarry = true
+isStartCarry restamp = false
+isStartCarry finishCarry = false
+
+-- a Start that its table does not refuse is made where the volume is carriable
+abbrev pub startFits : Power → List ℕ → Call → Bool
+startFits off v c = true
+startFits (on m s) v c = not (isStartCarry c) || (not (eqb (firstOf (startCarryRows v m s)) 0) || carriable (geometryOf v) v s)
+
+abbrev pub leftNew : Left → Bool
+leftNew old = false
+leftNew new = true
+leftNew (torn xs) = false
+
+-- damage leaves an image that does not pass, or one that was stored earlier in that place. "For damage, the index is
+-- what the volume's notes give."
 abbrev pub damageFits : Machine → Place → List ℕ → Bool
 damageFits w at xs =
     let g = geometryOf (w .volume) in
@@ -175,9 +233,10 @@ damageFits w at xs =
 
 unfoldable pub allowed : Machine → Event → Bool
 allowed w (restart m) = true
-allowed w (perform c) = isOn (w .power) && payloadFits c
+allowed w (perform c) = isOn (w .power) && (payloadFits c && startFits (w .power) (w .volume) c)
 allowed w crash = true
-allowed w (crashIn c l) = crashFits (w .power) (w .volume) c l && payloadFits c
+allowed w (crashIn c l) =
+    crashFits (w .power) (w .volume) c l && (payloadFits c && (not (leftNew l) || startFits (w .power) (w .volume) c))
 allowed w (damage at xs) = damageFits w at xs
 
 -- ---- whole histories

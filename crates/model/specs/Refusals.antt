@@ -6,15 +6,17 @@ use mathlib.Core.List.{List, [], _∷_}
 use lib.Dec.{eqb, leb, ltb}
 use lib.ListN.{length}
 use Rattle.model.specs.Tables.{Row, within}
-use Rattle.model.specs.Geometry.{geometryOf, validCounts, validVolume, lengthFor}
+use Rattle.model.specs.Geometry.{tagOf, carryTag, headed, geometryOf, validCounts, validVolume, lengthFor}
 use Rattle.model.specs.Change.{fits}
 use Rattle.model.specs.Item.{imageLsn}
 use Rattle.model.specs.Index.{entryOf, slotUsed}
+use Rattle.model.specs.Passes.{oldLeft}
 use Rattle.model.specs.Scan.{durableCount, firstHeld, indexOf}
 use Rattle.model.specs.Repair.{viewOf, walkOf, isBroken, isBelow}
 use Rattle.model.specs.Reading.{logRows}
 use Rattle.model.specs.State.{frameCount, validMemory, frameBytes, frameOf, logFull, notesFull, notePending, holder, held, blank, wellFormed}
 use Rattle.model.specs.declared.geometry.Geometry.{Geometry}
+use Rattle.model.specs.declared.geometry.Heading.the-variants.{First}
 use Rattle.model.specs.declared.change.Change.{Change}
 use Rattle.model.specs.declared.state.State.{State}
 
@@ -107,6 +109,19 @@ releaseRows v m s page =
 
 unfoldable pub noteRows : List ℕ → List ℕ → State → List Row
 noteRows v m s = stateRows v m s []
+
+-- the three calls that carry a volume over (document 02, §4): "1 if one of these three calls meets a heading not its
+-- own"
+unfoldable pub startCarryRows : List ℕ → List ℕ → State → List Row
+startCarryRows v m s = (not (headed (tagOf First) v), 1) ∷ stateRows v m s []
+
+unfoldable pub restampRows : List ℕ → List ℕ → State → List Row
+restampRows v m s = (not (headed carryTag v), 1) ∷ stateRows v m s []
+
+-- "20, finish called while such an image is left, after 2"
+unfoldable pub finishCarryRows : List ℕ → List ℕ → State → List Row
+finishCarryRows v m s =
+    (not (headed carryTag v), 1) ∷ stateRows v m s ((oldLeft (geometryOf v) v (s .index), 20) ∷ [])
 
 -- "in inspect 17 and 18 come before 7"
 unfoldable pub inspectRows : List ℕ → ℕ → ℕ → List Row

@@ -15,7 +15,7 @@ use Rattle.model.specs.Item.{imagePage, recordOf, noteOf}
 use Rattle.model.specs.Bytes.{le, field}
 use Rattle.model.specs.Index.{entryOf, slotUsed}
 use Rattle.model.specs.State.{frameRow, held, blank}
-use Rattle.model.specs.Calls.{StoredItem, nothing, oneItem, Outcome, makeOf, refusalOf, Call, begin, load, change, force, write, backup, release, note, outcomeOf}
+use Rattle.model.specs.Calls.{StoredItem, nothing, oneItem, newHeading, Outcome, makeOf, refusalOf, Call, begin, load, change, force, write, backup, release, note, startCarry, restamp, finishCarry, outcomeOf}
 use Rattle.model.specs.History.{Power, off, on, Machine, perform, restart, step, isOn, freshMachine}
 use Rattle.model.specs.Rehearsal.{accessOf, pageIn, isWritten, noFigures, pageRow, setRow, withLoad, withRecord, oneImage, oneBackup, oneNote, rehearsalRows, rehearsalOf, totalOf}
 use Rattle.model.specs.declared.geometry.Heading.{Heading}
@@ -106,6 +106,7 @@ storedCount (oneItem (pageAt p) xs) fs = setRow fs p (oneImage (pageRow fs p))
 storedCount (oneItem (slotAt b) xs) fs = let p = imagePage xs in setRow fs p (oneBackup (pageRow fs p))
 storedCount (oneItem (recordAt n) xs) fs = let p = recordOf xs .page in setRow fs p (withRecord (pageRow fs p))
 storedCount (oneItem (noteAt n) xs) fs = let p = noteOf xs .page in setRow fs p (oneNote (pageRow fs p))
+storedCount (newHeading tag) fs = fs
 
 -- of a Load's answer
 abbrev pub loadCount : ℕ → Answer → List Figures → List Figures
@@ -123,6 +124,9 @@ answerCount (write page) a fs = fs
 answerCount (backup page slot) a fs = fs
 answerCount (release page) a fs = fs
 answerCount note a fs = fs
+answerCount startCarry a fs = fs
+answerCount restamp a fs = fs
+answerCount finishCarry a fs = fs
 
 -- ---- the run
 

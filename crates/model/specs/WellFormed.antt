@@ -9,7 +9,7 @@ use mathlib.Core.List.{List}
 use lib.ListN.{length}
 use Rattle.model.specs.Geometry.{geometryOf}
 use Rattle.model.specs.State.{frameCount, wellFormed}
-use Rattle.model.specs.Calls.{volumeAfter, Call, begin, load, change, force, write, backup, release, note, outcomeOf}
+use Rattle.model.specs.Calls.{volumeAfter, Call, begin, load, change, force, write, backup, release, note, startCarry, restamp, finishCarry, outcomeOf}
 use Rattle.model.specs.Demand1.{Arrays}
 use Rattle.model.specs.declared.state.State.{State}
 
@@ -23,6 +23,9 @@ entersIndex (write page) = false
 entersIndex (backup page slot) = false
 entersIndex (release page) = false
 entersIndex note = true
+entersIndex startCarry = false
+entersIndex restamp = false
+entersIndex finishCarry = false
 
 -- the state that a call leaves, judged by the volume that it leaves and the frames of the memory lent
 pub record StaysFormed (c : Call) (v m : List ℕ) (s : State) : Type 0 where

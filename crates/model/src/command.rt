@@ -10,4 +10,7 @@ pub enum Command {
     Backup { page: u32, slot: u32 },
     Release { page: u32 },
     Note,
+    StartCarry,
+    Restamp,
+    FinishCarry,
 }

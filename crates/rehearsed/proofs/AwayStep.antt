@@ -127,8 +127,8 @@ module _ {C : Type 0} {g : Geometry} {v m : List ℕ} {past : List StoredItem} {
           memory = m;
           past = nothing ∷ past;
           state = gone .state;
-          run-is = run-as v m past s fs (release q) nr gone gone-is;
-          ctx = ctx-as v m past s fs (release q) nr x refl gone gone-is k [] refl;
+          run-is = run-as v m past s fs (release q) nr refl gone gone-is;
+          ctx = ctx-as v m past s fs (release q) nr x refl refl gone gone-is k [] refl;
           holds = record {
             sim = record {
               frames = record { size = sim .frames .size; each = λ j b n. rw (other j n) (sim .frames .each j b (λ z. omega arith)) };
@@ -194,11 +194,11 @@ module _ {C : Type 0} {g : Geometry} {v m : List ℕ} {past : List StoredItem} {
 
       run₁ : playCall (Run v m past s fs) (write (frameRow s f .page)) ≡ Run (volumeAfter v (done .stored)) m (done .stored ∷ past) (done .state) fs₁
       unfolding done
-      run₁ = run-as v m past s fs (write q) no₁ done done-is
+      run₁ = run-as v m past s fs (write q) no₁ refl done done-is
 
       ctx₁ : Ctx C g (volumeAfter v (done .stored)) m (done .stored ∷ past) (done .state) k []
       unfolding stepCall done
-      ctx₁ = ctx-as v m past s fs (write q) no₁ x refl done done-is k [] refl
+      ctx₁ = ctx-as v m past s fs (write q) no₁ x refl refl done done-is k [] refl
 
       abbrev noteFor : Note
       noteFor = record { number = lastNote s + 1; page = frameRow s f .page; kind = 1; slot = 0; lsn = imageLsn (frameBytes m (holder s (frameRow s f .page))) }

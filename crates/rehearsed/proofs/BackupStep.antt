@@ -110,11 +110,11 @@ module _ {C : Type 0} {g : Geometry} {v m : List ℕ} {past : List StoredItem} {
 
   run₁ : playCall (Run v m past s fs) (backup p slot) ≡ Run (volumeAfter v (done .stored)) m (done .stored ∷ past) (done .state) fs₁
   unfolding done
-  run₁ = run-as v m past s fs (backup p slot) no₁ done done-is ∙ rw named
+  run₁ = run-as v m past s fs (backup p slot) no₁ refl done done-is ∙ rw named
 
   ctx₁ : Ctx C g (volumeAfter v (done .stored)) m (done .stored ∷ past) (done .state) k []
   unfolding stepCall done
-  ctx₁ = ctx-as v m past s fs (backup p slot) no₁ x refl done done-is k [] refl
+  ctx₁ = ctx-as v m past s fs (backup p slot) no₁ x refl refl done done-is k [] refl
 
   pages₁ : (q : ℕ) → 1 ≤ q → q ≤ g .pages → item g (volumeAfter v (done .stored)) (pageAt q) ≡ item g v (pageAt q)
   unfolding volumeAfter done

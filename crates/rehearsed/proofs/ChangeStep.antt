@@ -204,8 +204,8 @@ module _ {C : Type 0} {g : Geometry} {v m : List ℕ} {past : List StoredItem} {
         memory = done .memory;
         past = nothing ∷ past;
         state = done .state;
-        run-is = run-as v m past s fs (begin p (suc f) fill) nr done done-is;
-        ctx = ctx-as v m past s fs (begin p (suc f) fill) nr x refl done done-is k (loggedChange p (Format fill) [] ∷ []) refl;
+        run-is = run-as v m past s fs (begin p (suc f) fill) nr refl done done-is;
+        ctx = ctx-as v m past s fs (begin p (suc f) fill) nr x refl refl done done-is k (loggedChange p (Format fill) [] ∷ []) refl;
         holds = (refl, refl);
       }
     where
@@ -230,8 +230,8 @@ module _ {C : Type 0} {g : Geometry} {v m : List ℕ} {past : List StoredItem} {
         memory = done .memory;
         past = nothing ∷ past;
         state = done .state;
-        run-is = run-as v m past s fs (change p (Put o n) payload) nr done done-is;
-        ctx = ctx-as v m past s fs (change p (Put o n) payload) nr x (eq-eqb (length payload) 44 size) done done-is k (loggedChange p (Put o n) payload ∷ []) refl;
+        run-is = run-as v m past s fs (change p (Put o n) payload) nr refl done done-is;
+        ctx = ctx-as v m past s fs (change p (Put o n) payload) nr x refl (eq-eqb (length payload) 44 size) done done-is k (loggedChange p (Put o n) payload ∷ []) refl;
         holds = (refl, ap (appendedState s p) h);
       }
     where

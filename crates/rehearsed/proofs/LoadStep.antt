@@ -134,8 +134,8 @@ module _ {C : Type 0} {g : Geometry} {v m : List ℕ} {past : List StoredItem} {
         memory = done .memory;
         past = nothing ∷ past;
         state = done .state;
-        run-is = run-as v m past s fs (load p (suc f)) no done done-is ∙ rw (a .count);
-        ctx = ctx-as v m past s fs (load p (suc f)) no x refl done done-is k [] refl;
+        run-is = run-as v m past s fs (load p (suc f)) no refl done done-is ∙ rw (a .count);
+        ctx = ctx-as v m past s fs (load p (suc f)) no x refl refl done done-is k [] refl;
         holds = (
           record {
             sim = sim-keep t events ms g v v s (done .state) k f 0 p low (λ j b n. rw row (getD-set-other (s .frames) f j new emptyFrame n)) (λ q lo hi. refl) (λ q n. pick q) sim;

@@ -9,7 +9,8 @@ use Rattle.laws.proofs.Tables.{or-neither, true-not-false}
 use Rattle.model.specs.Tables.{firstOf}
 use Rattle.model.specs.Calls.{StoredItem, Outcome, volumeAfter, refusalOf, Call, rowsOf, outcomeOf}
 use Rattle.model.specs.AbstractLog.{Logged, stepCall}
-use Rattle.model.specs.History.{Power, off, on, payloadFits, step}
+use Rattle.model.specs.Carry.{carries}
+use Rattle.model.specs.History.{isRestamp, pastAfter, Power, off, on, payloadFits, step}
 use Rattle.model.specs.Rehearsal.{accessOf}
 use Rattle.model.specs.RehearsalRun.{Choices, Played, answered, answerCount, storedCount, playCall, playCalls, callsIn, playEvents}
 use Rattle.model.specs.declared.geometry.Geometry.{Geometry}
@@ -18,7 +19,7 @@ use Rattle.model.specs.declared.rehearsal.Figures.{Figures}
 use Rattle.model.specs.declared.rehearsal.Settings.{Settings}
 use Rattle.history.proofs.Context.{Ctx}
 use Rattle.history.proofs.Calls.{inv-call}
-use Rattle.history.proofs.Reached.{context}
+use Rattle.history.proofs.Steps.{context}
 use Rattle.history.proofs.Refusals.{call-refusal}
 
 -- a run whose machine is on, with no call refused
@@ -79,24 +80,32 @@ module _ (v m : List ℕ) (past : List StoredItem) (s : State) (fs : List Figure
   pub rows-none : firstOf (rowsOf c v m s) ≡ 0
   rows-none = sym (call-refusal c v m s) ∙ eqb-true (refusalOf (outcomeOf c v m s .answer)) 0 taken
 
-  pub run-as : (o : Outcome) → outcomeOf c v m s ≡ o
+  pub run-as : isRestamp c ≡ false → (o : Outcome) → outcomeOf c v m s ≡ o
       → playCall (Run v m past s fs) c ≡ Run (volumeAfter v (o .stored)) (o .memory) (o .stored ∷ past) (o .state) (answerCount c (o .answer) (storedCount (o .stored) fs))
   unfolding playCall step
-  run-as o e = subst (λ (y : Outcome). playCall (Run v m past s fs) c ≡ Run (volumeAfter v (y .stored)) (y .memory) (y .stored ∷ past) (y .state) (answerCount c (y .answer) (storedCount (y .stored) fs))) e whole
+  run-as nr o e = subst (λ (y : Outcome). playCall (Run v m past s fs) c ≡ Run (volumeAfter v (y .stored)) (y .memory) (y .stored ∷ past) (y .state) (answerCount c (y .answer) (storedCount (y .stored) fs))) e whole
     where
+      counts : pastAfter c v (outcomeOf c v m s .stored) past ≡ outcomeOf c v m s .stored ∷ past
+      counts = rw nr
+
       whole : playCall (Run v m past s fs) c
           ≡ Run (volumeAfter v (outcomeOf c v m s .stored)) (outcomeOf c v m s .memory) (outcomeOf c v m s .stored ∷ past) (outcomeOf c v m s .state)
           (answerCount c (outcomeOf c v m s .answer) (storedCount (outcomeOf c v m s .stored) fs))
       whole = ap (λ (b : Bool). record {
-        machine = record { volume = volumeAfter v (outcomeOf c v m s .stored); power = on (outcomeOf c v m s .memory) (outcomeOf c v m s .state); past = outcomeOf c v m s .stored ∷ past };
+        machine = record { volume = volumeAfter v (outcomeOf c v m s .stored); power = on (outcomeOf c v m s .memory) (outcomeOf c v m s .state); past = pastAfter c v (outcomeOf c v m s .stored) past };
         figures = answerCount c (outcomeOf c v m s .answer) (storedCount (outcomeOf c v m s .stored) fs);
         refused = not b;
       }) taken
+          ∙ ap (λ (l : List StoredItem). record {
+            machine = record { volume = volumeAfter v (outcomeOf c v m s .stored); power = on (outcomeOf c v m s .memory) (outcomeOf c v m s .state); past = l };
+            figures = answerCount c (outcomeOf c v m s .answer) (storedCount (outcomeOf c v m s .stored) fs);
+            refused = false;
+          }) counts
 
-  pub ctx-as : {C : Type 0} {g : Geometry} {k w : List Logged} (x : Ctx C g v m past s k w) → payloadFits c ≡ true → (o : Outcome) → outcomeOf c v m s ≡ o
+  pub ctx-as : {C : Type 0} {g : Geometry} {k w : List Logged} (x : Ctx C g v m past s k w) → carries c ≡ false → payloadFits c ≡ true → (o : Outcome) → outcomeOf c v m s ≡ o
       → (k′ w′ : List Logged) → stepCall (record { durable = k; pending = w }) c ≡ record { durable = k′; pending = w′ }
       → Ctx C g (volumeAfter v (o .stored)) (o .memory) (o .stored ∷ past) (o .state) k′ w′
-  ctx-as {C} {g} {k} {w} x h o e k′ w′ b =
+  ctx-as {C} {g} {k} {w} x nc h o e k′ w′ b =
       subst (λ (y : Outcome). Ctx C g (volumeAfter v (y .stored)) (y .memory) (y .stored ∷ past) (y .state) k′ w′) e
       (context g (volumeAfter v (outcomeOf c v m s .stored)) (outcomeOf c v m s .memory) (outcomeOf c v m s .stored ∷ past) (outcomeOf c v m s .state) (record { durable = k′; pending = w′ })
-      (rw (rows-none, b) at (inv-call x c h)))
+      (rw (rows-none, b) at (inv-call x c nc h)))

@@ -78,8 +78,8 @@ module _ {C : Type 0} {g : Geometry} {v m : List ℕ} {past : List StoredItem} {
         memory = m;
         past = noted .stored ∷ past;
         state = notedState s n;
-        run-is = run-as v m past s fs note no noted noted-is ∙ rw read;
-        ctx = ctx-as v m past s fs note no x refl noted noted-is k w refl;
+        run-is = run-as v m past s fs note no refl noted noted-is ∙ rw read;
+        ctx = ctx-as v m past s fs note no x refl refl noted noted-is k w refl;
         holds = (
           refl,
           λ q lo hi. rw (geo x) (store-other g v (x .hs .vol) (noteSlot g (lastNote s + 1)) (noteBytes n) here (note-length n) (pageAt q) (lo, hi) (omega (arith, here .0))),
@@ -151,8 +151,8 @@ module _ {C : Type 0} {g : Geometry} {v m : List ℕ} {past : List StoredItem} {
         memory = m;
         past = forced .stored ∷ past;
         state = forced .state;
-        run-is = run-as v m past s fs force no forced forced-is ∙ rw page-of;
-        ctx = ctx-as v m past s fs force no x refl forced forced-is (k ++ (c ∷ [])) [] refl;
+        run-is = run-as v m past s fs force no refl forced forced-is ∙ rw page-of;
+        ctx = ctx-as v m past s fs force no x refl refl forced forced-is (k ++ (c ∷ [])) [] refl;
         holds = record {
           frames-stay = refl;
           note-stays = refl;

@@ -18,7 +18,7 @@ use Rattle.model.specs.Refusals.{restartRows}
 use Rattle.model.specs.Calls.{makeOf, refusalOf, restartOf, restartState}
 use Rattle.model.specs.AbstractLog.{AbstractLog, emptyLog}
 use Rattle.model.specs.History.{on, Event, restart, step, allowed, stepLog, freshMachine, allAllowed, run, logAfter}
-use Rattle.model.specs.Claim.{History, Legal, fresh, reached, logOf}
+use Rattle.model.specs.Claim.{History, Legal, fresh, reached, logOf, durableOf}
 use Rattle.model.specs.Rehearsal.{accessOf, pageIn, noFigures, unused, playFrom, idle, pagesFit, rehearsalRows, rehearsalOf, stepOn}
 use Rattle.model.specs.RehearsalRun.{Choices, changesOf, lastUse, Played, playCalls, callsIn, playEvents, Site, restartedSite, realRun, SameFigures}
 use Rattle.model.specs.declared.geometry.Geometry.{Geometry}
@@ -29,7 +29,7 @@ use Rattle.model.specs.declared.rehearsal.Settings.{Settings}
 use Rattle.model.specs.declared.rehearsal.Rehearsal.{Rehearsal}
 use Rattle.history.proofs.Logs.{last-zero}
 use Rattle.history.proofs.Context.{Ctx}
-use Rattle.history.proofs.Reached.{Undamaged, madeWith, live}
+use Rattle.history.proofs.Reached.{Undamaged, madeWith, uncarried, live}
 use Rattle.history.proofs.Refusals.{restart-refusal}
 use Rattle.history.proofs.Facts.{facts}
 use Rattle.rehearsed.proofs.Counts.{count-zero}
@@ -112,11 +112,15 @@ module _ (x : Site) (t : Settings) (F1 : 1 ≤ t .frames) (F16 : t .frames ≤ 1
   abbrev g : Geometry
   g = madeWith (historyOf x (restart (x .memory) ∷ []))
 
+  abbrev played : History
+  played = historyOf x (restart (x .memory) ∷ [])
+
   ctx : Ctx (Undamaged (historyOf x (restart (x .memory) ∷ []))) g (fresh (historyOf x []) .volume) m [] s [] []
   unfolding reached run step freshMachine
   ctx =
       subst (λ (b : AbstractLog). Ctx (Undamaged (historyOf x (restart (x .memory) ∷ []))) (madeWith (historyOf x (restart (x .memory) ∷ []))) (fresh (historyOf x []) .volume) (restartOf (fresh (historyOf x []) .volume) (x .memory) .memory) [] (restartOf (fresh (historyOf x []) .volume) (x .memory) .state) (b .durable) (b .pending)) nothing-kept
-      (live (historyOf x (restart (x .memory) ∷ [])) legal m s powered)
+      (subst (λ (y : Geometry). Ctx (Undamaged played) y (reached played .volume) m (reached played .past) s (durableOf played) (logOf played .pending)) (uncarried played legal refl)
+      (live played legal m s powered))
 
   state-is : s ≡ restartState (fresh (historyOf x []) .volume)
   state-is = restart-done v (x .memory) restarts

@@ -1,14 +1,17 @@
--- What a call does not touch: Begin, Load, Change and Release leave the volume as it was, Force, Write, Backup, Release and Note the memory.
+-- What a call does not touch: Begin, Load, Change and Release leave the volume as it was, Force, Write, Backup, Release, Note and the
+-- three that carry a volume over the memory.
 use Prim.Native.Nat.{ℕ}
 use mathlib.Core.Path.{_≡_, refl, sym}
 use mathlib.Core.Bool.{Bool, cond}
 use mathlib.Core.List.{List}
-use lib.Dec.{eqb}
+use lib.Dec.{eqb, ltb}
 use Rattle.laws.proofs.Tables.{byCases}
 use Rattle.model.specs.Tables.{Row, firstOf}
 use Rattle.model.specs.Calls.{nothing, Outcome, volumeAfter, unchanged, decided, noteStored}
-use Rattle.model.specs.Calls.{beginOf, loadOf, changeCall, forceOf, writeOf, backupOf, releaseOf, noteCall}
-use Rattle.model.specs.Refusals.{beginRows, loadRows, changeRows, forceRows, writeRows, backupRows, releaseRows, noteRows, pageDirty}
+use Rattle.model.specs.Calls.{beginOf, loadOf, changeCall, forceOf, writeOf, backupOf, releaseOf, noteCall, startCarryOf, restampOf, finishCarryOf}
+use Rattle.model.specs.Refusals.{beginRows, loadRows, changeRows, forceRows, writeRows, backupRows, releaseRows, noteRows, startCarryRows, restampRows, finishCarryRows, pageDirty}
+use Rattle.model.specs.Geometry.{geometryOf}
+use Rattle.model.specs.Passes.{imageCount, firstOld}
 use Rattle.model.specs.declared.change.Change.{Change}
 use Rattle.model.specs.declared.answer.Answer.{Answer}
 use Rattle.model.specs.declared.state.State.{State}
@@ -68,3 +71,16 @@ module _ (v m : List ℕ) (s : State) where
   pub note-memory : m ≡ noteCall v m s .memory
   unfolding noteCall
   note-memory = same-memory (noteRows v m s) _ (noted (s .note))
+
+  pub start-carry-memory : m ≡ startCarryOf v m s .memory
+  unfolding startCarryOf
+  start-carry-memory = same-memory (startCarryRows v m s) _ refl
+
+  pub restamp-memory : m ≡ restampOf v m s .memory
+  unfolding restampOf
+  restamp-memory =
+      same-memory (restampRows v m s) _ (either (ltb (firstOld (geometryOf v) v (s .index)) (imageCount (geometryOf v))) _ _ refl refl)
+
+  pub finish-carry-memory : m ≡ finishCarryOf v m s .memory
+  unfolding finishCarryOf
+  finish-carry-memory = same-memory (finishCarryRows v m s) _ refl

@@ -10,7 +10,7 @@ ghost use Rattle.store.specs.Store.{wrapped, performed};
 ghost use Rattle.model.specs.declared.geometry.Heading.the-variants.{First, Second};
 ghost use Rattle.model.specs.Calls.{replyOf, volumeAfter};
 ghost use Rattle.model.specs.Calls.{makeOf, restartOf, beginOf, loadOf, changeCall, forceOf, writeOf, backupOf};
-ghost use Rattle.model.specs.Calls.{releaseOf, noteCall, inspectOf};
+ghost use Rattle.model.specs.Calls.{releaseOf, noteCall, startCarryOf, restampOf, finishCarryOf, inspectOf};
 use model::answer::Answer;
 use model::answer::Reply;
 use model::change::Change;
@@ -92,6 +92,9 @@ impl Store {
             Command::Backup { page, slot } => self.backup(volume, memory, page, slot),
             Command::Release { page } => self.release(volume, memory, page),
             Command::Note => self.note(volume, memory),
+            Command::StartCarry => self.start_carry(volume, memory),
+            Command::Restamp => self.restamp(volume, memory),
+            Command::FinishCarry => self.finish_carry(volume, memory),
         }
     }
 
@@ -215,6 +218,48 @@ impl Store {
     {
         let s = self.state;
         wrap(persist::note::note(s, volume, memory))
+    }
+
+    // Begins to carry a volume over: the first heading becomes the third. Ruled out: the second heading stored at once; done
+    // on a volume that has another heading than the first.
+    pub fn start_carry(self, volume: &mut [u8], memory: &[u8]) -> Returned
+        ensures outcome { λ r.
+            ⌜ r ≡ wrapped (replyOf (startCarryOf (now (volume .entry)) (now (memory .entry)) (self .state))) ⌝ }
+        ensures volume { λ _.
+            ⌜ now (volume .exit)
+            ≡ volumeAfter (now (volume .entry)) (startCarryOf (now (volume .entry)) (now (memory .entry))
+            (self .state) .stored) ⌝ }
+    {
+        let s = self.state;
+        wrap(convert::start::start(s, volume, memory))
+    }
+
+    // Gives the first image that passes only the old sum the byte sum. Ruled out: a failing image sealed; Nothing with such
+    // an image left.
+    pub fn restamp(self, volume: &mut [u8], memory: &[u8]) -> Returned
+        ensures outcome { λ r.
+            ⌜ r ≡ wrapped (replyOf (restampOf (now (volume .entry)) (now (memory .entry)) (self .state))) ⌝ }
+        ensures volume { λ _.
+            ⌜ now (volume .exit)
+            ≡ volumeAfter (now (volume .entry)) (restampOf (now (volume .entry)) (now (memory .entry))
+            (self .state) .stored) ⌝ }
+    {
+        let s = self.state;
+        wrap(convert::restamp::restamp(s, volume, memory))
+    }
+
+    // Ends it: the second heading. Ruled out: done while an image passes only the old sum; 20 on a volume that has another
+    // heading.
+    pub fn finish_carry(self, volume: &mut [u8], memory: &[u8]) -> Returned
+        ensures outcome { λ r.
+            ⌜ r ≡ wrapped (replyOf (finishCarryOf (now (volume .entry)) (now (memory .entry)) (self .state))) ⌝ }
+        ensures volume { λ _.
+            ⌜ now (volume .exit)
+            ≡ volumeAfter (now (volume .entry)) (finishCarryOf (now (volume .entry)) (now (memory .entry))
+            (self .state) .stored) ⌝ }
+    {
+        let s = self.state;
+        wrap(convert::finish::finish(s, volume, memory))
     }
 
     // Rebuilds a page from the durable records into a buffer of 256 bytes. Ruled out: the disk's image handed over

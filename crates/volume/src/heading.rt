@@ -1,10 +1,13 @@
 // What a volume's heading says, and whether heading, counts and length are right. Reads of any bytes are safe.
 ghost use mathlib.Core.Path.{_≡_};
-ghost use Rattle.model.specs.Geometry.{magic, knownMagic, lengthFor, geometryOf, validCounts, validVolume};
+ghost use Rattle.model.specs.Geometry.{magic, magicOf, headed, knownMagic, lengthFor, geometryOf, validCounts, validVolume};
 use codec::field;
 use codec::part;
+use model::geometry::CARRY_TAG;
+use model::geometry::FIRST_TAG;
 use model::geometry::Geometry;
 use model::geometry::Heading;
+use model::geometry::SECOND_TAG;
 
 // The four bytes that a volume starts with: the first heading, and the second.
 const FIRST: [u8; 4] = *b"CHPV";
@@ -21,11 +24,26 @@ pub fn magic_bytes(h: Heading) -> [u8; 4]
     }
 }
 
-// The volume starts with one of them.
+// The four bytes with a tag.
+pub fn tagged(tag: u8) -> [u8; 4]
+    ensures { λ r. ⌜ r ≡ magicOf tag ⌝ }
+{
+    [0x43, 0x48, 0x50, tag]
+}
+
+// The volume starts with the heading of the tag.
+pub fn headed(v: &[u8], tag: u8) -> bool
+    ensures { λ r. ⌜ r ≡ headed tag (now (v .entry)) ⌝ }
+{
+    let bytes = tagged(tag);
+    part::starts(v, &bytes)
+}
+
+// The volume starts with one of the three headings.
 fn known(v: &[u8]) -> bool
     ensures { λ r. ⌜ r ≡ knownMagic (now (v .entry)) ⌝ }
 {
-    part::starts(v, &FIRST) | part::starts(v, &SECOND)
+    headed(v, FIRST_TAG) | (headed(v, SECOND_TAG) | headed(v, CARRY_TAG))
 }
 
 // The geometry; where the volume is not valid the numbers mean nothing.

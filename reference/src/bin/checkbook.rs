@@ -22,6 +22,7 @@ fn main() -> ExitCode {
         "{count} histories, {} events, {} changes kept, {} logs turned, {} pages lost",
         sum.events, sum.kept, sum.turned, sum.lost
     );
+    println!("{} images restamped, {} volumes carried over", sum.restamped, sum.finished);
     let pairs =
         |wanted: fn(&Comparison) -> bool| sum.pairs.iter().filter(|&pair| wanted(pair)).count();
     println!(

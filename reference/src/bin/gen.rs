@@ -5,12 +5,13 @@ use reference::args::value;
 use reference::full::full_script;
 use reference::history::{history_script, ring_script};
 use reference::mixed::mixed_script;
-use reference::reading::{mirror_script, reading_script, rehearse_script};
+use reference::reading::{carrying_script, mirror_script, reading_script, rehearse_script};
 use reference::rng::Rng;
 use std::io::{self, Write};
 use std::process::ExitCode;
 
-const KINDS: &str = "history, ring, arbitrary, reading, mirror, rehearse, full, mixed or turning";
+const KINDS: &str =
+    "history, ring, arbitrary, reading, mirror, rehearse, carrying, full, mixed or turning";
 
 fn main() -> io::Result<ExitCode> {
     let mut rng = Rng::new(value("--seed", 1));
@@ -23,6 +24,7 @@ fn main() -> io::Result<ExitCode> {
         "reading" => reading_script(&mut rng, cells),
         "mirror" => mirror_script(&mut rng, cells),
         "rehearse" => rehearse_script(&mut rng, cells),
+        "carrying" => carrying_script(&mut rng, cells),
         "full" => full_script(&mut rng),
         "mixed" | "turning" => {
             let (script, missing) = mixed_script(&mut rng, cells, kind == "turning");

@@ -1,5 +1,5 @@
 -- `store::Store::perform` meets its contract: the call's own, and what that call does not touch.
-use Rattle.store.proofs.Steps.{begin-volume, load-volume, change-volume, force-memory, write-memory, backup-memory, release-volume, release-memory, note-memory}
+use Rattle.store.proofs.Steps.{begin-volume, load-volume, change-volume, force-memory, write-memory, backup-memory, release-volume, release-memory, note-memory, start-carry-memory, restamp-memory, finish-carry-memory}
 use borrow.Author.Needs.{needs}
 use Rattle.store.proofs.Store.perform.Statement.{statement}
 use Rattle.store.proofs.Store.perform.Tie as tie
@@ -51,6 +51,24 @@ enum-told-2 c = search needs
 
 note-requires : tie.Need-note-requires
 note-requires c κs = search needs
+
+enum-told-3 : tie.Need-enum-told-3
+enum-told-3 c = search needs
+
+start-carry-requires : tie.Need-start-carry-requires
+start-carry-requires c κs = search needs
+
+enum-told-4 : tie.Need-enum-told-4
+enum-told-4 c = search needs
+
+restamp-requires : tie.Need-restamp-requires
+restamp-requires c κs = search needs
+
+enum-told-5 : tie.Need-enum-told-5
+enum-told-5 c = search needs
+
+finish-carry-requires : tie.Need-finish-carry-requires
+finish-carry-requires c κs = search needs
 
 same-length : tie.Need-same-length
 same-length c = search needs
@@ -147,6 +165,42 @@ returns-8 c =
     let e = c .before .before .note .ensures in
     rw (k .enum-told2 .given .1) (e .0, (note-memory _ _ _, e .1))
 
+same-length-17 : tie.Need-same-length-17
+same-length-17 c = search needs
+
+same-length-18 : tie.Need-same-length-18
+same-length-18 c = search needs
+
+returns-9 : tie.Need-returns-9
+returns-9 c =
+    let k = c .before .before .before .before .before in
+    let e = c .before .before .start-carry .ensures in
+    rw (k .enum-told3 .given .1) (e .0, (start-carry-memory _ _ _, e .1))
+
+same-length-19 : tie.Need-same-length-19
+same-length-19 c = search needs
+
+same-length-20 : tie.Need-same-length-20
+same-length-20 c = search needs
+
+returns-10 : tie.Need-returns-10
+returns-10 c =
+    let k = c .before .before .before .before .before in
+    let e = c .before .before .restamp .ensures in
+    rw (k .enum-told4 .given .1) (e .0, (restamp-memory _ _ _, e .1))
+
+same-length-21 : tie.Need-same-length-21
+same-length-21 c = search needs
+
+same-length-22 : tie.Need-same-length-22
+same-length-22 c = search needs
+
+returns-11 : tie.Need-returns-11
+returns-11 c =
+    let k = c .before .before .before .before .before in
+    let e = c .before .before .finish-carry .ensures in
+    rw (k .enum-told5 .given .1) (e .0, (finish-carry-memory _ _ _, e .1))
+
 pub perform-spec : {M : Type 1} → statement M
 perform-spec =
     tie.close
@@ -167,6 +221,12 @@ perform-spec =
     release-requires
     enum-told-2
     note-requires
+    enum-told-3
+    start-carry-requires
+    enum-told-4
+    restamp-requires
+    enum-told-5
+    finish-carry-requires
     same-length
     same-length-2
     returns
@@ -190,4 +250,13 @@ perform-spec =
     returns-7
     same-length-15
     same-length-16
-    returns-8)
+    returns-8
+    same-length-17
+    same-length-18
+    returns-9
+    same-length-19
+    same-length-20
+    returns-10
+    same-length-21
+    same-length-22
+    returns-11)

@@ -1,0 +1,34 @@
+// The rows that the three calls start with, and a heading stored.
+ghost use mathlib.Core.Path.{_≡_};
+ghost use mathlib.Core.Bool.{not};
+ghost use mathlib.Core.List.{List, [], _∷_};
+ghost use Prim.Native.Nat.{ℕ, _≤_};
+ghost use lib.ListN.{length};
+ghost use Rattle.model.specs.Tables.{firstOf};
+ghost use Rattle.model.specs.Geometry as geometries;
+ghost use Rattle.model.specs.Refusals.{stateRows};
+use codec::part;
+use model::state::State;
+use volume::heading;
+
+// The refusal of a call whose own heading has the tag, without rows of its own; size is the memory's.
+pub fn refusal(s: State, volume: &[u8], size: usize, tag: u8) -> u32
+    ensures { λ r.
+        ⌜ ((m : List ℕ) → length m ≡ size
+        → r ≡ firstOf ((not (geometries.headed tag (now (volume .entry))), 1)
+        ∷ stateRows (now (volume .entry)) m s [])) ⌝ }
+{
+    if !heading::headed(volume, tag) {
+        return 1;
+    }
+    state::rows::refusal(s, volume, size)
+}
+
+// Stores the heading of the tag.
+pub fn put(volume: &mut [u8], tag: u8)
+    requires { ⌜ 4 ≤ length (now volume) ⌝ }
+    ensures { λ _. ⌜ now (volume .exit) ≡ geometries.storeHeading (now (volume .entry)) tag ⌝ }
+{
+    let bytes = heading::tagged(tag);
+    part::put(volume, 0, &bytes);
+}

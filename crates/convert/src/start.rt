@@ -1,0 +1,31 @@
+// Start: a volume's first heading becomes that of a volume that is being carried over.
+ghost use mathlib.Core.Path.{_≡_};
+ghost use Rattle.model.specs.Calls.{startCarryOf, replyOf, volumeAfter};
+use crate::heading;
+use model::answer::Answer;
+use model::answer::Reply;
+use model::geometry::CARRY_TAG;
+use model::geometry::FIRST_TAG;
+use model::state::State;
+
+// Stores the heading with the third tag; from then on an image passes under either sum.
+// Ruled out: done on a volume that is under way or carried over; the second heading stored at once.
+pub fn start(s: State, volume: &mut [u8], memory: &[u8]) -> Reply
+    ensures reply { λ r. ⌜ r ≡ replyOf (startCarryOf (now (volume .entry)) (now (memory .entry)) s) ⌝ }
+    ensures volume { λ _.
+        ⌜ now (volume .exit)
+        ≡ volumeAfter (now (volume .entry)) (startCarryOf (now (volume .entry)) (now (memory .entry)) s .stored) ⌝ }
+{
+    let no = heading::refusal(s, volume, memory.len(), FIRST_TAG);
+    if no != 0 {
+        return Reply {
+            answer: Answer::Refused(no),
+            state: s,
+        };
+    }
+    heading::put(volume, CARRY_TAG);
+    Reply {
+        answer: Answer::Done,
+        state: s,
+    }
+}

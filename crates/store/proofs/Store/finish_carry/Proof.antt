@@ -1,0 +1,19 @@
+-- `store::Store::finish_carry` meets its contract: the call's own.
+use borrow.Author.Needs.{needs}
+use Rattle.store.proofs.Store.finish_carry.Statement.{statement}
+use Rattle.store.proofs.Store.finish_carry.Tie as tie
+
+finish-requires : tie.Need-finish-requires
+finish-requires c κs = search needs
+
+wrap-requires : tie.Need-wrap-requires
+wrap-requires c κs = search needs
+
+same-length : tie.Need-same-length
+same-length c = search needs
+
+returns : tie.Need-returns
+returns c = let e = c .before .before .before .finish .ensures in (rw (e .0) at (c .wrap .ensures), e .1)
+
+pub finish-carry-spec : {M : Type 1} → statement M
+finish-carry-spec = tie.close (tie.spec finish-requires wrap-requires same-length returns)

@@ -1,0 +1,19 @@
+-- `store::Store::restamp` meets its contract: the call's own.
+use borrow.Author.Needs.{needs}
+use Rattle.store.proofs.Store.restamp.Statement.{statement}
+use Rattle.store.proofs.Store.restamp.Tie as tie
+
+restamp-requires : tie.Need-restamp-requires
+restamp-requires c κs = search needs
+
+wrap-requires : tie.Need-wrap-requires
+wrap-requires c κs = search needs
+
+same-length : tie.Need-same-length
+same-length c = search needs
+
+returns : tie.Need-returns
+returns c = let e = c .before .before .before .restamp .ensures in (rw (e .0) at (c .wrap .ensures), e .1)
+
+pub restamp-spec : {M : Type 1} → statement M
+restamp-spec = tie.close (tie.spec restamp-requires wrap-requires same-length returns)

@@ -1,0 +1,19 @@
+-- `store::Store::start_carry` meets its contract: the call's own.
+use borrow.Author.Needs.{needs}
+use Rattle.store.proofs.Store.start_carry.Statement.{statement}
+use Rattle.store.proofs.Store.start_carry.Tie as tie
+
+start-requires : tie.Need-start-requires
+start-requires c κs = search needs
+
+wrap-requires : tie.Need-wrap-requires
+wrap-requires c κs = search needs
+
+same-length : tie.Need-same-length
+same-length c = search needs
+
+returns : tie.Need-returns
+returns c = let e = c .before .before .before .start .ensures in (rw (e .0) at (c .wrap .ensures), e .1)
+
+pub start-carry-spec : {M : Type 1} → statement M
+start-carry-spec = tie.close (tie.spec start-requires wrap-requires same-length returns)
