@@ -41,7 +41,8 @@ unfoldable pub archiveRows : List Row
 unfolding opened
 archiveRows =
     row "archive: its bytes"
-    (let v = three [] in let a = written v 200 in archiveLength v ∷ length a ∷ (take 4 a ++ (part a 4 4 ++ (part a 68 4 ++ (part a 132 4 ++ drop 196 a)))))
+    (let v = three [] in let a = written v 200 in
+    archiveLength v ∷ length a ∷ (take 4 a ++ (part a 4 4 ++ (part a 68 4 ++ (part a 132 4 ++ drop 196 a)))))
     (200 ∷ 200 ∷ 3 ∷ 0 ∷ 0 ∷ 0 ∷ 1 ∷ 0 ∷ 0 ∷ 0 ∷ 2 ∷ 0 ∷ 0 ∷ 0 ∷ 3 ∷ 0 ∷ 0 ∷ 0 ∷ 0 ∷ 0 ∷ 0 ∷ 0 ∷ [])
     ∷ row "archive: read back"
     (let area = readOf (written (three []) 200) (replicate 512 0xBB) .buffer in
@@ -52,37 +53,47 @@ archiveRows =
     let area = readOf (written v 196) (replicate 256 0xBB) .buffer in
     bit (olderTale .ok) ∷ (part area 4 6 ++ part (inspectOf v 1 buffer .buffer) 4 6))
     (1 ∷ 3 ∷ 0 ∷ 0 ∷ 0 ∷ 3 ∷ 7 ∷ 3 ∷ 0 ∷ 0 ∷ 0 ∷ 3 ∷ 7 ∷ [])
-    ∷ row "archive: a buffer of another length" (writes (three []) 199 ++ (writes (three []) 201 ++ (writes (three []) 200 ++ take 3 (written (three []) 201))))
+    ∷ row "archive: a buffer of another length"
+    (writes (three []) 199 ++ (writes (three []) 201 ++ (writes (three []) 200 ++ take 3 (written (three []) 201))))
     (refused 21 ++ (refused 21 ++ (done ++ (0xAA ∷ 0xAA ∷ 0xAA ∷ []))))
     ∷ row "archive: refused 1, 17, 18, and 24 before 21"
     (let gone = reachRing 1 1 2 2 turned .volume in
     let notes = oneItem (noteAt 1) (writtenNote 2 1 3) in
-    writes (set (three []) 0 0) 200 ++ (writes (three (oneItem (recordAt 3) (recordNo 2) ∷ notes ∷ [])) 200 ++ (writes (three (notes ∷ [])) 200
-    ++ (writes gone 7 ++ (sizeRefusal (sizeOf gone) ∷ sizeRefusal (sizeOf (three (notes ∷ []))) ∷ sizeRefusal (sizeOf (three [])) ∷ [])))))
+    writes (set (three []) 0 0) 200
+    ++ (writes (three (oneItem (recordAt 3) (recordNo 2) ∷ notes ∷ [])) 200 ++ (writes (three (notes ∷ [])) 200
+    ++ (writes gone 7 ++ (sizeRefusal (sizeOf gone) ∷ sizeRefusal (sizeOf (three (notes ∷ [])))
+    ∷ sizeRefusal (sizeOf (three [])) ∷ [])))))
     (refused 1 ++ (refused 17 ++ (refused 18 ++ (refused 24 ++ (24 ∷ 18 ∷ 0 ∷ [])))))
     ∷ row "archive: areas"
-    (let a = onePage [] in reads a 0 ++ (reads a 255 ++ (reads a 257 ++ (reads a (65 * 256) ++ (reads a 512 ++ reads a 256)))))
+    (let a = onePage [] in
+    reads a 0 ++ (reads a 255 ++ (reads a 257 ++ (reads a (65 * 256) ++ (reads a 512 ++ reads a 256)))))
     (refused 2 ++ (refused 2 ++ (refused 2 ++ (refused 2 ++ (refused 22 ++ done)))))
     ∷ row "archive: sections that are taken"
-    (map taken ([] ∷ (recordNo 1 ∷ []) ∷ (recordNo 1 ∷ recordNo 2 ∷ []) ∷ (encodeChange 5 0 1 (Format 1) [] ∷ put 9 5 1 ∷ encodeChange 10 9 1 (Format 2) [] ∷ []) ∷ []))
+    (map taken ([] ∷ (recordNo 1 ∷ []) ∷ (recordNo 1 ∷ recordNo 2 ∷ [])
+    ∷ (encodeChange 5 0 1 (Format 1) [] ∷ put 9 5 1 ∷ encodeChange 10 9 1 (Format 2) [] ∷ []) ∷ []))
     (0 ∷ 0 ∷ 0 ∷ 0 ∷ [])
     ∷ row "archive: a wrong check, layout or page"
-    (map taken ((broken (recordNo 1) ∷ []) ∷ (seal 60 (set (recordNo 1) 15 1) ∷ []) ∷ (encodeChange 1 0 2 (Format 7) [] ∷ []) ∷ (encodeChange 1 0 257 (Format 7) [] ∷ []) ∷ []))
+    (map taken ((broken (recordNo 1) ∷ []) ∷ (seal 60 (set (recordNo 1) 15 1) ∷ [])
+    ∷ (encodeChange 1 0 2 (Format 7) [] ∷ []) ∷ (encodeChange 1 0 257 (Format 7) [] ∷ []) ∷ []))
     (22 ∷ 22 ∷ 22 ∷ 22 ∷ [])
     ∷ row "archive: numbers that do not rise from 1"
-    (map taken ((encodeChange 0 0 1 (Format 7) [] ∷ []) ∷ (encodeChange 5 0 1 (Format 7) [] ∷ put 3 5 1 ∷ []) ∷ (encodeChange 5 0 1 (Format 7) [] ∷ put 5 5 1 ∷ []) ∷ []))
+    (map taken ((encodeChange 0 0 1 (Format 7) [] ∷ []) ∷ (encodeChange 5 0 1 (Format 7) [] ∷ put 3 5 1 ∷ [])
+    ∷ (encodeChange 5 0 1 (Format 7) [] ∷ put 5 5 1 ∷ []) ∷ []))
     (22 ∷ 22 ∷ 22 ∷ [])
     ∷ row "archive: another earlier record, or a first that is no format naming 0"
-    (map taken ((recordNo 1 ∷ put 3 2 1 ∷ []) ∷ (recordNo 1 ∷ encodeChange 3 0 1 (Format 1) [] ∷ []) ∷ (put 1 0 1 ∷ []) ∷ (put 2 1 1 ∷ []) ∷ (encodeChange 2 1 1 (Format 1) [] ∷ []) ∷ []))
+    (map taken ((recordNo 1 ∷ put 3 2 1 ∷ []) ∷ (recordNo 1 ∷ encodeChange 3 0 1 (Format 1) [] ∷ []) ∷ (put 1 0 1 ∷ [])
+    ∷ (put 2 1 1 ∷ []) ∷ (encodeChange 2 1 1 (Format 1) [] ∷ []) ∷ []))
     (22 ∷ 22 ∷ 22 ∷ 22 ∷ 22 ∷ [])
     ∷ row "archive: a wrong length or count"
     (let a = onePage (recordNo 1 ∷ []) in
     map (λ x. refusalOf (readOf x (replicate 256 0xBB) .answer))
-    (a ∷ take 67 a ∷ (a ++ (0 ∷ [])) ∷ (a ++ (0 ∷ 0 ∷ 0 ∷ 0 ∷ [])) ∷ set a 0 2 ∷ set a 0 0 ∷ set a 3 4 ∷ [] ∷ (0 ∷ 0 ∷ 0 ∷ []) ∷ [])
+    (a ∷ take 67 a ∷ (a ++ (0 ∷ [])) ∷ (a ++ (0 ∷ 0 ∷ 0 ∷ 0 ∷ [])) ∷ set a 0 2 ∷ set a 0 0 ∷ set a 3 4 ∷ []
+    ∷ (0 ∷ 0 ∷ 0 ∷ []) ∷ [])
     ++ take 2 (readOf (take 67 a) (replicate 256 0xBB) .buffer))
     (0 ∷ 22 ∷ 22 ∷ 22 ∷ 22 ∷ 22 ∷ 22 ∷ 22 ∷ 22 ∷ 0xBB ∷ 0xBB ∷ [])
     ∷ row "archive: how many pages"
     (let a = written (three []) 200 in
-    map archivePages (a ∷ (a ++ (0 ∷ [])) ∷ take 199 a ∷ [] ∷ onePage (broken (recordNo 1) ∷ []) ∷ replicate 256 0 ∷ replicate 260 0 ∷ set (onePage (recordNo 1 ∷ [])) 0 2 ∷ []))
+    map archivePages (a ∷ (a ++ (0 ∷ [])) ∷ take 199 a ∷ [] ∷ onePage (broken (recordNo 1) ∷ []) ∷ replicate 256 0
+    ∷ replicate 260 0 ∷ set (onePage (recordNo 1 ∷ [])) 0 2 ∷ []))
     (2 ∷ 0 ∷ 0 ∷ 0 ∷ 1 ∷ 64 ∷ 0 ∷ 0 ∷ [])
     ∷ []

@@ -28,7 +28,8 @@ does cs = map perform cs
 -- Pages 1 and 2 begun and durable; page 1 written and backed up in slot 1, both noted; page 2 never written. Under the
 -- first heading, then carried over step by step.
 abbrev pub oldVolume : Machine
-oldVolume = reachUnder First 2 2 8 8 (restart (memory 2) ∷ does (begin 1 1 7 ∷ begin 2 2 9 ∷ force ∷ force ∷ write 1 ∷ note ∷ backup 1 1 ∷ note ∷ []))
+oldVolume = reachUnder First 2 2 8 8
+    (restart (memory 2) ∷ does (begin 1 1 7 ∷ begin 2 2 9 ∷ force ∷ force ∷ write 1 ∷ note ∷ backup 1 1 ∷ note ∷ []))
 
 -- images of a page by words and by bytes; the bodies that were stored, and one that never was
 abbrev pub wordImage : ℕ → ℕ → ℕ → List ℕ
@@ -77,13 +78,15 @@ taggedAt tag h = storedIn (wholeUnder First (ownUnder h 3 body3 ∷ [])) (newHea
 abbrev bothSums : Machine
 bothSums =
     reachUnder First 1 0 4 4
-    (restart (memory 1) ∷ does (begin 1 1 0 ∷ change 1 (Put 0 9) (255 ∷ 0 ∷ 255 ∷ 0 ∷ 0 ∷ 0 ∷ 2 ∷ 0 ∷ 24 ∷ replicate 35 0) ∷ force ∷ force ∷ write 1 ∷ note ∷ startCarry ∷ []))
+    (restart (memory 1) ∷ does (begin 1 1 0 ∷ change 1 (Put 0 9)
+    (255 ∷ 0 ∷ 255 ∷ 0 ∷ 0 ∷ 0 ∷ 2 ∷ 0 ∷ 24 ∷ replicate 35 0) ∷ force ∷ force ∷ write 1 ∷ note ∷ startCarry ∷ []))
 
 -- a log of two, full, its first record spare
 abbrev fullLog : Machine
 fullLog =
     reachUnder First 1 1 2 4
-    (restart (memory 1) ∷ does (begin 1 1 7 ∷ change 1 (Put 0 1) (5 ∷ replicate 43 0) ∷ force ∷ force ∷ backup 1 1 ∷ note ∷ startCarry ∷ []))
+    (restart (memory 1) ∷ does
+    (begin 1 1 7 ∷ change 1 (Put 0 1) (5 ∷ replicate 43 0) ∷ force ∷ force ∷ backup 1 1 ∷ note ∷ startCarry ∷ []))
 
 abbrev put : Call
 put = change 1 (Put 0 1) (6 ∷ replicate 43 0)
@@ -96,7 +99,8 @@ carriedRows =
     let twice = run once (does (restamp ∷ [])) in
     let over = run twice (does (finishCarry ∷ [])) in
     row "carry: 1 for a heading not its own"
-    (asked oldVolume startCarry ++ (asked oldVolume restamp ++ (asked oldVolume finishCarry ++ (asked carrying startCarry
+    (asked oldVolume startCarry
+    ++ (asked oldVolume restamp ++ (asked oldVolume finishCarry ++ (asked carrying startCarry
     ++ (asked over startCarry ++ (asked over restamp ++ asked over finishCarry))))))
     (done ++ (refused 1 ++ (refused 1 ++ (refused 1 ++ (refused 1 ++ (refused 1 ++ refused 1))))))
     ∷ row "carry: one image a call, then Nothing; 20 until then"
@@ -111,7 +115,8 @@ carriedRows =
     ++ (sums twice (pageAt 1) 1 ++ sums twice (slotAt 1) 1)))))
     (1 ∷ 0 ∷ 1 ∷ 0 ∷ 0 ∷ 1 ∷ 1 ∷ 0 ∷ 0 ∷ 1 ∷ 0 ∷ 1 ∷ [])
     ∷ row "carry: bytes 0 to 251 as they lie, the byte sum set"
-    (bit (same (take 252 (imageIn once (pageAt 1))) (take 252 (imageIn carrying (pageAt 1)))) ∷ bit (same (imageIn once (pageAt 1)) (byteImage 1 1 7)) ∷ [])
+    (bit (same (take 252 (imageIn once (pageAt 1))) (take 252 (imageIn carrying (pageAt 1))))
+    ∷ bit (same (imageIn once (pageAt 1)) (byteImage 1 1 7)) ∷ [])
     (1 ∷ 1 ∷ [])
     ∷ row "carry: how many are left" (left carrying ∷ left once ∷ left twice ∷ left over ∷ []) (2 ∷ 1 ∷ 0 ∷ 0 ∷ [])
     ∷ row "carry: memory and state stay"
@@ -120,7 +125,8 @@ carriedRows =
     ∷ row "carry: a failing image is passed over"
     (let failed = run oldVolume (damage (pageAt 1) (broken (wordImage 1 1 7)) ∷ does (startCarry ∷ [])) in
     let stamped = run failed (does (restamp ∷ [])) in
-    left failed ∷ (asked failed restamp ++ (asked stamped restamp ++ (bit (same (imageIn stamped (pageAt 1)) (broken (wordImage 1 1 7)))
+    left failed ∷ (asked failed restamp
+    ++ (asked stamped restamp ++ (bit (same (imageIn stamped (pageAt 1)) (broken (wordImage 1 1 7)))
     ∷ bit (allZero (imageIn stamped (pageAt 2))) ∷ sums stamped (slotAt 1) 1))))
     (1 ∷ (done ++ (idle ++ (1 ∷ 1 ∷ 0 ∷ 1 ∷ []))))
     ∷ row "carry: a slot in the index, another page's image"
@@ -131,7 +137,8 @@ carriedRows =
     (let moved = run oldVolume (does (backup 1 2 ∷ note ∷ startCarry ∷ restamp ∷ [])) in
     let next = run moved (does (restamp ∷ [])) in
     let strange = run oldVolume (damage (slotAt 2) (wordImage 3 1 1) ∷ does (startCarry ∷ restamp ∷ restamp ∷ [])) in
-    left moved ∷ (asked moved finishCarry ++ (sums next (slotAt 1) 1 ++ (sums next (slotAt 2) 1 ++ (left strange ∷ asked strange finishCarry)))))
+    left moved ∷ (asked moved finishCarry
+    ++ (sums next (slotAt 1) 1 ++ (sums next (slotAt 2) 1 ++ (left strange ∷ asked strange finishCarry)))))
     (2 ∷ (refused 20 ++ (0 ∷ 1 ∷ 1 ∷ 0 ∷ 0 ∷ done)))
     ∷ row "carry: an image that passes both sums is not restamped"
     (left bothSums ∷ (sums bothSums (pageAt 1) 1 ++ (asked bothSums restamp ++ asked bothSums finishCarry)))
@@ -141,18 +148,23 @@ carriedRows =
     ++ sums (run carrying (does (backup 2 2 ∷ []))) (slotAt 2) 2))
     (1 ∷ 0 ∷ 0 ∷ 1 ∷ 0 ∷ 1 ∷ [])
     ∷ row "carry: 1 before 2, 2 before 20, and the ordinary 1"
-    (numbers (startCarryOf (over .volume) [] zeroState .answer) ++ (numbers (startCarryOf (oldVolume .volume) [] zeroState .answer)
-    ++ (numbers (restampOf (carrying .volume) [] zeroState .answer) ++ (numbers (finishCarryOf (carrying .volume) [] zeroState .answer)
+    (numbers (startCarryOf (over .volume) [] zeroState .answer)
+    ++ (numbers (startCarryOf (oldVolume .volume) [] zeroState .answer)
+    ++ (numbers (restampOf (carrying .volume) [] zeroState .answer)
+    ++ (numbers (finishCarryOf (carrying .volume) [] zeroState .answer)
     ++ numbers (restampOf (take 1043 (carrying .volume)) (memory 2) zeroState .answer)))))
     (refused 1 ++ (refused 2 ++ (refused 2 ++ (refused 2 ++ refused 1))))
     ∷ row "carry: which sums a heading judges by, words"
-    (inspected (taggedAt (tagOf First) First) 1 ++ (inspected (taggedAt carryTag First) 1 ++ inspected (taggedAt (tagOf Second) First) 1))
+    (inspected (taggedAt (tagOf First) First) 1
+    ++ (inspected (taggedAt carryTag First) 1 ++ inspected (taggedAt (tagOf Second) First) 1))
     (fromOwn Good 0 ++ (at3 ++ (fromOwn Good 0 ++ (at3 ++ (fromFormat Failed 2 ++ at3)))))
     ∷ row "carry: which sums a heading judges by, bytes"
-    (inspected (taggedAt (tagOf First) Second) 1 ++ (inspected (taggedAt carryTag Second) 1 ++ inspected (taggedAt (tagOf Second) Second) 1))
+    (inspected (taggedAt (tagOf First) Second) 1
+    ++ (inspected (taggedAt carryTag Second) 1 ++ inspected (taggedAt (tagOf Second) Second) 1))
     (fromFormat Failed 2 ++ (at3 ++ (fromOwn Good 0 ++ (at3 ++ (fromOwn Good 0 ++ at3)))))
     ∷ row "carry: the log is no ring until it is over"
-    (asked fullLog put ++ (asked (run fullLog (does (restamp ∷ restamp ∷ []))) finishCarry ++ asked (run fullLog (does (restamp ∷ restamp ∷ finishCarry ∷ []))) put))
+    (asked fullLog put ++ (asked (run fullLog (does (restamp ∷ restamp ∷ []))) finishCarry
+    ++ asked (run fullLog (does (restamp ∷ restamp ∷ finishCarry ∷ []))) put))
     (refused 12 ++ (done ++ done))
     ∷ row "carry: the headings that are known"
     (bits (validVolume (carrying .volume) ∷ validVolume (storedIn (carrying .volume) (newHeading 0x44 ∷ [])) ∷ []))

@@ -1,5 +1,5 @@
--- Rows on which events may come around a volume that is carried over: what may be torn and damaged, what a Start may not
--- meet, and what counts as stored.
+-- Rows on which events may come around a volume that is carried over: what may be torn and damaged, what a Start may
+-- not meet, and what counts as stored.
 use Prim.Native.Nat.{ℕ}
 use mathlib.Core.List.{List, [], _∷_, _++_, map}
 use lib.ListN.{replicate}
@@ -33,11 +33,12 @@ tornPending = run oldVolume (perform (backup 2 2) ∷ damage (slotAt 2) (byteIma
 abbrev tornOutside : Machine
 tornOutside = run oldVolume (damage (slotAt 2) (byteImage 2 2 0xEE) ∷ [])
 
--- Page 2 forged in page 1's slot, as is allowed; page 1's backup moves away; the volume is carried over, and with it the
--- forgery, which passes outside the index; page 2 is backed up there and noted.
+-- Page 2 forged in page 1's slot, as is allowed; page 1's backup moves away; the volume is carried over, and with it
+-- the forgery, which passes outside the index; page 2 is backed up there and noted.
 abbrev pub forgedSlot : List Event
 forgedSlot =
-    damage (slotAt 1) (wordImage 2 2 0xEE) ∷ (does (backup 1 2 ∷ note ∷ startCarry ∷ restamp ∷ restamp ∷ backup 2 1 ∷ note ∷ []))
+    damage (slotAt 1) (wordImage 2 2 0xEE)
+    ∷ (does (backup 1 2 ∷ note ∷ startCarry ∷ restamp ∷ restamp ∷ backup 2 1 ∷ note ∷ []))
 
 -- the same, the forgery's restamp cut and left new
 abbrev forgedCut : List Event
@@ -53,12 +54,14 @@ carriedEvents =
     let over = run twice (does (finishCarry ∷ [])) in
     let forged = run oldVolume forgedSlot in
     row "carry: a heading store is whole or absent"
-    (may oldVolume (crashIn startCarry old ∷ crashIn startCarry new ∷ crashIn startCarry (torn []) ∷ crashIn startCarry (torn (replicate 4 1)) ∷ [])
+    (may oldVolume (crashIn startCarry old ∷ crashIn startCarry new ∷ crashIn startCarry (torn [])
+    ∷ crashIn startCarry (torn (replicate 4 1)) ∷ [])
     ++ (may carrying (crashIn startCarry (torn []) ∷ [])
     ++ may twice (crashIn finishCarry old ∷ crashIn finishCarry new ∷ crashIn finishCarry (torn []) ∷ [])))
     (1 ∷ 1 ∷ 0 ∷ 0 ∷ 1 ∷ 1 ∷ 1 ∷ 0 ∷ [])
     ∷ row "carry: a torn image fails both sums"
-    (may carrying (crashIn restamp old ∷ crashIn restamp new ∷ map (λ xs. crashIn restamp (torn xs)) (broken (byteImage 1 1 7) ∷ wordImage 1 1 0xEE ∷ byteImage 1 1 0xEE ∷ [])
+    (may carrying (crashIn restamp old ∷ crashIn restamp new ∷ map (λ xs. crashIn restamp (torn xs))
+    (broken (byteImage 1 1 7) ∷ wordImage 1 1 0xEE ∷ byteImage 1 1 0xEE ∷ [])
     ++ map (λ xs. crashIn (write 2) (torn xs)) (wordImage 2 2 0xEE ∷ byteImage 2 2 0xEE ∷ [])))
     (1 ∷ 1 ∷ 1 ∷ 0 ∷ 0 ∷ 0 ∷ 0 ∷ [])
     ∷ row "carry: before and after, the sum of the heading"
@@ -66,7 +69,8 @@ carriedEvents =
     ++ may over (map (λ xs. crashIn (write 2) (torn xs)) (wordImage 2 2 0xEE ∷ byteImage 2 2 0xEE ∷ [])))
     (0 ∷ 1 ∷ 1 ∷ 0 ∷ [])
     ∷ row "carry: damage passes under neither sum, or was stored"
-    (may carrying (hits (pageAt 1) (wordImage 1 1 0xEE ∷ byteImage 1 1 0xEE ∷ broken (wordImage 1 1 7) ∷ wordImage 1 1 7 ∷ byteImage 1 1 7 ∷ []))
+    (may carrying (hits (pageAt 1)
+    (wordImage 1 1 0xEE ∷ byteImage 1 1 0xEE ∷ broken (wordImage 1 1 7) ∷ wordImage 1 1 7 ∷ byteImage 1 1 7 ∷ []))
     ++ may over (hits (pageAt 1) (wordImage 1 1 0xEE ∷ byteImage 1 1 0xEE ∷ wordImage 1 1 7 ∷ byteImage 1 1 7 ∷ [])))
     (0 ∷ 0 ∷ 1 ∷ 1 ∷ 0 ∷ 1 ∷ 0 ∷ 1 ∷ 1 ∷ [])
     ∷ row "carry: a Start may not meet an own image by bytes alone"
@@ -85,14 +89,16 @@ carriedEvents =
     (inspected (run tornWrite (does (startCarry ∷ [])) .volume) 2)
     (fromOwn Good 0 ++ (2 ∷ 0 ∷ 0 ∷ 0 ∷ replicate 6 0xEE))
     ∷ row "carry: a restamped forgery does not count as stored"
-    (may forged (hits (slotAt 1) (byteImage 2 2 0xEE ∷ wordImage 2 2 0xEE ∷ byteImage 2 2 9 ∷ broken (byteImage 2 2 9) ∷ [])))
+    (may forged (hits (slotAt 1)
+    (byteImage 2 2 0xEE ∷ wordImage 2 2 0xEE ∷ byteImage 2 2 9 ∷ broken (byteImage 2 2 9) ∷ [])))
     (0 ∷ 0 ∷ 1 ∷ 1 ∷ [])
     ∷ row "carry: nor where its restamp was cut and left new"
     (may (run oldVolume forgedCut) (hits (slotAt 1) (byteImage 2 2 0xEE ∷ wordImage 2 2 0xEE ∷ []))
     ++ sums (run oldVolume forgedCut) (slotAt 1) 2)
     (0 ∷ 0 ∷ 0 ∷ 1 ∷ [])
     ∷ row "carry: a restamped image counts as stored where the old one did"
-    (may twice (hits (pageAt 1) (byteImage 1 1 7 ∷ wordImage 1 1 7 ∷ []) ++ hits (slotAt 1) (byteImage 1 1 7 ∷ wordImage 1 1 7 ∷ []))
+    (may twice (hits (pageAt 1) (byteImage 1 1 7 ∷ wordImage 1 1 7 ∷ [])
+    ++ hits (slotAt 1) (byteImage 1 1 7 ∷ wordImage 1 1 7 ∷ []))
     ++ may (run carrying (crashIn restamp new ∷ [])) (hits (pageAt 1) (byteImage 1 1 7 ∷ []))
     ++ may (run carrying (crashIn restamp old ∷ [])) (hits (pageAt 1) (byteImage 1 1 7 ∷ [])))
     (1 ∷ 1 ∷ 1 ∷ 1 ∷ 1 ∷ 0 ∷ [])

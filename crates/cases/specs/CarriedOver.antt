@@ -1,5 +1,5 @@
--- A worked legal history of a volume that is carried over: a Start cut and left new, a torn restamp, a word-sealed image
--- returned before and after Finish, chat between, and the ring that the log then is.
+-- A worked legal history of a volume that is carried over: a Start cut and left new, a torn restamp, a word-sealed
+-- image returned before and after Finish, chat between, and the ring that the log then is.
 use mathlib.Core.List.{List, [], _∷_, _++_}
 use Rattle.model.specs.Geometry.{pageAt, slotAt}
 use Rattle.model.specs.Calls.{begin, load, force, write, backup, note, startCarry, restamp, finishCarry}
@@ -10,7 +10,7 @@ use Rattle.model.specs.declared.change.Change.the-variants.{Format}
 use Rattle.model.specs.declared.answer.Class.the-variants.{Good, Behind, Failed}
 use Rattle.cases.specs.Build.{fromOwn, fromBackup, fromFormat, refused, done, idle, broken, memory}
 use Rattle.cases.specs.Worked.{Worked, told, quiet}
-use Rattle.cases.specs.Histories.{does, logged, slid, slide}
+use Rattle.cases.specs.Slides.{does, logged, slid, slide}
 use Rattle.cases.specs.Carried.{wordImage, byteImage}
 
 abbrev pub carriedOver : Worked
@@ -68,7 +68,8 @@ carriedOver =
           ∷ told (restart (memory 2)) done
           ∷ does (load 1 1) (fromBackup Failed 2)
           ∷ [];
-      durable = logged 1 (Format 7) [] ∷ logged 2 (Format 9) [] ∷ slid 1 (0x41 ∷ []) ∷ slid 2 (0x42 ∷ []) ∷ slid 1 (0x43 ∷ []) ∷ [];
+      durable = logged 1 (Format 7) [] ∷ logged 2 (Format 9) [] ∷ slid 1 (0x41 ∷ []) ∷ slid 2 (0x42 ∷ [])
+          ∷ slid 1 (0x43 ∷ []) ∷ [];
       shows =
           (fromBackup Failed 2 ++ (5 ∷ 0x43 ∷ 0x41 ∷ 7 ∷ 7 ∷ 7 ∷ 7 ∷ []))
           ∷ (fromFormat Failed 2 ++ (4 ∷ 0x42 ∷ 9 ∷ 9 ∷ 9 ∷ 9 ∷ 9 ∷ [])) ∷ [];

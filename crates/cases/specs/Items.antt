@@ -85,7 +85,8 @@ geometryRows =
 -- a sealed record with these numbers: kind, length, offset, fill, then byte 15 and the payload
 abbrev odd : ℕ → ℕ → ℕ → ℕ → ℕ → List ℕ → List ℕ
 odd kind length offset fill z payload =
-    seal 60 (set (recordBytes (record { lsn = 3; prev = 1; page = 1; kind = kind; length = length; offset = offset; fill = fill }) payload) 15 z)
+    seal 60 (set (recordBytes
+    (record { lsn = 3; prev = 1; page = 1; kind = kind; length = length; offset = offset; fill = fill }) payload) 15 z)
 
 -- a note of this kind and slot obeys the layout
 abbrev layout : ℕ → ℕ → Bool

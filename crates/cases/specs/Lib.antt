@@ -6,6 +6,8 @@ pub mod Items
 pub mod Changes
 pub mod Rules
 pub mod Worked
+pub mod Slides
+pub mod Repairs
 pub mod Histories
 pub mod Orders
 pub mod Sums

@@ -45,7 +45,8 @@ abbrev logged : List (List ℕ) → List ℕ
 logged [] = smallVolume []
 logged (r ∷ []) = smallVolume (oneItem (recordAt 1) r ∷ [])
 logged (r ∷ (s ∷ [])) = smallVolume (oneItem (recordAt 1) r ∷ oneItem (recordAt 2) s ∷ [])
-logged (r ∷ (s ∷ (t ∷ ts))) = smallVolume (oneItem (recordAt 1) r ∷ oneItem (recordAt 2) s ∷ oneItem (recordAt 3) t ∷ [])
+logged (r ∷ (s ∷ (t ∷ ts))) =
+    smallVolume (oneItem (recordAt 1) r ∷ oneItem (recordAt 2) s ∷ oneItem (recordAt 3) t ∷ [])
 
 abbrev ours : List ℕ
 ours = logged (record1 ∷ record2 ∷ record3 ∷ [])
@@ -59,32 +60,43 @@ unfolding opened
 mirrorRows =
     row "mirror: logs that agree" (compared ours ours ++ compared (logged []) (logged [])) (110 ∷ 110 ∷ [])
     ∷ row "mirror: headings and counts may differ"
-    (compared ours (storedIn (emptyVolume First 3 0 3 0) (oneItem (recordAt 1) record1 ∷ oneItem (recordAt 2) record2 ∷ oneItem (recordAt 3) record3 ∷ [])))
+    (compared ours (storedIn (emptyVolume First 3 0 3 0)
+    (oneItem (recordAt 1) record1 ∷ oneItem (recordAt 2) record2 ∷ oneItem (recordAt 3) record3 ∷ [])))
     (110 ∷ [])
     ∷ row "mirror: a beginning"
-    (compared (logged []) ours ++ (compared ours (logged (record1 ∷ record2 ∷ [])) ++ compared (logged (record1 ∷ [])) ours))
+    (compared (logged []) ours
+    ++ (compared ours (logged (record1 ∷ record2 ∷ [])) ++ compared (logged (record1 ∷ [])) ours))
     (111 ∷ 3 ∷ 1 ∷ 2 ∷ 112 ∷ 1 ∷ 1 ∷ 111 ∷ 2 ∷ 1 ∷ 2 ∷ [])
-    ∷ row "mirror: other bytes" (compared ours (third (encodeChange 3 1 1 (Put 1 2) (0x41 ∷ 0x43 ∷ [])))) (113 ∷ 3 ∷ 1 ∷ [])
+    ∷ row "mirror: other bytes"
+    (compared ours (third (encodeChange 3 1 1 (Put 1 2) (0x41 ∷ 0x43 ∷ [])))) (113 ∷ 3 ∷ 1 ∷ [])
     ∷ row "mirror: another range"
-    (compared ours (third (encodeChange 3 1 1 (Put 2 2) (0x41 ∷ 0x42 ∷ []))) ++ compared (third (encodeChange 3 1 1 (Put 1 3) (0x41 ∷ 0x42 ∷ 0 ∷ []))) ours)
+    (compared ours (third (encodeChange 3 1 1 (Put 2 2) (0x41 ∷ 0x42 ∷ [])))
+    ++ compared (third (encodeChange 3 1 1 (Put 1 3) (0x41 ∷ 0x42 ∷ 0 ∷ []))) ours)
     (113 ∷ 3 ∷ 1 ∷ 113 ∷ 3 ∷ 1 ∷ [])
-    ∷ row "mirror: another kind" (compared ours (third (encodeChange 3 1 1 (Slide 1 2) (0x41 ∷ 0x42 ∷ [])))) (113 ∷ 3 ∷ 1 ∷ [])
-    ∷ row "mirror: another page" (compared ours (third (encodeChange 3 2 2 (Put 1 2) (0x41 ∷ 0x42 ∷ [])))) (113 ∷ 3 ∷ 1 ∷ 2 ∷ [])
-    ∷ row "mirror: another fill" (compared ours (logged (encodeChange 1 0 1 (Format 8) [] ∷ record2 ∷ record3 ∷ []))) (113 ∷ 1 ∷ 1 ∷ 2 ∷ [])
-    ∷ row "mirror: the shorter one differs" (compared (logged (record1 ∷ encodeChange 2 0 2 (Format 8) [] ∷ [])) ours) (113 ∷ 2 ∷ 1 ∷ 2 ∷ [])
+    ∷ row "mirror: another kind"
+    (compared ours (third (encodeChange 3 1 1 (Slide 1 2) (0x41 ∷ 0x42 ∷ [])))) (113 ∷ 3 ∷ 1 ∷ [])
+    ∷ row "mirror: another page"
+    (compared ours (third (encodeChange 3 2 2 (Put 1 2) (0x41 ∷ 0x42 ∷ [])))) (113 ∷ 3 ∷ 1 ∷ 2 ∷ [])
+    ∷ row "mirror: another fill"
+    (compared ours (logged (encodeChange 1 0 1 (Format 8) [] ∷ record2 ∷ record3 ∷ []))) (113 ∷ 1 ∷ 1 ∷ 2 ∷ [])
+    ∷ row "mirror: the shorter one differs"
+    (compared (logged (record1 ∷ encodeChange 2 0 2 (Format 8) [] ∷ [])) ours) (113 ∷ 2 ∷ 1 ∷ 2 ∷ [])
     ∷ row "mirror: touched in the second alone"
-    (compared ours (logged (record1 ∷ record2 ∷ encodeChange 3 2 2 (Format 1) [] ∷ [])) ++ compared (logged (record1 ∷ record2 ∷ [])) (third (encodeChange 3 2 2 (Format 1) [])))
+    (compared ours (logged (record1 ∷ record2 ∷ encodeChange 3 2 2 (Format 1) [] ∷ []))
+    ++ compared (logged (record1 ∷ record2 ∷ [])) (third (encodeChange 3 2 2 (Format 1) [])))
     (113 ∷ 3 ∷ 1 ∷ 2 ∷ 111 ∷ 1 ∷ 2 ∷ [])
     ∷ row "mirror: refused by number, whichever gives it"
     (let wrong = set ours 0 0 in
     let log = third (encodeChange 4 1 1 (Put 1 2) (0x41 ∷ 0x42 ∷ [])) in
     let notes = storedIn ours (oneItem (noteAt 1) (writtenNote 2 1 3) ∷ []) in
     let gone = reachRing 1 1 2 2 turned .volume in
-    compared log wrong ++ (compared wrong log ++ (compared notes log ++ (compared gone notes ++ (compared gone ours ++ compared ours gone)))))
+    compared log wrong ++ (compared wrong log
+    ++ (compared notes log ++ (compared gone notes ++ (compared gone ours ++ compared ours gone)))))
     (100 ∷ 1 ∷ 100 ∷ 1 ∷ 100 ∷ 17 ∷ 100 ∷ 18 ∷ 100 ∷ 24 ∷ 100 ∷ 24 ∷ [])
     ∷ row "mirror: logs that agree over a forged image"
     (let forged = storedIn ours (oneItem (pageAt 1) (image 1 3 body1) ∷ []) in
-    compared ours forged ++ (part (inspectOf ours 1 buffer .buffer) 8 3 ++ part (inspectOf forged 1 buffer .buffer) 8 3))
+    compared ours forged
+    ++ (part (inspectOf ours 1 buffer .buffer) 8 3 ++ part (inspectOf forged 1 buffer .buffer) 8 3))
     (110 ∷ 7 ∷ 0x41 ∷ 0x42 ∷ 7 ∷ 7 ∷ 7 ∷ [])
     ∷ row "mirror, for C: they agree, or differ"
     (reported 66 ours ours ++ reported 66 ours (third (encodeChange 3 1 1 (Put 1 2) (0x41 ∷ 0x43 ∷ []))))

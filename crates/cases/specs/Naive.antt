@@ -18,7 +18,8 @@ viewIn v p = let g = geometryOf v in viewOf g v 1 (entryOf (indexOf g v) p) p
 unfoldable pub replaysAgain : List ℕ → ℕ → List ℕ
 replaysAgain v p =
     let w = viewIn v p in
-    replayChain (w .log) (walkFrom (w .durable) (w .log) (w .first) p (w .written) 0 (w .durable) .chain) (imageBody (w .own))
+    replayChain (w .log)
+    (walkFrom (w .durable) (w .log) (w .first) p (w .written) 0 (w .durable) .chain) (imageBody (w .own))
 
 -- Trap 2: a Backup that frees the page's old slot at once, so that it may take it.
 unfoldable pub backupFreeing : List ℕ → List ℕ → State → ℕ → ℕ → Outcome
@@ -26,7 +27,14 @@ backupFreeing v m s page slot =
     let e = entryOf (s .index) page in
     let freed = setEntry (s .index) page
     (record { last = e .last; durable = e .durable; written = e .written; slot = 0; backup = 0 }) in
-    backupOf v m (record { durable = s .durable; pending = s .pending; notes = s .notes; note = s .note; frames = s .frames; index = freed }) page slot
+    backupOf v m (record {
+      durable = s .durable;
+      pending = s .pending;
+      notes = s .notes;
+      note = s .note;
+      frames = s .frames;
+      index = freed;
+    }) page slot
 
 -- and a repair that takes the image in the noted slot to be at the noted number
 unfoldable pub trustsNote : List ℕ → ℕ → List ℕ

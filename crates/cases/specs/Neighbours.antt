@@ -31,9 +31,10 @@ abbrev hypotheses : List ℕ → List ℕ → ℕ → List ℕ
 hypotheses v w p =
     let a = pageView v p in
     let b = pageView w p in
-    bit (same (take 4 v) (take 4 w)) ∷ bit (eqb (geometryOf v .pages) (geometryOf w .pages)) ∷ bit (same (a .own) (b .own))
-    ∷ bit (sameRecords (heldRecords v p) (heldRecords w p)) ∷ bit (eqb (a .written) (b .written)) ∷ bit (eqb (a .backup) (b .backup))
-    ∷ bit (same (a .copy) (b .copy)) ∷ []
+    bit (same (take 4 v) (take 4 w)) ∷ bit (eqb (geometryOf v .pages) (geometryOf w .pages))
+    ∷ bit (same (a .own) (b .own))
+    ∷ bit (sameRecords (heldRecords v p) (heldRecords w p)) ∷ bit (eqb (a .written) (b .written))
+    ∷ bit (eqb (a .backup) (b .backup)) ∷ bit (same (a .copy) (b .copy)) ∷ []
 
 -- beside them, the two answers
 abbrev beside : List ℕ → List ℕ → ℕ → List ℕ
@@ -49,7 +50,8 @@ with xs = smallVolume (log xs)
 -- four slots of a ring with these records of page 1, and page 2 backed up at 1, which has left
 abbrev ringWith : List ℕ → List ℕ
 ringWith ns =
-    storedIn (filled (emptyVolume Second 2 1 4 2) 0 ns) (oneItem (slotAt 1) (image 2 1 body1) ∷ oneItem (noteAt 1) (backupNote 1 2 1 1) ∷ [])
+    storedIn (filled (emptyVolume Second 2 1 4 2) 0 ns)
+    (oneItem (slotAt 1) (image 2 1 body1) ∷ oneItem (noteAt 1) (backupNote 1 2 1 1) ∷ [])
 
 abbrev lowest : List ℕ → ℕ
 lowest v = firstHeld (geometryOf v) v (durableCount (geometryOf v) v)
@@ -58,7 +60,8 @@ unfoldable pub neighbourRows : List Row
 unfolding opened
 neighbourRows =
     row "neighbours: the heading"
-    (let items = log (oneItem (pageAt 1) (imageUnder First 1 3 body3) ∷ []) in beside (volumeUnder First items) (volumeUnder Second items) 1)
+    (let items = log (oneItem (pageAt 1) (imageUnder First 1 3 body3) ∷ []) in
+    beside (volumeUnder First items) (volumeUnder Second items) 1)
     (0 ∷ 1 ∷ 1 ∷ 1 ∷ 1 ∷ 1 ∷ 1 ∷ (fromOwn Good 0 ++ fromFormat Failed 2))
     ∷ row "neighbours: P"
     (beside (with []) (storedIn (emptyVolume Second 3 1 4 4) (log (oneItem (pageAt 3) (1 ∷ replicate 255 0) ∷ []))) 3)
@@ -69,15 +72,18 @@ neighbourRows =
     (beside (with []) (smallVolume (oneItem (recordAt 1) record1 ∷ oneItem (recordAt 2) record2 ∷ [])) 1)
     (1 ∷ 1 ∷ 1 ∷ 0 ∷ 1 ∷ 1 ∷ 1 ∷ (fromFormat Failed 2 ++ fromFormat Failed 1))
     ∷ row "neighbours: the last written number"
-    (let own = oneItem (pageAt 1) (image 1 1 body1) in beside (with (own ∷ oneItem (noteAt 1) (writtenNote 1 1 3) ∷ [])) (with (own ∷ [])) 1)
+    (let own = oneItem (pageAt 1) (image 1 1 body1) in
+    beside (with (own ∷ oneItem (noteAt 1) (writtenNote 1 1 3) ∷ [])) (with (own ∷ [])) 1)
     (1 ∷ 1 ∷ 1 ∷ 1 ∷ 0 ∷ 1 ∷ 1 ∷ (fromOwn Stale 1 ++ fromOwn Behind 1))
     ∷ row "neighbours: the noted backup's number"
     (let slot = oneItem (slotAt 1) (image 1 3 body3) in
-    beside (with (slot ∷ oneItem (noteAt 1) (backupNote 1 1 1 3) ∷ [])) (with (slot ∷ oneItem (noteAt 1) (backupNote 1 1 1 1) ∷ [])) 1)
+    beside (with (slot ∷ oneItem (noteAt 1) (backupNote 1 1 1 3) ∷ []))
+    (with (slot ∷ oneItem (noteAt 1) (backupNote 1 1 1 1) ∷ [])) 1)
     (1 ∷ 1 ∷ 1 ∷ 1 ∷ 1 ∷ 0 ∷ 1 ∷ (fromBackup Failed 0 ++ fromFormat Failed 2))
     ∷ row "neighbours: the noted backup's image"
     (let note = oneItem (noteAt 1) (backupNote 1 1 1 3) in
-    beside (with (note ∷ oneItem (slotAt 1) (image 1 3 body3) ∷ [])) (with (note ∷ oneItem (slotAt 1) (broken (image 1 3 body3)) ∷ [])) 1)
+    beside (with (note ∷ oneItem (slotAt 1) (image 1 3 body3) ∷ []))
+    (with (note ∷ oneItem (slotAt 1) (broken (image 1 3 body3)) ∷ [])) 1)
     (1 ∷ 1 ∷ 1 ∷ 1 ∷ 1 ∷ 1 ∷ 0 ∷ (fromBackup Failed 0 ++ fromFormat Failed 2))
     ∷ row "neighbours: no backup noted, and another image in slot 1"
     (beside (with (oneItem (slotAt 1) (image 1 3 body3) ∷ [])) (with []) 1)
@@ -91,9 +97,12 @@ neighbourRows =
     ∷ row "neighbours: all else differs"
     (beside (with (oneItem (slotAt 1) (image 1 1 body1) ∷ oneItem (noteAt 1) (backupNote 1 1 1 1) ∷ []))
     (storedIn (emptyVolume Second 2 2 5 3)
-    (oneItem (recordAt 1) record1 ∷ oneItem (recordAt 2) (encodeChange 2 0 2 (Format 5) []) ∷ oneItem (recordAt 3) record3
-    ∷ oneItem (recordAt 4) (encodeChange 4 2 2 (Put 0 1) (1 ∷ [])) ∷ oneItem (pageAt 2) (image 2 2 body3) ∷ oneItem (slotAt 1) (image 2 2 body1)
-    ∷ oneItem (slotAt 2) (image 1 1 body1) ∷ oneItem (noteAt 1) (backupNote 1 2 1 2) ∷ oneItem (noteAt 2) (backupNote 2 1 2 1) ∷ [])) 1)
+    (oneItem (recordAt 1) record1 ∷ oneItem (recordAt 2) (encodeChange 2 0 2 (Format 5) [])
+    ∷ oneItem (recordAt 3) record3
+    ∷ oneItem (recordAt 4) (encodeChange 4 2 2 (Put 0 1) (1 ∷ [])) ∷ oneItem (pageAt 2) (image 2 2 body3)
+    ∷ oneItem (slotAt 1) (image 2 2 body1)
+    ∷ oneItem (slotAt 2) (image 1 1 body1) ∷ oneItem (noteAt 1) (backupNote 1 2 1 2)
+    ∷ oneItem (noteAt 2) (backupNote 2 1 2 1) ∷ [])) 1)
     (1 ∷ 1 ∷ 1 ∷ 1 ∷ 1 ∷ 1 ∷ 1 ∷ (fromBackup Failed 1 ++ fromBackup Failed 1))
     ∷ row "neighbours: the lowest held number may differ"
     (let v = ringWith (5 ∷ 6 ∷ 3 ∷ 4 ∷ []) in

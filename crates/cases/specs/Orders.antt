@@ -8,7 +8,7 @@ use Rattle.model.specs.Change.{zeroBody}
 use Rattle.model.specs.AbstractLog.{Logged, replayOn, replay, lastPlace}
 use Rattle.model.specs.declared.change.Change.the-variants.{Format, Put, Slide}
 use Rattle.cases.specs.Rows.{Row, row}
-use Rattle.cases.specs.Histories.{logged}
+use Rattle.cases.specs.Slides.{logged}
 
 -- bytes put, and slid in, at an offset of page 1
 abbrev put : ℕ → List ℕ → Logged

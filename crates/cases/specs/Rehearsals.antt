@@ -53,7 +53,15 @@ choices i s = record { fill = i; offset = i; length = 2; payload = i ∷ replica
 
 abbrev site : Heading → ℕ → ℕ → ℕ → ℕ → ℕ → Site
 site h p b l n f =
-    record { heading = h; found = replicate (lengthFor p b l n) 0xDD; pages = p; slots = b; records = l; notes = n; memory = memory f }
+    record {
+      heading = h;
+      found = replicate (lengthFor p b l n) 0xDD;
+      pages = p;
+      slots = b;
+      records = l;
+      notes = n;
+      memory = memory f;
+    }
 
 -- whether a call was refused, then pages 1 and 2
 abbrev real : Played → List ℕ
@@ -70,29 +78,39 @@ around = c 1 ∷ c 2 ∷ r 1 ∷ r 2 ∷ r 1 ∷ c 1 ∷ r 2 ∷ []
 unfoldable pub rehearsalCases : List Row
 unfolding opened
 rehearsalCases =
-    row "rehearsal: 25 for 1,025 events" (answered (replicate 1025 1) 1 1 ∷ answered (replicate 1024 1) 1 1 ∷ []) (25 ∷ 0 ∷ [])
-    ∷ row "rehearsal: 25 for the frames" (answered short 0 2 ∷ answered short 1 2 ∷ answered short 16 2 ∷ answered short 17 2 ∷ []) (25 ∷ 0 ∷ 0 ∷ 25 ∷ [])
-    ∷ row "rehearsal: 25 for k" (answered short 1 0 ∷ answered short 1 1 ∷ answered short 1 255 ∷ answered short 1 256 ∷ []) (25 ∷ 0 ∷ 0 ∷ 25 ∷ [])
+    row "rehearsal: 25 for 1,025 events"
+    (answered (replicate 1025 1) 1 1 ∷ answered (replicate 1024 1) 1 1 ∷ []) (25 ∷ 0 ∷ [])
+    ∷ row "rehearsal: 25 for the frames"
+    (answered short 0 2 ∷ answered short 1 2 ∷ answered short 16 2 ∷ answered short 17 2 ∷ [])
+    (25 ∷ 0 ∷ 0 ∷ 25 ∷ [])
+    ∷ row "rehearsal: 25 for k"
+    (answered short 1 0 ∷ answered short 1 1 ∷ answered short 1 255 ∷ answered short 1 256 ∷ [])
+    (25 ∷ 0 ∷ 0 ∷ 25 ∷ [])
     ∷ row "rehearsal: 25 for a page, of a read too"
-    (answered (c 1 ∷ r 0 ∷ []) 1 1 ∷ answered (c 0 ∷ []) 1 1 ∷ answered (c 1 ∷ r 64 ∷ c 64 ∷ []) 1 1 ∷ answered (c 1 ∷ r 65 ∷ []) 1 1 ∷ answered (c 65 ∷ []) 1 1 ∷ [])
+    (answered (c 1 ∷ r 0 ∷ []) 1 1 ∷ answered (c 0 ∷ []) 1 1 ∷ answered (c 1 ∷ r 64 ∷ c 64 ∷ []) 1 1
+    ∷ answered (c 1 ∷ r 65 ∷ []) 1 1 ∷ answered (c 65 ∷ []) 1 1 ∷ [])
     (25 ∷ 25 ∷ 0 ∷ 25 ∷ 25 ∷ [])
     ∷ row "rehearsal: refused, all figures are zero"
     (length (rehearsalOf (c 1 ∷ r 65 ∷ []) (settings 1 1 Written) .pages) ∷ figures (c 1 ∷ r 65 ∷ []) 1 1 Written)
     (64 ∷ replicate 12 0)
     ∷ row "rehearsal: let go" (figures short 1 2 LetGo) (1 ∷ 3 ∷ 0 ∷ 1 ∷ 1 ∷ 1 ∷ 0 ∷ 1 ∷ 0 ∷ 0 ∷ 0 ∷ 0 ∷ [])
     ∷ row "rehearsal: written" (figures short 1 2 Written) (1 ∷ 3 ∷ 1 ∷ 1 ∷ 2 ∷ 0 ∷ 0 ∷ 1 ∷ 1 ∷ 0 ∷ 1 ∷ 0 ∷ [])
-    ∷ row "rehearsal: below k the walk ends at the format" (figures short 1 4 LetGo) (1 ∷ 3 ∷ 0 ∷ 0 ∷ 0 ∷ 3 ∷ 0 ∷ 1 ∷ 0 ∷ 0 ∷ 0 ∷ 0 ∷ [])
-    ∷ row "rehearsal: a clean victim costs nothing" (figures around 1 9 Written) (2 ∷ 2 ∷ 2 ∷ 0 ∷ 2 ∷ 0 ∷ 2 ∷ 1 ∷ 1 ∷ 0 ∷ 1 ∷ 0 ∷ [])
+    ∷ row "rehearsal: below k the walk ends at the format" (figures short 1 4 LetGo)
+    (1 ∷ 3 ∷ 0 ∷ 0 ∷ 0 ∷ 3 ∷ 0 ∷ 1 ∷ 0 ∷ 0 ∷ 0 ∷ 0 ∷ [])
+    ∷ row "rehearsal: a clean victim costs nothing" (figures around 1 9 Written)
+    (2 ∷ 2 ∷ 2 ∷ 0 ∷ 2 ∷ 0 ∷ 2 ∷ 1 ∷ 1 ∷ 0 ∷ 1 ∷ 0 ∷ [])
     ∷ row "rehearsal: a page that was loaded is dirty where victims are let go"
     (figures around 1 9 LetGo)
     (2 ∷ 2 ∷ 0 ∷ 0 ∷ 0 ∷ 2 ∷ 2 ∷ 1 ∷ 0 ∷ 0 ∷ 0 ∷ 2 ∷ [])
-    ∷ row "rehearsal: a read before the begin does nothing" (figures (r 1 ∷ c 1 ∷ r 2 ∷ r 1 ∷ []) 1 1 Written) (0 ∷ 1 ∷ 0 ∷ 1 ∷ 1 ∷ 0 ∷ replicate 6 0)
-    ∷ row "rehearsal: a hit renews the use" (figures (c 1 ∷ c 2 ∷ r 1 ∷ c 3 ∷ r 1 ∷ r 2 ∷ []) 2 1 LetGo) (0 ∷ 1 ∷ 0 ∷ 1 ∷ 1 ∷ 0 ∷ 1 ∷ 1 ∷ 0 ∷ 1 ∷ 1 ∷ 0 ∷ [])
+    ∷ row "rehearsal: a read before the begin does nothing" (figures (r 1 ∷ c 1 ∷ r 2 ∷ r 1 ∷ []) 1 1 Written)
+    (0 ∷ 1 ∷ 0 ∷ 1 ∷ 1 ∷ 0 ∷ replicate 6 0)
+    ∷ row "rehearsal: a hit renews the use" (figures (c 1 ∷ c 2 ∷ r 1 ∷ c 3 ∷ r 1 ∷ r 2 ∷ []) 2 1 LetGo)
+    (0 ∷ 1 ∷ 0 ∷ 1 ∷ 1 ∷ 0 ∷ 1 ∷ 1 ∷ 0 ∷ 1 ∷ 1 ∷ 0 ∷ [])
     ∷ row "rehearsal: the first empty frame, the least recently used"
     (frames (c 5 ∷ []) ++ frames (c 5 ∷ c 6 ∷ r 5 ∷ c 7 ∷ []))
     (5 ∷ 1 ∷ 1 ∷ 0 ∷ 0 ∷ 0 ∷ 5 ∷ 3 ∷ 1 ∷ 7 ∷ 4 ∷ 1 ∷ [])
-    ∷ row "rehearsal: in total" (sums (totalOf (rehearsalOf short (settings 1 2 Written) .pages) 64)) (1 ∷ 4 ∷ 2 ∷ 1 ∷ 3 ∷ 0 ∷ [])
-    ∷ []
+    ∷ row "rehearsal: in total" (sums (totalOf (rehearsalOf short (settings 1 2 Written) .pages) 64))
+    (1 ∷ 4 ∷ 2 ∷ 1 ∷ 3 ∷ 0 ∷ []) ∷ []
 
 unfoldable pub rehearsalRuns : List Row
 unfolding opened
@@ -104,7 +122,8 @@ rehearsalRuns =
     (real (realRun (site First 2 2 4 3 1) (settings 1 2 Written) choices short))
     (0 ∷ 1 ∷ 3 ∷ 1 ∷ 1 ∷ 2 ∷ 0 ∷ 0 ∷ 1 ∷ 1 ∷ 0 ∷ 1 ∷ 0 ∷ [])
     ∷ row "rehearsal, real: one note too few, one record too few"
-    (bit (realRun (site First 2 2 4 2 1) (settings 1 2 Written) choices short .refused) ∷ bit (realRun (site First 2 2 3 3 1) (settings 1 2 Written) choices short .refused) ∷ [])
+    (bit (realRun (site First 2 2 4 2 1) (settings 1 2 Written) choices short .refused)
+    ∷ bit (realRun (site First 2 2 3 3 1) (settings 1 2 Written) choices short .refused) ∷ [])
     (1 ∷ 1 ∷ [])
     ∷ row "rehearsal, real: a clean victim"
     (real (realRun (site Second 2 1 3 4 1) (settings 1 9 Written) choices around))
@@ -115,5 +134,7 @@ rehearsalRuns =
     ∷ row "rehearsal, real: a read before the begin; a hit renews the use"
     (real (realRun (site Second 3 4 3 3 2) (settings 2 1 LetGo) choices (r 2 ∷ c 1 ∷ c 2 ∷ r 1 ∷ c 3 ∷ r 1 ∷ r 2 ∷ [])))
     (0 ∷ 0 ∷ 1 ∷ 0 ∷ 1 ∷ 1 ∷ 0 ∷ 1 ∷ 1 ∷ 0 ∷ 1 ∷ 1 ∷ 0 ∷ [])
-    ∷ row "rehearsal, real: pages with a backup" (backedUp (rehearsalOf short (settings 1 2 LetGo) .pages) 64 ∷ backedUp (rehearsalOf short (settings 1 1 LetGo) .pages) 64 ∷ []) (1 ∷ 2 ∷ [])
-    ∷ []
+    ∷ row "rehearsal, real: pages with a backup"
+    (backedUp (rehearsalOf short (settings 1 2 LetGo) .pages) 64
+    ∷ backedUp (rehearsalOf short (settings 1 1 LetGo) .pages) 64 ∷ [])
+    (1 ∷ 2 ∷ []) ∷ []

@@ -52,8 +52,8 @@ put n = change 1 (Put 0 1) (n ∷ replicate 43 0)
 -- begin; force; backup; change; force; note; change; force: records 2 and 3 stand, 1 has left
 abbrev pub turned : List Event
 turned =
-    restart (memory 1) ∷ perform (begin 1 1 7) ∷ perform force ∷ perform (backup 1 1) ∷ perform (put 2) ∷ perform force ∷ perform note
-    ∷ perform (put 3) ∷ perform force ∷ []
+    restart (memory 1) ∷ perform (begin 1 1 7) ∷ perform force ∷ perform (backup 1 1) ∷ perform (put 2) ∷ perform force
+    ∷ perform note ∷ perform (put 3) ∷ perform force ∷ []
 
 -- no backup noted: the record that would be displaced is needed
 abbrev pub needed : List Event
@@ -66,31 +66,35 @@ waiting = restart (memory 1) ∷ perform (begin 1 1 7) ∷ perform (put 2) ∷ [
 -- a torn overwrite of slot 1 counts as leaving
 abbrev pub tornOver : List Event
 tornOver =
-    restart (memory 1) ∷ perform (begin 1 1 7) ∷ perform (put 2) ∷ perform force ∷ perform force ∷ perform (backup 1 1) ∷ perform note
-    ∷ perform (put 3) ∷ crashIn force (torn (replicate 64 1)) ∷ []
+    restart (memory 1) ∷ perform (begin 1 1 7) ∷ perform (put 2) ∷ perform force ∷ perform force ∷ perform (backup 1 1)
+    ∷ perform note ∷ perform (put 3) ∷ crashIn force (torn (replicate 64 1)) ∷ []
 
 -- a note ring of two: written, backed up, and then the written note is the only one of its kind
 abbrev pub locked : List Event
 locked =
-    restart (memory 1) ∷ perform (begin 1 1 7) ∷ perform force ∷ perform (write 1) ∷ perform note ∷ perform (backup 1 1) ∷ perform note ∷ []
+    restart (memory 1) ∷ perform (begin 1 1 7) ∷ perform force ∷ perform (write 1) ∷ perform note
+    ∷ perform (backup 1 1) ∷ perform note ∷ []
 
 -- two pages: both notes of page 1 are of record 1, which has left; the log holds records 2 and 3 of page 2
 abbrev pub twoPages : List Event
 twoPages =
-    restart (memory 2) ∷ perform (begin 1 1 7) ∷ perform force ∷ perform (write 1) ∷ perform note ∷ perform (backup 1 1) ∷ perform (begin 2 2 9)
+    restart (memory 2) ∷ perform (begin 1 1 7) ∷ perform force ∷ perform (write 1) ∷ perform note
+    ∷ perform (backup 1 1) ∷ perform (begin 2 2 9)
     ∷ perform force ∷ perform note ∷ perform (change 2 (Put 0 1) (5 ∷ replicate 43 0)) ∷ perform force ∷ []
 
 -- two written notes, then a third cut torn over the first
 abbrev pub tornNote : List Event
 tornNote =
-    restart (memory 1) ∷ perform (begin 1 1 7) ∷ perform force ∷ perform (write 1) ∷ perform note ∷ perform (put 2) ∷ perform force ∷ perform (write 1)
-    ∷ perform note ∷ perform (backup 1 1) ∷ crashIn note (torn (replicate 16 1)) ∷ restart (memory 1) ∷ perform (load 1 1) ∷ []
+    restart (memory 1) ∷ perform (begin 1 1 7) ∷ perform force ∷ perform (write 1) ∷ perform note ∷ perform (put 2)
+    ∷ perform force ∷ perform (write 1)
+    ∷ perform note ∷ perform (backup 1 1) ∷ crashIn note (torn (replicate 16 1)) ∷ restart (memory 1)
+    ∷ perform (load 1 1) ∷ []
 
 -- the oldest note is of another page than the later one of its kind
 abbrev pub otherPage : List Event
 otherPage =
-    restart (memory 2) ∷ perform (begin 1 1 7) ∷ perform (begin 2 2 9) ∷ perform force ∷ perform force ∷ perform (write 1) ∷ perform note ∷ perform (write 2)
-    ∷ perform note ∷ []
+    restart (memory 2) ∷ perform (begin 1 1 7) ∷ perform (begin 2 2 9) ∷ perform force ∷ perform force
+    ∷ perform (write 1) ∷ perform note ∷ perform (write 2) ∷ perform note ∷ []
 
 unfoldable pub ringRows : List Row
 unfolding opened
@@ -118,21 +122,31 @@ unfolding opened
 ringEvents =
     row "turned: from the backup, below the run" (inspected (reachRing 1 1 2 2 turned .volume) 1)
     (103 ∷ 4 ∷ 2 ∷ 2 ∷ 3 ∷ 0 ∷ 0 ∷ 0 ∷ 3 ∷ 7 ∷ 7 ∷ 7 ∷ 7 ∷ 7 ∷ [])
-    ∷ row "turned, the backup damaged: 23" (inspected (run (reachRing 1 1 2 2 turned) (damage (slotAt 1) (replicate 256 1) ∷ []) .volume) 1)
+    ∷ row "turned, the backup damaged: 23"
+    (inspected (run (reachRing 1 1 2 2 turned) (damage (slotAt 1) (replicate 256 1) ∷ []) .volume) 1)
     (100 ∷ 23 ∷ replicate 10 0xAA)
-    ∷ row "turned, let go and opened: from the backup" (asked (run (reachRing 1 1 2 2 turned) (perform (release 1) ∷ [])) (load 1 1)) (fromBackup Failed 2)
-    ∷ row "turned, let go, the backup damaged: 23" (asked (run (reachRing 1 1 2 2 turned) (perform (release 1) ∷ damage (slotAt 1) (replicate 256 1) ∷ [])) (load 1 1)) (refused 23)
+    ∷ row "turned, let go and opened: from the backup"
+    (asked (run (reachRing 1 1 2 2 turned) (perform (release 1) ∷ [])) (load 1 1)) (fromBackup Failed 2)
+    ∷ row "turned, let go, the backup damaged: 23"
+    (asked (run (reachRing 1 1 2 2 turned) (perform (release 1) ∷ damage (slotAt 1) (replicate 256 1) ∷ []))
+    (load 1 1)) (refused 23)
     ∷ row "no backup: 12" (asked (reachRing 1 1 2 2 needed) (put 3)) (refused 12)
-    ∷ row "an owed backup is not noted: 12" (asked (run (reachRing 1 1 2 2 needed) (perform (backup 1 1) ∷ [])) (put 3)) (refused 12)
-    ∷ row "a noted backup: done" (asked (run (reachRing 1 1 2 2 needed) (perform (backup 1 1) ∷ perform note ∷ [])) (put 3)) done
+    ∷ row "an owed backup is not noted: 12"
+    (asked (run (reachRing 1 1 2 2 needed) (perform (backup 1 1) ∷ [])) (put 3)) (refused 12)
+    ∷ row "a noted backup: done"
+    (asked (run (reachRing 1 1 2 2 needed) (perform (backup 1 1) ∷ perform note ∷ [])) (put 3)) done
     ∷ row "displaces a pending one: 12" (asked (reachRing 1 1 2 2 waiting) (put 3)) (refused 12)
-    ∷ row "torn over slot 1" (inspected (reachRing 1 1 2 2 tornOver .volume) 1) (103 ∷ 4 ∷ 2 ∷ 0 ∷ 2 ∷ 0 ∷ 0 ∷ 0 ∷ 2 ∷ 7 ∷ 7 ∷ 7 ∷ 7 ∷ 7 ∷ [])
-    ∷ row "torn over slot 1, restarted, goes on" (asked (run (reachRing 1 1 2 2 tornOver) (restart (memory 1) ∷ perform (load 1 1) ∷ [])) (put 3)) done
+    ∷ row "torn over slot 1" (inspected (reachRing 1 1 2 2 tornOver .volume) 1)
+    (103 ∷ 4 ∷ 2 ∷ 0 ∷ 2 ∷ 0 ∷ 0 ∷ 0 ∷ 2 ∷ 7 ∷ 7 ∷ 7 ∷ 7 ∷ 7 ∷ [])
+    ∷ row "torn over slot 1, restarted, goes on"
+    (asked (run (reachRing 1 1 2 2 tornOver) (restart (memory 1) ∷ perform (load 1 1) ∷ [])) (put 3)) done
     ∷ row "the oldest note is needed: 14" (asked (reachRing 1 2 2 2 locked) (backup 1 2)) (refused 14)
     ∷ row "a later note of another page: 14" (asked (reachRing 2 2 2 2 otherPage) (backup 1 1)) (refused 14)
-    ∷ row "torn over slot 1, the backup damaged: 23" (inspected (run (reachRing 1 1 2 2 tornOver) (damage (slotAt 1) (replicate 256 1) ∷ []) .volume) 1)
+    ∷ row "torn over slot 1, the backup damaged: 23"
+    (inspected (run (reachRing 1 1 2 2 tornOver) (damage (slotAt 1) (replicate 256 1) ∷ []) .volume) 1)
     (100 ∷ 23 ∷ replicate 10 0xAA)
     ∷ row "a torn note, restarted, goes on" (asked (reachRing 1 1 2 2 tornNote) (backup 1 1)) done
-    ∷ row "two pages, page 1" (inspected (reachRing 2 1 2 2 twoPages .volume) 1) (103 ∷ 1 ∷ 1 ∷ 0 ∷ 1 ∷ 0 ∷ 0 ∷ 0 ∷ 7 ∷ 7 ∷ 7 ∷ 7 ∷ 7 ∷ 7 ∷ [])
-    ∷ row "two pages, page 2" (inspected (reachRing 2 1 2 2 twoPages .volume) 2) (103 ∷ 4 ∷ 3 ∷ 2 ∷ 3 ∷ 0 ∷ 0 ∷ 0 ∷ 5 ∷ 9 ∷ 9 ∷ 9 ∷ 9 ∷ 9 ∷ [])
-    ∷ []
+    ∷ row "two pages, page 1" (inspected (reachRing 2 1 2 2 twoPages .volume) 1)
+    (103 ∷ 1 ∷ 1 ∷ 0 ∷ 1 ∷ 0 ∷ 0 ∷ 0 ∷ 7 ∷ 7 ∷ 7 ∷ 7 ∷ 7 ∷ 7 ∷ [])
+    ∷ row "two pages, page 2" (inspected (reachRing 2 1 2 2 twoPages .volume) 2)
+    (103 ∷ 4 ∷ 3 ∷ 2 ∷ 3 ∷ 0 ∷ 0 ∷ 0 ∷ 5 ∷ 9 ∷ 9 ∷ 9 ∷ 9 ∷ 9 ∷ []) ∷ []

@@ -11,13 +11,13 @@ use Rattle.model.specs.Index.{entryOf, slotUsed}
 use Rattle.model.specs.Scan.{validLog, validNotes, indexOf}
 use Rattle.model.specs.Repair.{classOf, viewOf, walkFrom, walkOf, startOf, isBroken}
 use Rattle.model.specs.Calls.{StoredItem, oneItem, restartOf, inspectOf}
-use Rattle.model.specs.declared.geometry.Heading.the-variants.{Second}
+use Rattle.model.specs.declared.geometry.Heading.the-variants.{First, Second}
 use Rattle.model.specs.declared.change.Change.the-variants.{Format, Put}
 use Rattle.model.specs.declared.answer.Class.the-variants.{Good, Behind, Failed}
 use Rattle.cases.specs.Rows.{Row, row}
 use Rattle.model.specs.Health.{classNumber, startNumber}
-use Rattle.cases.specs.Build.{bit, bits, numbers, fromOwn, fromBackup, fromFormat, refused, small, image, broken, writtenNote, backupNote, storedIn, smallVolume, inspected, memory, entryNumbers}
-use Rattle.cases.specs.Table.{record1, record2, record3, whole, body1, body3, own, ownFails, at3}
+use Rattle.cases.specs.Build.{bit, bits, numbers, fromOwn, fromBackup, fromFormat, refused, small, image, broken, writtenNote, backupNote, storedIn, volumeUnder, smallVolume, inspected, memory, entryNumbers}
+use Rattle.cases.specs.Table.{record1, record2, record3, wholeUnder, whole, body1, body3, own, ownFails, at3}
 
 -- ---- the log
 
@@ -37,7 +37,14 @@ logRows =
     row "log: a record that obeys"
     (third (put 3 1 1) ∷ third (encodeChange 3 1 1 (Format 4) []) ∷ third (put 3 2 2) ∷ [])
     (1 ∷ 1 ∷ 1 ∷ [])
-    ∷ row "log: another number" (third (put 4 1 1) ∷ third (put 2 1 1) ∷ []) (0 ∷ 0 ∷ [])
+    ∷ row "log: another number"
+    -- in a ring a higher number is the highest, so the last two alone show the number's own clause
+    (third (put 4 1 1) ∷ third (put 2 1 1)
+    ∷ map (λ v. bit (validLog (geometryOf v) v))
+    (smallVolume (oneItem (recordAt 1) record1 ∷ oneItem (recordAt 2) (encodeChange 1 0 2 (Format 9) [])
+    ∷ oneItem (recordAt 3) record3 ∷ [])
+    ∷ volumeUnder First (oneItem (recordAt 1) record1 ∷ oneItem (recordAt 2) (encodeChange 3 0 2 (Format 9) []) ∷ []) ∷ []))
+    (0 ∷ 0 ∷ 0 ∷ 0 ∷ [])
     ∷ row "log: a page out of range"
     (third (encodeChange 3 0 3 (Format 4) []) ∷ third (encodeChange 3 0 0 (Format 4) []) ∷ [])
     (0 ∷ 0 ∷ [])
@@ -93,9 +100,11 @@ noteRows =
     ∷ (writtenNote 1 1 3 ∷ writtenNote 2 1 3 ∷ []) ∷ []))
     (1 ∷ 1 ∷ 1 ∷ 1 ∷ [])
     ∷ row "notes: layout, number, page"
+    -- the number's own clause: in a ring below the highest, and where there is no ring
     (map notesKeep ((noteWith 1 1 3 0 3 ∷ []) ∷ (noteWith 1 1 1 1 3 ∷ []) ∷ (writtenNote 2 1 3 ∷ [])
-    ∷ (writtenNote 1 3 3 ∷ []) ∷ (writtenNote 1 0 3 ∷ []) ∷ []))
-    (0 ∷ 0 ∷ 0 ∷ 0 ∷ 0 ∷ [])
+    ∷ (writtenNote 1 3 3 ∷ []) ∷ (writtenNote 1 0 3 ∷ []) ∷ (writtenNote 2 1 1 ∷ writtenNote 2 1 3 ∷ []) ∷ [])
+    ++ (notesKeepIn (wholeUnder First []) (writtenNote 1 1 3 ∷ []) ∷ notesKeepIn (wholeUnder First []) (writtenNote 2 1 3 ∷ []) ∷ []))
+    (0 ∷ 0 ∷ 0 ∷ 0 ∷ 0 ∷ 0 ∷ 1 ∷ 0 ∷ [])
     ∷ row "notes: a durable record of the page"
     (map notesKeep ((writtenNote 1 1 0 ∷ []) ∷ (writtenNote 1 1 4 ∷ []) ∷ (writtenNote 1 1 2 ∷ [])
     ∷ (backupNote 1 2 1 3 ∷ []) ∷ []))

@@ -31,30 +31,39 @@ passes x = map (λ g. bit (imageSealed g x)) tags
 -- whether damage that erases a word of page 1's image, stored by a Write, may come in a history
 abbrev mayErase : Heading → ℕ
 mayErase h =
-    let w = reachUnder h 2 1 4 4 (restart (memory 1) ∷ perform (begin 1 1 0) ∷ perform force ∷ perform (write 1) ∷ []) in
+    let w = reachUnder h 2 1 4 4
+    (restart (memory 1) ∷ perform (begin 1 1 0) ∷ perform force ∷ perform (write 1) ∷ []) in
     bit (allowed w (damage (pageAt 1) (withWord (imageUnder h 1 1 (replicate 244 0)) 8 0xFF 0xFF)))
 
 unfoldable pub sumRows : List Row
 sumRows =
-    row "byte sum: known values" (byteSum (1 ∷ 0 ∷ 2 ∷ 0 ∷ []) ∷ byteSum (replicate 252 0) ∷ byteSum (1 ∷ 2 ∷ 3 ∷ []) ∷ []) (786436 ∷ 16515073 ∷ 851975 ∷ [])
-    ∷ row "byte sum: both sums modulo 65,535" (byteSum (replicate 257 0xFF) ∷ byteSum (replicate 600 0xFF) ∷ []) (16842753 ∷ 2429113771 ∷ [])
+    row "byte sum: known values"
+    (byteSum (1 ∷ 0 ∷ 2 ∷ 0 ∷ []) ∷ byteSum (replicate 252 0) ∷ byteSum (1 ∷ 2 ∷ 3 ∷ []) ∷ [])
+    (786436 ∷ 16515073 ∷ 851975 ∷ [])
+    ∷ row "byte sum: both sums modulo 65,535" (byteSum (replicate 257 0xFF) ∷ byteSum (replicate 600 0xFF) ∷ [])
+    (16842753 ∷ 2429113771 ∷ [])
     ∷ row "image: the sum that the heading names" (passes byWords ++ passes byBytes) (1 ∷ 0 ∷ 1 ∷ 0 ∷ 1 ∷ 1 ∷ [])
     ∷ row "image: the sum that is set"
-    (map (λ g. bit (imageSealed (smallUnder First) (sealImage g byWords))) tags ++ map (λ g. bit (imageSealed (smallUnder Second) (sealImage g byWords))) tags)
+    (map (λ g. bit (imageSealed (smallUnder First) (sealImage g byWords))) tags
+    ++ map (λ g. bit (imageSealed (smallUnder Second) (sealImage g byWords))) tags)
     (1 ∷ 0 ∷ 0 ∷ 0 ∷ 1 ∷ 1 ∷ [])
-    ∷ row "image: zeros and erased flash fail both sums" (passes (replicate 256 0) ++ passes (replicate 256 0xFF)) (replicate 6 0)
+    ∷ row "image: zeros and erased flash fail both sums"
+    (passes (replicate 256 0) ++ passes (replicate 256 0xFF)) (replicate 6 0)
     ∷ row "one word changed: the first heading misses 0000 and FFFF"
-    (passes (withWord byWords 8 0xFF 0xFF) ++ (passes (withWord byWords 8 0xFF 0xFE) ++ passes (withWord (withWord byWords 8 0xFF 0xFF) 8 0 1)))
+    (passes (withWord byWords 8 0xFF 0xFF)
+    ++ (passes (withWord byWords 8 0xFF 0xFE) ++ passes (withWord (withWord byWords 8 0xFF 0xFF) 8 0 1)))
     (1 ∷ 0 ∷ 1 ∷ 0 ∷ 0 ∷ 0 ∷ 0 ∷ 0 ∷ 0 ∷ [])
     ∷ row "one word changed: the second heading catches it in number, zeros, page lsn and body"
     (map (λ at. bit (imageSealed (smallUnder Second) (withWord byBytes at 0xFF 0xFF))) (0 ∷ 2 ∷ 4 ∷ 6 ∷ 9 ∷ 250 ∷ []))
     (replicate 6 0)
     ∷ row "two words changed: bytes by +1, -2, +1 defeat the byte sum"
-    (let x = withSum byteSum (take 252 (frameImage 1 1 (replicate 244 7))) in passes (withWord (withWord x 8 8 5) 10 8 7))
+    (let x = withSum byteSum (take 252 (frameImage 1 1 (replicate 244 7))) in
+    passes (withWord (withWord x 8 8 5) 10 8 7))
     (0 ∷ 1 ∷ 1 ∷ [])
     ∷ row "damage: an erased word under each heading" (mayErase First ∷ mayErase Second ∷ []) (0 ∷ 1 ∷ [])
     ∷ row "inspect: the buffer has the heading's sum"
     (map (λ h. let w = reachUnder h 2 1 4 4 (restart (memory 1) ∷ perform (begin 1 1 0) ∷ perform force ∷ []) in
-    let x = inspectOf (w .volume) 1 (replicate 256 0) .buffer in bit (validImage (smallUnder h) 1 x)) (First ∷ Second ∷ []))
+    let x = inspectOf (w .volume) 1 (replicate 256 0) .buffer in
+    bit (validImage (smallUnder h) 1 x)) (First ∷ Second ∷ []))
     (1 ∷ 1 ∷ [])
     ∷ []

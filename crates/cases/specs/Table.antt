@@ -29,7 +29,8 @@ record3 = encodeChange 3 1 1 (Put 1 2) (0x41 ∷ 0x42 ∷ [])
 
 -- the volume of K6 to K10, and of K11 and K12, whose record 3 is torn, with more stored
 abbrev pub wholeUnder : Heading → List StoredItem → List ℕ
-wholeUnder h xs = volumeUnder h (oneItem (recordAt 1) record1 ∷ oneItem (recordAt 2) record2 ∷ oneItem (recordAt 3) record3 ∷ xs)
+wholeUnder h xs =
+    volumeUnder h (oneItem (recordAt 1) record1 ∷ oneItem (recordAt 2) record2 ∷ oneItem (recordAt 3) record3 ∷ xs)
 
 abbrev pub whole : List StoredItem → List ℕ
 whole xs = wholeUnder Second xs
@@ -82,7 +83,8 @@ kRows h =
     let ownFails = failsUnder h in
     let image = imageUnder h in
     row "K1" (checksum (1 ∷ 0 ∷ 2 ∷ 0 ∷ []) ∷ []) (393220 ∷ [])
-    ∷ row "K2" (checksum (replicate 252 0) ∷ bit (validImage (smallUnder h) 0 (replicate 256 0)) ∷ []) (8257537 ∷ 0 ∷ [])
+    ∷ row "K2" (checksum (replicate 252 0) ∷ bit (validImage (smallUnder h) 0 (replicate 256 0)) ∷ [])
+    (8257537 ∷ 0 ∷ [])
     ∷ row "K3"
     (take 3 (applyChange (Slide 0 1) (0x41 ∷ []) (applyChange (Slide 0 1) (0x41 ∷ []) zeroBody)))
     (0x41 ∷ 0x41 ∷ 0 ∷ [])

@@ -46,7 +46,15 @@ pub record Worked : Type 0 where
 -- a history under a heading with these counts, whose Make found other bytes than zeros
 abbrev pub historyWith : Heading → ℕ → ℕ → ℕ → ℕ → List Event → History
 historyWith h p b l n es =
-    record { heading = h; found = replicate (lengthFor p b l n) 0xDD; pages = p; slots = b; records = l; notes = n; events = es }
+    record {
+      heading = h;
+      found = replicate (lengthFor p b l n) 0xDD;
+      pages = p;
+      slots = b;
+      records = l;
+      notes = n;
+      events = es;
+    }
 
 abbrev pub historyOf : Worked → History
 historyOf w = historyWith (w .heading) (w .pages) (w .slots) (w .records) (w .notes) (map (λ t. t .event) (w .events))

@@ -39,7 +39,8 @@ use Rattle.history.proofs.LogSteps.{Joins, joins-fair, log-add, index-a
 use Rattle.history.proofs.FrameSteps.{frames-put}
 use Rattle.history.proofs.Context.{Ctx, Kept, passed, in-range, sized, geo, len, sum, few, body-size, last-entry, found-frame, unblocked}
 
-module _ {C : Type 0} {g : Geometry} {v m : List ℕ} {past : List StoredItem} {s : State} {k w : List Logged} (x : Ctx C g v m past s k w) where
+module _ {C : Type 0} {g : Geometry} {v m : List ℕ} {past : List StoredItem} {s : State} {k w : List Logged}
+    (x : Ctx C g v m past s k w) where
   -- the number that is given next
   next-is : lastNumber s + 1 ≡ suc (length (x .all))
   next-is = omega (arith, sum x)
@@ -47,7 +48,8 @@ module _ {C : Type 0} {g : Geometry} {v m : List ℕ} {past : List StoredItem} {
   -- a change of a page in frame f
   module _ (c : Logged) (f : ℕ) (payload image : List ℕ) (f₁ : 1 ≤ f) (f₂ : f ≤ x .al .F) (j : Joins (g .pages) (x .all) c)
       (free : eqb (s .pending) 16 ≡ false) (room : logFull g v s ≡ false) (same : take (lengthOf (c .change)) payload ≡ c .bytes)
-      (image-is : image ≡ frameImage (c .page) (suc (length (x .all))) (applyChange (c .change) (c .bytes) (bodyOf (c .page) (x .all)))) where
+      (image-is : image ≡ frameImage (c .page) (suc (length (x .all)))
+      (applyChange (c .change) (c .bytes) (bodyOf (c .page) (x .all)))) where
     less : length w < 16
     less = let ne : s .pending ≢ 16 = eqb-false (s .pending) 16 free in omega (arith, x .al .log .few, x .al .log .pending-is)
 
@@ -64,13 +66,15 @@ module _ {C : Type 0} {g : Geometry} {v m : List ℕ} {past : List StoredItem} {
         ∙ rw (same, next-is) (recOf-new (x .all) c (entryOf (s .index) (c .page) .last) (last-entry x (c .page) (j .low) (j .high)))
 
     rec-size : length rec ≡ 64
-    rec-size = rw rec-is (recOf-is (g .pages) (x .all ++ (c ∷ [])) (length (x .all)) (sized x .p-high) (omega (arith, roomy, most-high g (sized x))) (joins-fair (g .pages) (x .all) c j) .size)
+    rec-size = rw rec-is (recOf-is (g .pages) (x .all ++ (c ∷ [])) (length (x .all)) (sized x .p-high)
+        (omega (arith, roomy, most-high g (sized x))) (joins-fair (g .pages) (x .all) c j) .size)
 
     body-size′ : length (applyChange (c .change) (c .bytes) (bodyOf (c .page) (x .all))) ≡ 244
     body-size′ = apply-length (c .change) (c .bytes) (bodyOf (c .page) (x .all)) (j .fit) (omega (arith, j .whole)) (body-size x (c .page))
 
     image-size : length image ≡ 256
-    image-size = rw image-is (frame-size g (c .page) (suc (length (x .all))) (applyChange (c .change) (c .bytes) (bodyOf (c .page) (x .all)))
+    image-size =
+        rw image-is (frame-size g (c .page) (suc (length (x .all))) (applyChange (c .change) (c .bytes) (bodyOf (c .page) (x .all)))
         (omega (arith, j .high, sized x .p-high)) (omega (arith, roomy, most-high g (sized x))) body-size′)
 
     m₁ : List ℕ
@@ -97,7 +101,8 @@ module _ {C : Type 0} {g : Geometry} {v m : List ℕ} {past : List StoredItem} {
     unfolding m₁ m₂
     pending-old i a b =
         let ne : (suc i - 1) % 16 ≢ (lastNumber s + 1 - 1) % 16 = omega (arith, len x, less, sum x) in
-        frame-pending (x .al .F) m₁ mem₁ f image f₁ f₂ image-size (suc i) ∙ pending-other (x .al .F) m (x .al .memory) (lastNumber s + 1) rec rec-size (suc i) ne
+        frame-pending (x .al .F) m₁ mem₁ f image f₁ f₂ image-size (suc i)
+        ∙ pending-other (x .al .F) m (x .al .memory) (lastNumber s + 1) rec rec-size (suc i) ne
 
     frame-new : frameBytes m₂ f ≡ image
     unfolding m₂
@@ -111,8 +116,14 @@ module _ {C : Type 0} {g : Geometry} {v m : List ℕ} {past : List StoredItem} {
 
     keep-add : (an : Answer)
         → ((i : ℕ) → i < x .al .F → i ≢ f - 1 → frame (s .frames) i .page ≢ c .page)
-        → (frame (s .frames) (f - 1) .page ≢ 0 → frame (s .frames) (f - 1) .page ≢ c .page → Settled (x .all) (length k) (frame (s .frames) (f - 1) .page))
-        → Kept C g v past (record { answer = an; state = appendedState s (c .page) f; memory = appendedMemory m s (c .page) (c .change) payload f image; stored = nothing })
+        → (frame (s .frames) (f - 1) .page ≢ 0 → frame (s .frames) (f - 1) .page ≢ c .page
+        → Settled (x .all) (length k) (frame (s .frames) (f - 1) .page))
+        → Kept C g v past (record {
+          answer = an;
+          state = appendedState s (c .page) f;
+          memory = appendedMemory m s (c .page) (c .change) payload f image;
+          stored = nothing;
+        })
         (record { durable = k; pending = w ++ (c ∷ []) })
     unfolding volumeAfter appendedState appendedMemory rec m₁ m₂
     keep-add an alone leaves =
@@ -127,19 +138,27 @@ module _ {C : Type 0} {g : Geometry} {v m : List ℕ} {past : List StoredItem} {
               F = x .al .F;
               memory = mem₂;
               log = log-add g m (s .durable) (s .pending) k w (x .all) (x .al .log) m₂ c j less roomy pending-new pending-old;
-              frames = frames-put (g .pages) (x .al .F) (x .all) (length k) (s .frames) m (x .al .frames) (x .al .memory .high) (x .all ++ (c ∷ [])) m₂ (f - 1) (c .page) true
+              frames = frames-put (g .pages) (x .al .F) (x .all) (length k) (s .frames) m (x .al .frames) (x .al .memory .high)
+                  (x .all ++ (c ∷ [])) m₂ (f - 1) (c .page) true
                   (omega arith)
                   (record {
                     low = j .low;
                     high = j .high;
                     some = rw (number-hit (x .all) c) (omega arith);
-                    frame-is = let e : suc (f - 1) ≡ f = omega arith in rw (e, number-hit (x .all) c, body-hit (x .all) c) (frame-new ∙ image-is);
+                    frame-is = let e : suc (f - 1) ≡ f = omega arith in
+                        rw (e, number-hit (x .all) c, body-hit (x .all) c) (frame-new ∙ image-is);
                   })
                   frame-old
-                  (λ q ne. (number-miss (x .all) c q ne, body-miss (x .all) c q ne, last-append q (x .all) (c ∷ []) (length k) (omega (arith, len x))))
+                  (λ q ne. (
+                    number-miss (x .all) c q ne,
+                    body-miss (x .all) c q ne,
+                    last-append q (x .all) (c ∷ []) (length k) (omega (arith, len x)),
+                  ))
                   alone leaves;
-              index = index-add (s .index) (x .all) (length k) (x .ns) (length (x .ns)) (x .al .index) c (lastNumber s + 1) (j .low) (omega (arith, j .high, sized x .p-high)) (omega (arith, len x)) next-is;
-              displaced = rw (lenA (x .all) c) (displaced-more (g .records) (length k) (length (x .all)) (Spare k (x .ns)) (Spare k (x .ns)) (λ i b z. z) (x .al .displaced) (log-asked x room));
+              index = index-add (s .index) (x .all) (length k) (x .ns) (length (x .ns)) (x .al .index) c (lastNumber s + 1) (j .low)
+                  (omega (arith, j .high, sized x .p-high)) (omega (arith, len x)) next-is;
+              displaced = rw (lenA (x .all) c) (displaced-more (g .records) (length k) (length (x .all)) (Spare k (x .ns)) (Spare k (x .ns))
+                  (λ i b z. z) (x .al .displaced) (log-asked x room));
               notes-is = x .al .notes-is;
               note-ok = x .al .note-ok;
             },
@@ -159,8 +178,10 @@ module _ {C : Type 0} {g : Geometry} {v m : List ℕ} {past : List StoredItem} {
   keep-begin page f fill e =
       let t = passed (beginRows v m s page f) (omega arith) e in
       let r : (1 ≤ page) × (page ≤ g .pages) = rw (geo x) at (in-range (geometryOf v .pages) page (t .1 .1 .1 .0)) in
-      let q : (1 ≤ f) × (f ≤ x .al .F) = rw (frame-count (x .al .F) m (x .al .memory)) at (in-range (frameCount (length m)) f (t .1 .1 .1 .1 .0)) in
-      let none : lastOf page (x .all) ≡ 0 = sym (last-entry x page (r .0) (r .1)) ∙ eqb-true (entryOf (s .index) page .last) 0 (not-false (blank s page) (t .1 .1 .1 .1 .1 .0)) in
+      let q : (1 ≤ f) × (f ≤ x .al .F) =
+      rw (frame-count (x .al .F) m (x .al .memory)) at (in-range (frameCount (length m)) f (t .1 .1 .1 .1 .0)) in
+      let none : lastOf page (x .all) ≡ 0 = sym (last-entry x page (r .0) (r .1))
+      ∙ eqb-true (entryOf (s .index) page .last) 0 (not-false (blank s page) (t .1 .1 .1 .1 .1 .0)) in
       let full : logFull g v s ≡ false = rw (geo x) at (t .1 .1 .1 .1 .1 .1 .1 .1 .0) in
       keep-add (loggedChange page (Format fill) []) f [] (frameImage page (lastNumber s + 1) (replicate 244 fill)) (q .0) (q .1)
       (record { low = r .0; high = r .1; fit = refl; whole = refl; first = λ z. refl })
@@ -178,7 +199,8 @@ module _ {C : Type 0} {g : Geometry} {v m : List ℕ} {past : List StoredItem} {
         answer = Done;
         state = appendedState s page (holder s page);
         memory = appendedMemory m s page c payload (holder s page)
-            (changedImage (frameBytes m (holder s page)) (lastNumber s + 1) (applyChange c payload (imageBody (frameBytes m (holder s page)))));
+            (changedImage (frameBytes m (holder s page)) (lastNumber s + 1)
+            (applyChange c payload (imageBody (frameBytes m (holder s page)))));
         stored = nothing;
       }) (record { durable = k; pending = w ++ (loggedChange page c payload ∷ []) })
   unfolding changeRows
@@ -205,5 +227,6 @@ module _ {C : Type 0} {g : Geometry} {v m : List ℕ} {past : List StoredItem} {
       (rw (f .framed .frame-is, frame-body g page (lastOf page (x .all)) body pg nm (body-size x page), apply-take c payload body, next-is)
       (frame-changed g page (lastOf page (x .all)) body pg nm (body-size x page) (suc (length (x .all))) (applyChange c payload body)))
       Done
-      (λ i b ne y. ne (let q : i ≡ f .row = x .al .frames .once i (f .row) b (f .in-table) (λ z. omega arith) (y ∙ sym (f .page-is)) in omega (arith, f .holder-is)))
+      (λ i b ne y. ne (let q : i ≡ f .row = x .al .frames .once i (f .row) b (f .in-table) (λ z. omega arith) (y ∙ sym (f .page-is)) in
+      omega (arith, f .holder-is)))
       (λ nz ne. absurd (ne (let q : holder s page - 1 ≡ f .row = omega (arith, f .holder-is) in rw q (f .page-is))))

@@ -1,4 +1,5 @@
--- The archive after a history: each section is the page's kept changes, so what is rebuilt from it is the page's replay, as inspection shows.
+-- The archive after a history: each section is the page's kept changes, so what is rebuilt from it is the page's replay, as inspection
+-- shows.
 use mathlib.Core.Path.{_≡_, refl, sym, ap, _∙_}
 use mathlib.Core.Logic.{_≢_, ⊎-elim}
 use mathlib.Core.Bool.{Bool, true, false, cond}
@@ -32,7 +33,8 @@ use Rattle.model.specs.declared.answer.Answer.the-variants.{Done}
 use Rattle.history.proofs.Logs.{at, lastAt, lastOf, bodyOf, replayAt, last-hit, last-miss, replay-hit, replay-miss, replay-is, last-is}
 use Rattle.history.proofs.Records.{recOf, length-replay}
 use Rattle.history.proofs.Sections.{volume-sized}
-use Rattle.history.proofs.Disk.{Holds, Noted, first, started, rec-at, durable-count, not-gone}
+use Rattle.history.proofs.Disk.{Holds, Noted}
+use Rattle.history.proofs.LogScan.{first, started, rec-at, durable-count, not-gone}
 use Rattle.history.proofs.Reached.{Undamaged, present, tied}
 use Rattle.history.proofs.Theorem.{demand2}
 
@@ -50,7 +52,8 @@ pub record Replayed (p : ℕ) (k : List Logged) (c : ℕ) (rs : List (List ℕ))
   pub none : lastAt p k c ≡ 0 → length rs ≡ 0
   pub some : lastAt p k c ≢ 0 → 1 ≤ length rs
 
-module _ {C : Type 0} (g : Geometry) (v : List ℕ) (k : List Logged) (h : Holds g v k) (ns : List Note) (o : Noted C g v k ns) (here : gone g v ≡ false) where
+module _ {C : Type 0} (g : Geometry) (v : List ℕ) (k : List Logged) (h : Holds g v k) (ns : List Note) (o : Noted C g v k ns)
+    (here : gone g v ≡ false) where
   -- record 1 is there: every change stands in its slot
   pub stands : (c : ℕ) → c < length k → item g v (logSlot g (suc c)) ≡ recOf k c
   stands c b =
@@ -139,11 +142,13 @@ module _ (h : History) (legal : Legal h) (x : List ℕ) (done : archiveOf (reach
     pub reads : readOf (archiveOf (reached h .volume) x .buffer) area .answer ≡ Done
     reads =
         let f = valid-facts (reached h .volume) (written .0 .volume) in
-        rw (written .1) (read-done (geometryOf (reached h .volume) .pages) (archiveBytes (sectionsOf (reached h .volume))) area sized (f .p-low) (f .p-high)
+        rw (written .1) (read-done (geometryOf (reached h .volume) .pages)
+        (archiveBytes (sectionsOf (reached h .volume))) area sized (f .p-low) (f .p-high)
         (written-back (reached h .volume) (written .0) .0))
 
     module _ (p : ℕ) (lo : 1 ≤ p) (hi : p ≤ h .pages) where
-      image-is : imageAt (readOf (archiveOf (reached h .volume) x .buffer) area .buffer) p ≡ sectionImage p (heldRecords (reached h .volume) p)
+      image-is : imageAt (readOf (archiveOf (reached h .volume) x .buffer) area .buffer) p
+          ≡ sectionImage p (heldRecords (reached h .volume) p)
       image-is =
           let w = reached h .volume in
           let P = geometryOf w .pages in
@@ -153,11 +158,13 @@ module _ (h : History) (legal : Legal h) (x : List ℕ) (done : archiveOf (reach
           read-image P (archiveOf w x .buffer) area sized reads p lo hi′
           ∙ rw (written .1, b .1, tabulate-at P (p - 1) (λ i. heldRecords w (suc i)) [] (omega (arith, lo, hi′)), m)
 
-      blank-image : lastPlace p (durableOf h) ≡ 0 → imageAt (readOf (archiveOf (reached h .volume) x .buffer) area .buffer) p ≡ replicate 256 0
+      blank-image : lastPlace p (durableOf h) ≡ 0
+          → imageAt (readOf (archiveOf (reached h .volume) x .buffer) area .buffer) p ≡ replicate 256 0
       blank-image z = image-is ∙ image-none p (heldRecords (reached h .volume) p) (section-is p .none (sym (last-is p (durableOf h)) ∙ z))
 
       durable-image : lastPlace p (durableOf h) ≢ 0
-          → imageAt (readOf (archiveOf (reached h .volume) x .buffer) area .buffer) p ≡ frameImage p (lastPlace p (durableOf h)) (replay p (durableOf h))
+          → imageAt (readOf (archiveOf (reached h .volume) x .buffer) area .buffer) p
+          ≡ frameImage p (lastPlace p (durableOf h)) (replay p (durableOf h))
       durable-image z =
           let s = section-is p in
           image-is
@@ -172,7 +179,8 @@ module _ (h : History) (legal : Legal h) (x : List ℕ) (done : archiveOf (reach
         here g = true-not-false g (written .0 .here)
 
         body-long : length (replay p (durableOf h)) ≡ 244
-        body-long = rw (replay-is p (durableOf h)) (length-replay (h .pages) p (durableOf h) (length (durableOf h)) (omega arith) (tied h legal .holds .fair))
+        body-long = rw (replay-is p (durableOf h))
+            (length-replay (h .pages) p (durableOf h) (length (durableOf h)) (omega arith) (tied h legal .holds .fair))
 
         shows : inspection h p buffer ≡ 0 → lastPlace p (durableOf h) ≢ 0
         shows e z = let s = ins .blank .1 z in omega (arith, s, e)
@@ -196,4 +204,5 @@ module _ (h : History) (legal : Legal h) (x : List ℕ) (done : archiveOf (reach
             }
 
 pub archive : ArchiveHistory
-archive h legal x done area size = (reads h legal x done area size, λ p lo hi buffer long. rebuilds h legal x done area size p lo hi buffer long)
+archive h legal x done area size =
+    (reads h legal x done area size, λ p lo hi buffer long. rebuilds h legal x done area size p lo hi buffer long)

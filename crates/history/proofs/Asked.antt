@@ -28,7 +28,9 @@ use Rattle.model.specs.declared.state.State.{State}
 use Rattle.history.proofs.Logs.{at}
 use Rattle.history.proofs.Entries.{note, markAt, Later}
 use Rattle.history.proofs.Sections.{most-plain, notes-plain}
-use Rattle.history.proofs.Disk.{Stands, Torn, Spare, NoteStands, NoteTorn, rec-at, note-back}
+use Rattle.history.proofs.Disk.{Stands, Torn, Spare, NoteStands, NoteTorn}
+use Rattle.history.proofs.NoteScan.{note-back}
+use Rattle.history.proofs.LogScan.{rec-at}
 use Rattle.history.proofs.Inv.{Room}
 use Rattle.history.proofs.Context.{Ctx, sized, sum, len, entry-is}
 
@@ -48,13 +50,16 @@ and-not : (a b : Bool) → a ≡ true → (a && b) ≡ false → b ≡ false
 and-not true b t h = h
 and-not false b t h = absurd (true-not-false t refl)
 
-module _ {C : Type 0} {g : Geometry} {v m : List ℕ} {past : List StoredItem} {s : State} {k w : List Logged} (x : Ctx C g v m past s k w) where
+module _ {C : Type 0} {g : Geometry} {v m : List ℕ} {past : List StoredItem} {s : State} {k w : List Logged}
+    (x : Ctx C g v m past s k w) where
   -- ---- 12
 
   module _ (t : logFull g v s ≡ false) where
-    halves : (leb (most g) (lastNumber s) ≡ false) × ((ring g && (leb (g .records) (lastNumber s) && recordNeeded g v s (suc (lastNumber s) - g .records))) ≡ false)
+    halves : (leb (most g) (lastNumber s) ≡ false)
+        × ((ring g && (leb (g .records) (lastNumber s) && recordNeeded g v s (suc (lastNumber s) - g .records))) ≡ false)
     unfolding logFull
-    halves = or-neither (leb (most g) (lastNumber s)) (ring g && (leb (g .records) (lastNumber s) && recordNeeded g v s (suc (lastNumber s) - g .records))) t
+    halves = or-neither (leb (most g) (lastNumber s))
+        (ring g && (leb (g .records) (lastNumber s) && recordNeeded g v s (suc (lastNumber s) - g .records))) t
 
     pub log-room : length (x .all) < most g
     log-room = omega (arith, leb-false (most g) (s .durable + s .pending) (halves .0), sum x)
@@ -71,15 +76,21 @@ module _ {C : Type 0} {g : Geometry} {v m : List ℕ} {past : List StoredItem} {
     log-asked i e =
         let r = item g v (logSlot g (suc i)) in
         let en = entryOf (s .index) (logRecord g v (suc i) .page) in
-        let need = sealed 60 r && (eqb (logRecord g v (suc i) .lsn) (suc i) && not (within (g .pages) (logRecord g v (suc i) .page) && (not (eqb (en .slot) 0) && leb (suc i) (en .backup)))) in
+        let need = sealed 60 r && (eqb (logRecord g v (suc i) .lsn) (suc i)
+        && not (within (g .pages) (logRecord g v (suc i) .page) && (not (eqb (en .slot) 0) && leb (suc i) (en .backup)))) in
         let u = or-neither (ltb (s .durable) (suc i)) need (unneeded i e) in
-        let b : i < length k = let z : suc i ≤ s .durable = ltb-false (s .durable) (suc i) (u .0) in omega (arith, x .al .log .durable-is) in
-        (b, run-asked (ring g) (g .records) (length k) (Stands g v k) (Torn g v) (Spare k (x .ns)) (x .no .run) i b (λ st. spare i b st (u .1)))
+        let b : i < length k = let z : suc i ≤ s .durable = ltb-false (s .durable) (suc i) (u .0) in
+        omega (arith, x .al .log .durable-is) in (
+          b,
+          run-asked (ring g) (g .records) (length k) (Stands g v k) (Torn g v) (Spare k (x .ns)) (x .no .run) i b
+              (λ st. spare i b st (u .1)),
+        )
       where
         spare : (i : ℕ) → i < length k → Stands g v k i
             → (sealed 60 (item g v (logSlot g (suc i))) && (eqb (logRecord g v (suc i) .lsn) (suc i)
             && not (within (g .pages) (logRecord g v (suc i) .page)
-            && (not (eqb (entryOf (s .index) (logRecord g v (suc i) .page) .slot) 0) && leb (suc i) (entryOf (s .index) (logRecord g v (suc i) .page) .backup))))) ≡ false
+            && (not (eqb (entryOf (s .index) (logRecord g v (suc i) .page) .slot) 0)
+            && leb (suc i) (entryOf (s .index) (logRecord g v (suc i) .page) .backup))))) ≡ false
             → Spare k (x .ns) i
         spare i b st u =
             let ra = rec-at g v k (x .hs) (x .ns) (x .no) i b in
@@ -88,8 +99,10 @@ module _ {C : Type 0} {g : Geometry} {v m : List ℕ} {past : List StoredItem} {
             let u₁ : not (within (g .pages) (at k i .page) && (not (eqb (en .slot) 0) && leb (suc i) (en .backup))) ≡ false =
             rw (st, ra .sealed-is, ra .fields, eq-eqb (suc i) (suc i) refl) at u in
             let u₂ = not-false (within (g .pages) (at k i .page) && (not (eqb (en .slot) 0) && leb (suc i) (en .backup))) u₁ in
-            let u₃ = and-right (not (eqb (en .slot) 0)) (leb (suc i) (en .backup)) (and-right (within (g .pages) (at k i .page)) (not (eqb (en .slot) 0) && leb (suc i) (en .backup)) u₂) in
-            let q : en .backup ≡ markAt (at k i .page) (x .ns) (length (x .ns)) .backup = ap (λ (y : Entry). y .backup) (entry-is x (at k i .page) (f .low) (f .high)) in
+            let u₃ = and-right (not (eqb (en .slot) 0)) (leb (suc i) (en .backup))
+            (and-right (within (g .pages) (at k i .page)) (not (eqb (en .slot) 0) && leb (suc i) (en .backup)) u₂) in
+            let q : en .backup ≡ markAt (at k i .page) (x .ns) (length (x .ns)) .backup =
+            ap (λ (y : Entry). y .backup) (entry-is x (at k i .page) (f .low) (f .high)) in
             omega (arith, leb-true (suc i) (en .backup) u₃)
 
   -- ---- 14
@@ -98,12 +111,15 @@ module _ {C : Type 0} {g : Geometry} {v m : List ℕ} {past : List StoredItem} {
     abbrev last : ℕ
     last = lastNote s
 
-    parts : (eqb (g .notes) 0 ≡ false) × ((leb (mostNotes g) last || (noteRing g && (leb (g .notes) last && noteNeeded g v last (suc last - g .notes)))) ≡ false)
+    parts : (eqb (g .notes) 0 ≡ false)
+        × ((leb (mostNotes g) last || (noteRing g && (leb (g .notes) last && noteNeeded g v last (suc last - g .notes)))) ≡ false)
     unfolding notesFull
-    parts = or-neither (eqb (g .notes) 0) (leb (mostNotes g) last || (noteRing g && (leb (g .notes) last && noteNeeded g v last (suc last - g .notes)))) t
+    parts = or-neither (eqb (g .notes) 0)
+        (leb (mostNotes g) last || (noteRing g && (leb (g .notes) last && noteNeeded g v last (suc last - g .notes)))) t
 
     parts′ : (leb (mostNotes g) last ≡ false) × ((noteRing g && (leb (g .notes) last && noteNeeded g v last (suc last - g .notes))) ≡ false)
-    parts′ = or-neither (leb (mostNotes g) last) (noteRing g && (leb (g .notes) last && noteNeeded g v last (suc last - g .notes))) (parts .1)
+    parts′ =
+        or-neither (leb (mostNotes g) last) (noteRing g && (leb (g .notes) last && noteNeeded g v last (suc last - g .notes))) (parts .1)
 
     pub notes-room : length (x .ns) < mostNotes g
     notes-room = omega (arith, leb-false (mostNotes g) (s .notes) (parts′ .0), x .al .notes-is)
@@ -125,25 +141,31 @@ module _ {C : Type 0} {g : Geometry} {v m : List ℕ} {past : List StoredItem} {
         let sl : sealed 12 (item g v (noteSlot g (suc j))) ≡ true = rw st (note-sealed (note (x .ns) j)) in
         and-both sl (rw r (eq-eqb (note (x .ns) j .number) (suc j) (x .no .fit j b .number-is)))
 
-    alike : (i j : ℕ) (y z : Note) → noteRecord g v i ≡ y → noteRecord g v j ≡ z → noteLike g v i j ≡ true → (z .page ≡ y .page) × (z .kind ≡ y .kind)
+    alike : (i j : ℕ) (y z : Note) → noteRecord g v i ≡ y → noteRecord g v j ≡ z → noteLike g v i j ≡ true
+        → (z .page ≡ y .page) × (z .kind ≡ y .kind)
     alike i j y z e q u =
-        let u′ : (eqb (z .page) (y .page) && eqb (z .kind) (y .kind)) ≡ true = rw (e, q) at u in
-        (eqb-true (z .page) (y .page) (and-left (eqb (z .page) (y .page)) (eqb (z .kind) (y .kind)) u′), eqb-true (z .kind) (y .kind) (and-right (eqb (z .page) (y .page)) (eqb (z .kind) (y .kind)) u′))
+        let u′ : (eqb (z .page) (y .page) && eqb (z .kind) (y .kind)) ≡ true = rw (e, q) at u in (
+          eqb-true (z .page) (y .page) (and-left (eqb (z .page) (y .page)) (eqb (z .kind) (y .kind)) u′),
+          eqb-true (z .kind) (y .kind) (and-right (eqb (z .page) (y .page)) (eqb (z .kind) (y .kind)) u′),
+        )
 
     later : (i : ℕ) → i < length (x .ns) → length (x .ns) ≡ i + g .notes → NoteStands g v (x .ns) i → Later (x .ns) i
     unfolding noteNeeded
     later i b e st =
         let n = length (x .ns) in
-        let q = every-not (λ c. not (noteWhole g v (suc (suc i + c)) && noteLike g v (suc i) (suc (suc i + c)))) (n - suc i) (and-not (noteWhole g v (suc i)) _ (whole i b st) (note-unneeded i e)) in
+        let q = every-not (λ c. not (noteWhole g v (suc (suc i + c)) && noteLike g v (suc i) (suc (suc i + c)))) (n - suc i)
+        (and-not (noteWhole g v (suc i)) _ (whole i b st) (note-unneeded i e)) in
         let j = suc i + q .0 in
         let jb : suc i + q .0 < length (x .ns) = omega (arith, q .1) in
         let sj : NoteStands g v (x .ns) (suc i + q .0) = x .no .notes .held (suc i + q .0) jb (omega arith) in
-        let u = and-right (noteWhole g v (suc j)) (noteLike g v (suc i) (suc j)) (not-false (noteWhole g v (suc j) && noteLike g v (suc i) (suc j)) (q .2)) in
+        let u = and-right (noteWhole g v (suc j)) (noteLike g v (suc i) (suc j))
+        (not-false (noteWhole g v (suc j) && noteLike g v (suc i) (suc j)) (q .2)) in
         let u′ = alike (suc i) (suc j) (note (x .ns) i) (note (x .ns) j) (read i b st) (read j jb sj) u in
         record { place = j; above = omega arith; below = jb; page-is = u′ .0; kind-is = u′ .1 }
 
     pub notes-asked : Room g (x .ns)
     notes-asked = (
       let ne : g .notes ≢ 0 = eqb-false (g .notes) 0 (parts .0) in omega arith,
-      λ i b e. run-asked (noteRing g) (g .notes) (length (x .ns)) (NoteStands g v (x .ns)) (NoteTorn g v) (Later (x .ns)) (x .no .notes) i b (later i b e),
+      λ i b e. run-asked (noteRing g) (g .notes) (length (x .ns)) (NoteStands g v (x .ns)) (NoteTorn g v) (Later (x .ns))
+          (x .no .notes) i b (later i b e),
     )

@@ -54,21 +54,27 @@ plain-after startCarry o v i past = absurd (true-not-false refl o)
 plain-after restamp o v i past = absurd (true-not-false refl o)
 plain-after finishCarry o v i past = absurd (true-not-false refl o)
 
-pub plain-left : (c : Call) → carries c ≡ false → (v : List ℕ) (i : StoredItem) (l : Left) (past : List StoredItem) → leftPast c v i l past ≡ plainPast i l past
+pub plain-left : (c : Call) → carries c ≡ false → (v : List ℕ) (i : StoredItem) (l : Left) (past : List StoredItem)
+    → leftPast c v i l past ≡ plainPast i l past
 plain-left c o v i old past = refl
 plain-left c o v i new past = plain-after c o v i past
 plain-left c o v i (torn xs) past = refl
 
-module _ {C : Type 0} {g : Geometry} {v m : List ℕ} {past : List StoredItem} {s : State} {k w : List Logged} (x : Ctx C g v m past s k w) where
+module _ {C : Type 0} {g : Geometry} {v m : List ℕ} {past : List StoredItem} {s : State} {k w : List Logged}
+    (x : Ctx C g v m past s k w) where
   pub inv-call : (c : Call) → carries c ≡ false → payloadFits c ≡ true
-      → Kept C g v past (outcomeOf c v m s) (cond (not (eqb (firstOf (rowsOf c v m s)) 0)) (record { durable = k; pending = w }) (stepCall (record { durable = k; pending = w }) c))
+      → Kept C g v past (outcomeOf c v m s) (cond (not (eqb (firstOf (rowsOf c v m s)) 0)) (record { durable = k; pending = w })
+      (stepCall (record { durable = k; pending = w }) c))
   unfolding beginOf loadOf changeCall forceOf writeOf backupOf releaseOf noteCall stepCall
   inv-call (begin page f fill) o h = keep-decided x (beginRows v m s page f) _ _ (keep-begin x page f fill)
   inv-call (load page f) o h =
       keep-decided x (loadRows v m s page f) _ _
-      (keep-load x page f (Repaired (repairOf (geometryOf v) page (viewOf (geometryOf v) v (firstHeld (geometryOf v) v (s .durable)) (entryOf (s .index) page) page)))
-      (not (isGood (classIn (geometryOf v) page (viewOf (geometryOf v) v (firstHeld (geometryOf v) v (s .durable)) (entryOf (s .index) page) page)))))
-  inv-call (change page c payload) o h = keep-decided x (changeRows v m s page c) _ _ (keep-change x page c payload (eqb-true (length payload) 44 h))
+      (keep-load x page f (Repaired
+      (repairOf (geometryOf v) page (viewOf (geometryOf v) v (firstHeld (geometryOf v) v (s .durable)) (entryOf (s .index) page) page)))
+      (not (isGood (classIn (geometryOf v) page
+      (viewOf (geometryOf v) v (firstHeld (geometryOf v) v (s .durable)) (entryOf (s .index) page) page)))))
+  inv-call (change page c payload) o h =
+      keep-decided x (changeRows v m s page c) _ _ (keep-change x page c payload (eqb-true (length payload) 44 h))
   inv-call force o h = keep-decided x (forceRows v m s) (forced x) _ (λ e. keep-force x w refl)
   inv-call (write page) o h = keep-decided x (writeRows v m s page) (written x page) _ (λ e. keep-write x page (writes x page e))
   inv-call (backup page b) o h = keep-decided x (backupRows v m s page b) _ _ (λ e. keep-backup x page b (backs x page b e))
@@ -97,7 +103,8 @@ module _ {C : Type 0} {g : Geometry} {v m : List ℕ} {past : List StoredItem} {
   unfolding volumeAfter
   cut-new at xs k′ ns′ st = rw (geo x) (record { ns = ns′; holds = st .holds′; noted = st .noted′; past-ok = st .past′; live = tt })
 
-  cut-torn : (at : Place) (xs ys : List ℕ) (k′ : List Logged) (ns′ : List Note) → StoreOk C g v past k (x .ns) at xs k′ ns′ → tornFits (geometryOf v) (oneItem at xs) (torn ys) ≡ true
+  cut-torn : (at : Place) (xs ys : List ℕ) (k′ : List Logged) (ns′ : List Note) → StoreOk C g v past k (x .ns) at xs k′ ns′
+      → tornFits (geometryOf v) (oneItem at xs) (torn ys) ≡ true
       → Inv C g (volumeAfter v (oneItem at ys)) past off (record { durable = k; pending = [] })
   unfolding volumeAfter
   cut-torn at xs ys k′ ns′ st t =
@@ -107,14 +114,16 @@ module _ {C : Type 0} {g : Geometry} {v m : List ℕ} {past : List StoredItem} {
       rw (geo x) (record { ns = x .ns; holds = r .0; noted = r .1; past-ok = x .ps; live = tt })
 
   -- a store that the abstract log does not see
-  cut-item : (at : Place) (xs : List ℕ) (ns′ : List Note) → StoreOk C g v past k (x .ns) at xs k ns′ → (l : Left) → tornFits (geometryOf v) (oneItem at xs) l ≡ true
+  cut-item : (at : Place) (xs : List ℕ) (ns′ : List Note) → StoreOk C g v past k (x .ns) at xs k ns′
+      → (l : Left) → tornFits (geometryOf v) (oneItem at xs) l ≡ true
       → Cut (oneItem at xs) l (record { durable = k; pending = w })
   cut-item at xs ns′ st old t = cut-old
   cut-item at xs ns′ st new t = cut-new at xs k ns′ st
   cut-item at xs ns′ st (torn ys) t = cut-torn at xs ys k ns′ st t
 
   -- an image, summed as the volume's heading says
-  cut-image : (at : Place) (y : List ℕ) → StoreOk C g v past k (x .ns) at (sealImage g y) k (x .ns) → (l : Left) → tornFits (geometryOf v) (oneItem at (sealImage (geometryOf v) y)) l ≡ true
+  cut-image : (at : Place) (y : List ℕ) → StoreOk C g v past k (x .ns) at (sealImage g y) k (x .ns)
+      → (l : Left) → tornFits (geometryOf v) (oneItem at (sealImage (geometryOf v) y)) l ≡ true
       → Cut (oneItem at (sealImage (geometryOf v) y)) l (record { durable = k; pending = w })
   cut-image at y st l t = cut-item at (sealImage (geometryOf v) y) (x .ns) (rw (geo x) st) l t
 
@@ -125,7 +134,8 @@ module _ {C : Type 0} {g : Geometry} {v m : List ℕ} {past : List StoredItem} {
   bytes = pendingBytes m (s .durable + 1)
 
   store-at : (c : Logged) (r : List Logged) → w ≡ c ∷ r → StoreOk C g v past k (x .ns) place bytes (k ++ (c ∷ [])) (x .ns)
-  store-at c r e = subst (λ (h : Geometry). StoreOk C g v past k (x .ns) (logSlot h (s .durable + 1)) bytes (k ++ (c ∷ [])) (x .ns)) (sym (geo x)) (force-store x c r e)
+  store-at c r e = subst (λ (h : Geometry). StoreOk C g v past k (x .ns) (logSlot h (s .durable + 1)) bytes (k ++ (c ∷ [])) (x .ns))
+      (sym (geo x)) (force-store x c r e)
 
   force-new : (c : Logged) (r : List Logged) → w ≡ c ∷ r → Cut (oneItem place bytes) new (moveFirst k w)
   force-new c r e = rw e (cut-new place bytes (k ++ (c ∷ [])) (x .ns) (store-at c r e))
@@ -160,7 +170,8 @@ module _ {C : Type 0} {g : Geometry} {v m : List ℕ} {past : List StoredItem} {
   cut-force [] e l = subst (λ (i : StoredItem). CutForce i l) (sym (stored-none e)) (force-none e l)
   cut-force (c ∷ r) e l = subst (λ (i : StoredItem). CutForce i l) (sym (stored-one c r e)) (force-one c r e l)
 
-  cut-write : (p : ℕ) → Writes x p → (l : Left) → tornFits (geometryOf v) (written x p .stored) l ≡ true → Cut (written x p .stored) l (record { durable = k; pending = w })
+  cut-write : (p : ℕ) → Writes x p → (l : Left) → tornFits (geometryOf v) (written x p .stored) l ≡ true
+      → Cut (written x p .stored) l (record { durable = k; pending = w })
   cut-write p f l t = byCases (pageDirty s p)
       (λ d. rw d (cut-image (pageAt p) (frameBytes m (holder s p)) (write-store x p (f .frame-of) (f .ready d .2)) l (rw d at t)))
       (λ d. rw d (cut-nothing l w))
@@ -168,25 +179,30 @@ module _ {C : Type 0} {g : Geometry} {v m : List ℕ} {past : List StoredItem} {
   cut-note : (y : PendingNote) → PendingOk C g v k (x .ns) y → (l : Left) → tornFits (geometryOf v) (noteStored v m s y .stored) l ≡ true
       → Cut (noteStored v m s y .stored) l (record { durable = k; pending = w })
   cut-note Absent t l f = cut-nothing l w
-  cut-note (Present y) t l f = cut-item (noteSlot (geometryOf v) (lastNote s + 1)) (noteBytes y) (x .ns ++ (y ∷ [])) (rw (geo x) (note-store x y t)) l f
+  cut-note (Present y) t l f =
+      cut-item (noteSlot (geometryOf v) (lastNote s + 1)) (noteBytes y) (x .ns ++ (y ∷ [])) (rw (geo x) (note-store x y t)) l f
 
-  cut-decided : (rows : List Row) (done : Outcome) (b : AbstractLog) (l : Left) → tornFits (geometryOf v) (decided rows m s done .stored) l ≡ true
+  cut-decided : (rows : List Row) (done : Outcome) (b : AbstractLog) (l : Left)
+      → tornFits (geometryOf v) (decided rows m s done .stored) l ≡ true
       → (firstOf rows ≡ 0 → tornFits (geometryOf v) (done .stored) l ≡ true → Cut (done .stored) l b)
       → Cut (decided rows m s done .stored) l (cond (not (eqb (firstOf rows) 0)) (record { durable = k; pending = w }) b)
   cut-decided rows done b l t f =
       byCases (eqb (firstOf rows) 0) (λ e. rw e (f (eqb-true (firstOf rows) 0 e) (rw e at t))) (λ e. rw e (cut-nothing l w))
 
   pub inv-crash : (c : Call) → carries c ≡ false → (l : Left) → tornFits (geometryOf v) (outcomeOf c v m s .stored) l ≡ true
-      → Cut (outcomeOf c v m s .stored) l (cond (not (eqb (firstOf (rowsOf c v m s)) 0)) (record { durable = k; pending = w }) (stepCut (record { durable = k; pending = w }) c l))
+      → Cut (outcomeOf c v m s .stored) l (cond (not (eqb (firstOf (rowsOf c v m s)) 0)) (record { durable = k; pending = w })
+      (stepCut (record { durable = k; pending = w }) c l))
   unfolding beginOf loadOf changeCall forceOf writeOf backupOf releaseOf noteCall stepCut
   inv-crash (begin page f fill) o l t = cut-decided (beginRows v m s page f) _ _ l t (λ e u. cut-nothing l w)
   inv-crash (load page f) o l t = cut-decided (loadRows v m s page f) _ _ l t (λ e u. cut-nothing l w)
   inv-crash (change page c payload) o l t = cut-decided (changeRows v m s page c) _ _ l t (λ e u. cut-nothing l w)
-  inv-crash force o l t = cut-decided (forceRows v m s) (forced x) (stepCut (record { durable = k; pending = w }) force l) l t (λ e u. cut-force w refl l u)
+  inv-crash force o l t =
+      cut-decided (forceRows v m s) (forced x) (stepCut (record { durable = k; pending = w }) force l) l t (λ e u. cut-force w refl l u)
   inv-crash (write page) o l t = cut-decided (writeRows v m s page) (written x page) _ l t (λ e u. cut-write page (writes x page e) l u)
   inv-crash (backup page b) o l t =
       cut-decided (backupRows v m s page b) _ _ l t
-      (λ e u. let f = backs x page b e in cut-image (slotAt b) (frameBytes m (holder s page)) (backup-store x page (f .frame-of) (f .forced-to) b (f .slot-low) (f .slot-high) (f .spare)) l u)
+      (λ e u. let f = backs x page b e in cut-image (slotAt b) (frameBytes m (holder s page))
+      (backup-store x page (f .frame-of) (f .forced-to) b (f .slot-low) (f .slot-high) (f .spare)) l u)
   inv-crash (release page) o l t = cut-decided (releaseRows v m s page) _ _ l t (λ e u. cut-nothing l w)
   inv-crash note o l t = cut-decided (noteRows v m s) (noteStored v m s (s .note)) _ l t (λ e u. cut-note (s .note) (x .al .note-ok) l u)
   inv-crash startCarry o l t = absurd (true-not-false refl o)

@@ -45,23 +45,27 @@ module _ {C : Type 0} (g : Geometry) (v : List ℕ) (k : List Logged) (h : Holds
       go : (y : Place) → at ≡ y → isImage g y ≡ true → Holds g (store g v y xs) k
       go (pageAt p) e i =
           let w = within-bounds (g .pages) p i in
-          page-holds g v k h ns o p xs (w .0) (w .1) five (keeps p (subst (λ (y : Place). Faithful g p k (item g v y)) (sym e) (h .images p (w .0) (w .1))))
+          page-holds g v k h ns o p xs (w .0) (w .1) five
+          (keeps p (subst (λ (y : Place). Faithful g p k (item g v y)) (sym e) (h .images p (w .0) (w .1))))
       go (slotAt b) e i = let w = within-bounds (g .slots) b i in slot-holds g v k h ns o b xs (w .0) (w .1) five
       go (recordAt n) e i = absurd (true-not-false i refl)
       go (noteAt n) e i = absurd (true-not-false i refl)
 
   pub image-noted : isImage g at ≡ true
-      → (C → (b q : ℕ) → at ≡ slotAt b → 1 ≤ q → q ≤ g .pages → markAt q ns (length ns) .slot ≡ b → (validImage g q xs ≡ true) × (imageLsn xs ≡ markAt q ns (length ns) .backup))
+      → (C → (b q : ℕ) → at ≡ slotAt b → 1 ≤ q → q ≤ g .pages → markAt q ns (length ns) .slot ≡ b
+      → (validImage g q xs ≡ true) × (imageLsn xs ≡ markAt q ns (length ns) .backup))
       → Noted C g (store g v at xs) k ns
   image-noted i copies = go at refl i
     where
       go : (y : Place) → at ≡ y → isImage g y ≡ true → Noted C g (store g v y xs) k ns
       go (pageAt p) e i =
           let w = within-bounds (g .pages) p i in
-          page-noted g v k h ns o p xs (w .0) (w .1) five (keeps p (subst (λ (y : Place). Faithful g p k (item g v y)) (sym e) (h .images p (w .0) (w .1))))
+          page-noted g v k h ns o p xs (w .0) (w .1) five
+          (keeps p (subst (λ (y : Place). Faithful g p k (item g v y)) (sym e) (h .images p (w .0) (w .1))))
       go (slotAt b) e i =
           let w = within-bounds (g .slots) b i in
-          slot-noted g v k h ns o b xs (w .0) (w .1) five (λ q lo hi z. slot-faithful b q e (w .0) lo hi z) (λ c q lo hi z. copies c b q e lo hi z)
+          slot-noted g v k h ns o b xs (w .0) (w .1) five (λ q lo hi z. slot-faithful b q e (w .0) lo hi z)
+          (λ c q lo hi z. copies c b q e lo hi z)
       go (recordAt n) e i = absurd (true-not-false i refl)
       go (noteAt n) e i = absurd (true-not-false i refl)
 
@@ -75,7 +79,8 @@ module _ {C : Type 0} (g : Geometry) (v : List ℕ) (k : List Logged) (h : Holds
       go (pageAt p) e i y t =
           let w = within-bounds (g .pages) p i in
           let f = keeps p (subst (λ (y : Place). Faithful g p k (item g v y)) (sym e) (h .images p (w .0) (w .1))) in
-          pending-keep C g v (store g v (pageAt p) xs) k k ns y (λ q z f. f) (λ z f. f) (page-slots g v k h ns o p xs (w .0) (w .1) five f) t
+          pending-keep C g v (store g v (pageAt p) xs) k k ns y (λ q z f. f) (λ z f. f)
+          (page-slots g v k h ns o p xs (w .0) (w .1) five f) t
       go (slotAt b) e i Absent t = tt
       go (slotAt b) e i (Present y) t = (
         t .0,
@@ -91,10 +96,12 @@ module _ {C : Type 0} (g : Geometry) (v : List ℕ) (k : List Logged) (h : Holds
           faithful : isWritten y ≡ false → Dec (y .slot ≡ b) → Faithful g (y .page) k (item g (store g v (slotAt b) xs) (slotAt (y .slot)))
           faithful z (yes q) =
               rw (q, slot-same g v k h ns o b xs (w .0) (w .1) five)
-              (keeps (y .page) (subst (λ (a : Place). Faithful g (y .page) k (item g v a)) (sym e) (subst (λ (n : ℕ). Faithful g (y .page) k (item g v (slotAt n))) q (t .2 z))))
+              (keeps (y .page) (subst (λ (a : Place). Faithful g (y .page) k (item g v a)) (sym e)
+              (subst (λ (n : ℕ). Faithful g (y .page) k (item g v (slotAt n))) q (t .2 z))))
           faithful z (no q) =
               let bk = t .0 .backed z in
-              rw (slot-other g v k h ns o b xs (w .0) (w .1) five (slotAt (y .slot)) (bk .low, bk .high) (omega (arith, bk .low, w .0))) (t .2 z)
+              rw (slot-other g v k h ns o b xs (w .0) (w .1) five (slotAt (y .slot)) (bk .low, bk .high)
+              (omega (arith, bk .low, w .0))) (t .2 z)
 
           copied : C → isWritten y ≡ false → Dec (y .slot ≡ b) → Copy g (store g v (slotAt b) xs) (y .page) (y .slot) (y .lsn)
           copied c z (yes q) =
@@ -104,7 +111,8 @@ module _ {C : Type 0} (g : Geometry) (v : List ℕ) (k : List Logged) (h : Holds
               rw (q, slot-same g v k h ns o b xs (w .0) (w .1) five) (s .0, s .1 ∙ (ap imageLsn here ∙ old .1))
           copied c z (no q) =
               let bk = t .0 .backed z in
-              rw (slot-other g v k h ns o b xs (w .0) (w .1) five (slotAt (y .slot)) (bk .low, bk .high) (omega (arith, bk .low, w .0))) (t .4 c z)
+              rw (slot-other g v k h ns o b xs (w .0) (w .1) five (slotAt (y .slot)) (bk .low, bk .high)
+              (omega (arith, bk .low, w .0))) (t .4 c z)
       go (recordAt n) e i y t = absurd (true-not-false i refl)
       go (noteAt n) e i y t = absurd (true-not-false i refl)
 
@@ -131,13 +139,19 @@ module _ (g : Geometry) (tag : g .tag ≡ carryTag) (x : List ℕ) (size : lengt
   pub restamp-valid : (p : ℕ) → validImage g p x ≡ true → validImage g p (sealImage g x) ≡ true
   restamp-valid p t =
       let n : named p x ≡ true = and-right (imageSealed g x) (named p x) (sym (valid-split g p x) ∙ t) in
-      rw (valid-split g p (sealImage g x), sealed-either g (sealImage g x) tag, restamp-bytes g x size not-first, restamp-named g x size not-first p)
+      rw (
+        valid-split g p (sealImage g x),
+        sealed-either g (sealImage g x) tag,
+        restamp-bytes g x size not-first,
+        restamp-named g x size not-first p,
+      )
       (and-both (or-right (wordsHold (sealImage g x)) refl) n)
 
   -- and only so
   pub restamp-faithful : wordsHold x ≡ true → (p : ℕ) (k : List Logged) → Faithful g p k x → Faithful g p k (sealImage g x)
   restamp-faithful w p k f t =
-      let n : named p (sealImage g x) ≡ true = and-right (imageSealed g (sealImage g x)) (named p (sealImage g x)) (sym (valid-split g p (sealImage g x)) ∙ t) in
+      let n : named p (sealImage g x) ≡ true =
+      and-right (imageSealed g (sealImage g x)) (named p (sealImage g x)) (sym (valid-split g p (sealImage g x)) ∙ t) in
       restamp-replay p k (f (rw (valid-split g p x, sealed-either g x tag, w) (sym (restamp-named g x size not-first p) ∙ n)))
 
   -- exactly as before, where its words hold
@@ -160,11 +174,18 @@ module _ (g : Geometry) (tag : g .tag ≡ carryTag) (x : List ℕ) (size : lengt
   -- what was stored, restamped
   pub restamp-image : (k : List Logged) → Image g k x → Image g k (sealImage g x)
   restamp-image k i =
-      record { page = i .page; low = i .low; high = i .high; number = sealImage-field g x size 2 0 (lit≤ tt) ∙ i .number; good = restamp-replay (i .page) k (i .good) }
+      record {
+        page = i .page;
+        low = i .low;
+        high = i .high;
+        number = sealImage-field g x size 2 0 (lit≤ tt) ∙ i .number;
+        good = restamp-replay (i .page) k (i .good);
+      }
 
 -- it counts as stored exactly if the image that it restamps does
 pub restamp-past : (g : Geometry) (v : List ℕ) (k : List Logged) (past : List StoredItem) (at : Place) (ys : List ℕ) → isImage g at ≡ true
-    → (Image g k (item g v at) → Image g k ys) → Past g k past → Past g k (cond (storedBefore at (item g v at) past) (oneItem at ys ∷ past) past)
+    → (Image g k (item g v at) → Image g k ys) → Past g k past
+    → Past g k (cond (storedBefore at (item g v at) past) (oneItem at ys ∷ past) past)
 restamp-past g v k past at ys i f ps = byCases (storedBefore at (item g v at) past)
     (λ t. rw t (past-cons g k past (oneItem at ys) (λ z. f (ps at (item g v at) i t)) ps))
     (λ t. rw t ps)

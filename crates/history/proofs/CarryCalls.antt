@@ -54,7 +54,8 @@ inNoted index (oneItem (recordAt n) xs) = false
 inNoted index (oneItem (noteAt n) xs) = false
 inNoted index (newHeading tag) = false
 
-module _ {C : Type 0} {g : Geometry} {v m : List ℕ} {past : List StoredItem} {s : State} {k w : List Logged} (x : Ctx C g v m past s k w) where
+module _ {C : Type 0} {g : Geometry} {v m : List ℕ} {past : List StoredItem} {s : State} {k w : List Logged}
+    (x : Ctx C g v m past s k w) where
   abbrev log : AbstractLog
   log = record { durable = k; pending = w }
 
@@ -62,7 +63,8 @@ module _ {C : Type 0} {g : Geometry} {v m : List ℕ} {past : List StoredItem} {
   first = firstOld g v (s .index)
 
   abbrev Carried : Call → Type 0
-  Carried c = Tagged C (isStartCarry c) g (volumeAfter v (outcomeOf c v m s .stored)) (pastAfter c v (outcomeOf c v m s .stored) past) (on (outcomeOf c v m s .memory) (outcomeOf c v m s .state))
+  Carried c = Tagged C (isStartCarry c) g (volumeAfter v (outcomeOf c v m s .stored)) (pastAfter c v (outcomeOf c v m s .stored) past)
+      (on (outcomeOf c v m s .memory) (outcomeOf c v m s .state))
       (cond (not (eqb (firstOf (rowsOf c v m s)) 0)) log (stepCall log c))
 
   start-kept : startFits (on m s) v startCarry ≡ true → Carried startCarry
@@ -105,7 +107,8 @@ module _ {C : Type 0} {g : Geometry} {v m : List ℕ} {past : List StoredItem} {
   unfolding restampOf stepCall volumeAfter
   restamp-kept = byCases (eqb (firstOf (restampRows v m s)) 0)
       (λ t. rw (t, geo x) (byCases (ltb first (imageCount g))
-      (λ u. let f = finds (eqb-true _ _ t) u in rw (u, geo x) (g .tag, (λ z ne. refl), keep-restamped x (f .tag) (imagePlace g first) (f .here) (f .was)))
+      (λ u. let f = finds (eqb-true _ _ t) u in
+      rw (u, geo x) (g .tag, (λ z ne. refl), keep-restamped x (f .tag) (imagePlace g first) (f .here) (f .was)))
       (λ u. rw u (g .tag, (λ z ne. refl), keep-same x Nothing))))
       (λ t. rw t (g .tag, (λ z ne. refl), keep-same x (Refused (firstOf (restampRows v m s)))))
 
@@ -136,10 +139,15 @@ module _ {C : Type 0} {g : Geometry} {v m : List ℕ} {past : List StoredItem} {
   either false P h = h
 
   cut-new : (c : Call) → (stepCut log c new ≡ stepCall log c) → Carried c → Cut c new
-  cut-new c e r =
-      (r .0, r .1, rw e (inv-crash-between (withTag g (r .0)) (volumeAfter v (outcomeOf c v m s .stored)) (pastAfter c v (outcomeOf c v m s .stored) past) (on (outcomeOf c v m s .memory) (outcomeOf c v m s .state)) _ (r .2)))
+  cut-new c e r = (
+    r .0,
+    r .1,
+    rw e (inv-crash-between (withTag g (r .0)) (volumeAfter v (outcomeOf c v m s .stored)) (pastAfter c v (outcomeOf c v m s .stored) past)
+        (on (outcomeOf c v m s .memory) (outcomeOf c v m s .state)) _ (r .2)),
+  )
 
-  pub start-cut : (l : Left) → (leftNew l ≡ true → startFits (on m s) v startCarry ≡ true) → tornFits (geometryOf v) (startCarryOf v m s .stored) l ≡ true → Cut startCarry l
+  pub start-cut : (l : Left) → (leftNew l ≡ true → startFits (on m s) v startCarry ≡ true)
+      → tornFits (geometryOf v) (startCarryOf v m s .stored) l ≡ true → Cut startCarry l
   unfolding startCarryOf stepCut stepCall
   start-cut old f t = either (not (eqb (firstOf (startCarryRows v m s)) 0)) (λ b. Tagged C true g v past off b) cut-old
   start-cut new f t = cut-new startCarry refl (start-kept (f refl))
@@ -156,31 +164,46 @@ module _ {C : Type 0} {g : Geometry} {v m : List ℕ} {past : List StoredItem} {
       (λ u. rw u cut-old)
 
   -- a torn restamp, of an image that is no noted backup's where C is claimed
-  torn-cut : (at : Place) (ys zs : List ℕ) → Finds → at ≡ imagePlace g first → tornFits g (oneItem at zs) (torn ys) ≡ true → (C → inNoted (s .index) (oneItem at zs) ≡ false)
+  torn-cut : (at : Place) (ys zs : List ℕ) → Finds → at ≡ imagePlace g first → tornFits g (oneItem at zs) (torn ys) ≡ true
+      → (C → inNoted (s .index) (oneItem at zs) ≡ false)
       → Inv C g (store g v at ys) past off (record { durable = k; pending = [] })
   torn-cut at ys zs f e t un = go at e t un
     where
-      go : (y : Place) → y ≡ imagePlace g first → tornFits g (oneItem y zs) (torn ys) ≡ true → (C → inNoted (s .index) (oneItem y zs) ≡ false)
+      go : (y : Place) → y ≡ imagePlace g first → tornFits g (oneItem y zs) (torn ys) ≡ true
+          → (C → inNoted (s .index) (oneItem y zs) ≡ false)
           → Inv C g (store g v y ys) past off (record { durable = k; pending = [] })
       go (pageAt p) e t un =
-          torn-restamp x (f .tag) (pageAt p) (subst (λ (a : Place). isImage g a ≡ true) (sym e) (f .here)) (subst (λ (a : Place). onlyOld g (s .index) a (item g v a) ≡ true) (sym e) (f .was)) ys (eqb-true (length ys) 256 (and-left (eqb (length ys) 256) (not (imageSealed g ys)) t))
+          torn-restamp x (f .tag) (pageAt p) (subst (λ (a : Place). isImage g a ≡ true) (sym e) (f .here))
+          (subst (λ (a : Place). onlyOld g (s .index) a (item g v a) ≡ true) (sym e) (f .was)) ys
+          (eqb-true (length ys) 256 (and-left (eqb (length ys) 256) (not (imageSealed g ys)) t))
           (not-true (imageSealed g ys) (and-right (eqb (length ys) 256) (not (imageSealed g ys)) t)) (λ c b q. absurd (apart b q))
         where
           apart : (b : ℕ) → pageAt p ≡ slotAt b → ⊥
           apart b q = true-not-false refl (sym (ap isSlot q))
       go (slotAt b) e t un =
-          torn-restamp x (f .tag) (slotAt b) (subst (λ (a : Place). isImage g a ≡ true) (sym e) (f .here)) (subst (λ (a : Place). onlyOld g (s .index) a (item g v a) ≡ true) (sym e) (f .was)) ys (eqb-true (length ys) 256 (and-left (eqb (length ys) 256) (not (imageSealed g ys)) t))
-          (not-true (imageSealed g ys) (and-right (eqb (length ys) 256) (not (imageSealed g ys)) t)) (λ c n q. subst (λ (y : Place). inNoted (s .index) (oneItem y zs) ≡ false) q (un c))
+          torn-restamp x (f .tag) (slotAt b) (subst (λ (a : Place). isImage g a ≡ true) (sym e) (f .here))
+          (subst (λ (a : Place). onlyOld g (s .index) a (item g v a) ≡ true) (sym e) (f .was)) ys
+          (eqb-true (length ys) 256 (and-left (eqb (length ys) 256) (not (imageSealed g ys)) t))
+          (not-true (imageSealed g ys) (and-right (eqb (length ys) 256) (not (imageSealed g ys)) t))
+          (λ c n q. subst (λ (y : Place). inNoted (s .index) (oneItem y zs) ≡ false) q (un c))
       go (recordAt n) e t un = absurd (true-not-false (subst (λ (a : Place). isImage g a ≡ true) (sym e) (f .here)) refl)
       go (noteAt n) e t un = absurd (true-not-false (subst (λ (a : Place). isImage g a ≡ true) (sym e) (f .here)) refl)
 
-  cut-found : (ys : List ℕ) → firstOf (restampRows v m s) ≡ 0 → ltb first (imageCount g) ≡ true → tornFits (geometryOf v) (restampOf v m s .stored) (torn ys) ≡ true
-      → (C → inNoted (s .index) (restampOf v m s .stored) ≡ false) → Tagged C false g (leftVolume v (restampOf v m s .stored) (torn ys)) past off (record { durable = k; pending = [] })
+  cut-found : (ys : List ℕ) → firstOf (restampRows v m s) ≡ 0 → ltb first (imageCount g) ≡ true
+      → tornFits (geometryOf v) (restampOf v m s .stored) (torn ys) ≡ true
+      → (C → inNoted (s .index) (restampOf v m s .stored) ≡ false)
+      → Tagged C false g (leftVolume v (restampOf v m s .stored) (torn ys)) past off (record { durable = k; pending = [] })
   unfolding volumeAfter
   cut-found ys h z t un =
       let found : ltb (firstOld (geometryOf v) v (s .index)) (imageCount (geometryOf v)) ≡ true = rw (geo x) z in
-      let st : restampOf v m s .stored ≡ oneItem (imagePlace g first) (sealImage g (item g v (imagePlace g first))) = rw (geo x) at (stored-is v m s h found) in
-      rw (st, geo x) (g .tag, (λ z ne. refl), torn-cut (imagePlace g first) ys (sealImage g (item g v (imagePlace g first))) (finds h z) refl (rw (st, geo x) at t) (λ c. rw st at (un c)))
+      let st : restampOf v m s .stored ≡ oneItem (imagePlace g first) (sealImage g (item g v (imagePlace g first))) =
+      rw (geo x) at (stored-is v m s h found) in
+      rw (st, geo x) (
+        g .tag,
+        (λ z ne. refl),
+        torn-cut (imagePlace g first) ys (sealImage g (item g v (imagePlace g first))) (finds h z) refl
+            (rw (st, geo x) at t) (λ c. rw st at (un c)),
+      )
 
   cut-none : (ys : List ℕ) → firstOf (restampRows v m s) ≡ 0 → ltb first (imageCount g) ≡ false
       → Tagged C false g (leftVolume v (restampOf v m s .stored) (torn ys)) past off (record { durable = k; pending = [] })
@@ -192,7 +215,8 @@ module _ {C : Type 0} {g : Geometry} {v m : List ℕ} {past : List StoredItem} {
   unfolding restampOf
   stored-refused t = rw t
 
-  pub restamp-cut : (l : Left) → tornFits (geometryOf v) (restampOf v m s .stored) l ≡ true → (C → (xs : List ℕ) → l ≡ torn xs → inNoted (s .index) (restampOf v m s .stored) ≡ false) → Cut restamp l
+  pub restamp-cut : (l : Left) → tornFits (geometryOf v) (restampOf v m s .stored) l ≡ true
+      → (C → (xs : List ℕ) → l ≡ torn xs → inNoted (s .index) (restampOf v m s .stored) ≡ false) → Cut restamp l
   unfolding stepCut stepCall
   restamp-cut old t un = either (not (eqb (firstOf (restampRows v m s)) 0)) (λ b. Tagged C false g v past off b) cut-old
   restamp-cut new t un = cut-new restamp refl restamp-kept

@@ -53,17 +53,21 @@ one-by false rest ne e f = ((λ z. f .0 refl), (λ p. e))
 same-refl : (v : List ℕ) (p : ℕ) (buffer : List ℕ) → Same (inspectOf v p buffer) (inspectOf v p buffer)
 same-refl v p buffer = record { answer = refl; bytes = λ z. refl }
 
-module _ {C : Type 0} {g : Geometry} {v m : List ℕ} {past : List StoredItem} {s : State} {k w : List Logged} (x : Ctx C g v m past s k w) where
+module _ {C : Type 0} {g : Geometry} {v m : List ℕ} {past : List StoredItem} {s : State} {k w : List Logged}
+    (x : Ctx C g v m past s k w) where
   abbrev SameAfter : StoredItem → Type 0
   SameAfter i = (p : ℕ) (buffer : List ℕ) → Same (inspectOf (volumeAfter v i) p buffer) (inspectOf v p buffer)
 
   -- ---- Start and Finish
 
-  heading-same : (tag : ℕ) (plain : ring g ≡ false) (known : (tag ≡ carryTag) ⊎ (tag ≡ tagOf Second)) (same : SameImages g tag v (x .ns)) → SameAfter (newHeading tag)
+  heading-same : (tag : ℕ) (plain : ring g ≡ false) (known : (tag ≡ carryTag) ⊎ (tag ≡ tagOf Second)) (same : SameImages g tag v (x .ns))
+      → SameAfter (newHeading tag)
   unfolding volumeAfter
   heading-same tag plain known same p buffer =
-      inspections-same g v k (x .hs) (x .ns) (x .no) plain tag (storeHeading v tag) (turn-holds g v k (x .hs) (x .ns) (x .no) tag plain known same)
-      (turn-noted g v k (x .hs) (x .ns) (x .no) tag plain known same) (heading-alike g v k (x .hs) (x .ns) (x .no) tag plain known same) p buffer
+      inspections-same g v k (x .hs) (x .ns) (x .no) plain tag (storeHeading v tag)
+      (turn-holds g v k (x .hs) (x .ns) (x .no) tag plain known same)
+      (turn-noted g v k (x .hs) (x .ns) (x .no) tag plain known same)
+      (heading-alike g v k (x .hs) (x .ns) (x .no) tag plain known same) p buffer
 
   start-same : startFits (on m s) v startCarry ≡ true → SameAfter (startCarryOf v m s .stored)
   unfolding startCarryOf volumeAfter
@@ -109,15 +113,18 @@ module _ {C : Type 0} {g : Geometry} {v m : List ℕ} {past : List StoredItem} {
     new-size = sealImage-length g (item g v at) old-size ∙ sym wide
 
     words : wordsHold (item g v at) ≡ true
-    words = and-left (wordsHold (item g v at)) (not (bytesHold (item g v at)) && placed (g .pages) (s .index) at (item g v at)) (sym (only-old g (s .index) at (item g v at) (f .here)) ∙ f .was)
+    words = and-left (wordsHold (item g v at)) (not (bytesHold (item g v at)) && placed (g .pages) (s .index) at (item g v at))
+        (sym (only-old g (s .index) at (item g v at) (f .here)) ∙ f .was)
 
     abbrev Judged : Place → ℕ → Type 0
     Judged a q = (validImage g q (item g after a) ≡ validImage g q (item g v a)) × (imageLsn (item g after a) ≡ imageLsn (item g v a))
 
     here-judged : (q : ℕ) → Judged at q
     here-judged q =
-        let e = store-same g v (x .hs .vol) at stamped in-place new-size in
-        (ap (validImage g q) e ∙ restamp-judged g (f .tag) (item g v at) old-size words q, ap imageLsn e ∙ restamp-lsn g (f .tag) (item g v at) old-size)
+        let e = store-same g v (x .hs .vol) at stamped in-place new-size in (
+          ap (validImage g q) e ∙ restamp-judged g (f .tag) (item g v at) old-size words q,
+          ap imageLsn e ∙ restamp-lsn g (f .tag) (item g v at) old-size,
+        )
 
     judged : (a : Place) → isImage g a ≡ true → (q : ℕ) → Judged a q
     judged a i q =
@@ -125,7 +132,8 @@ module _ {C : Type 0} {g : Geometry} {v m : List ℕ} {past : List StoredItem} {
         subst (λ (y : Place). Judged y q) (n .place-is) (elim (ℕ-discrete (n .number) (firstOld g v (s .index))) [
           | yes e ↦ rw e (here-judged q)
           | no e ↦
-              let o = store-other g v (x .hs .vol) at stamped in-place new-size (imagePlace g (n .number)) (subst (In g) (sym (n .place-is)) (image-place g a i .0))
+              let o = store-other g v (x .hs .vol) at stamped in-place new-size (imagePlace g (n .number))
+              (subst (In g) (sym (n .place-is)) (image-place g a i .0))
               (images-apart g (n .number) (firstOld g v (s .index)) (n .below) (f .found) e) in
               (ap (validImage g q) o, ap imageLsn o)
         ])
@@ -142,7 +150,8 @@ module _ {C : Type 0} {g : Geometry} {v m : List ℕ} {past : List StoredItem} {
           own = λ p lo hi. judged (pageAt p) (within-holds (g .pages) p lo hi) p;
           copy = λ p lo hi nz.
               let high = mark-ok (g .pages) (g .slots) k (x .ns) (x .no .fit) p (length (x .ns)) (omega arith) .slots in
-              judged (slotAt (markAt p (x .ns) (length (x .ns)) .slot)) (within-holds (g .slots) (markAt p (x .ns) (length (x .ns)) .slot) (omega arith) high) p;
+              judged (slotAt (markAt p (x .ns) (length (x .ns)) .slot))
+              (within-holds (g .slots) (markAt p (x .ns) (length (x .ns)) .slot) (omega arith) high) p;
           log = λ n.
               let i = log-in g (sized x .l-low) n in
               store-other g v (x .hs .vol) at stamped in-place new-size (logSlot g n) i (record-apart at (f .here) _ (i .0));
@@ -150,7 +159,8 @@ module _ {C : Type 0} {g : Geometry} {v m : List ℕ} {past : List StoredItem} {
 
     found-same : (p : ℕ) (buffer : List ℕ) → Same (inspectOf after p buffer) (inspectOf v p buffer)
     found-same p buffer =
-        inspections-same g v k (x .hs) (x .ns) (x .no) (no-ring g (rw (f .tag) refl)) (g .tag) after (restamped-holds x (f .tag) at (f .here) (f .was))
+        inspections-same g v k (x .hs) (x .ns) (x .no) (no-ring g (rw (f .tag) refl)) (g .tag) after
+        (restamped-holds x (f .tag) at (f .here) (f .was))
         (restamped-noted x (f .tag) at (f .here) (f .was)) restamp-alike p buffer
 
   restamp-same : SameAfter (restampOf v m s .stored)
@@ -189,7 +199,8 @@ module _ {C : Type 0} {g : Geometry} {v m : List ℕ} {past : List StoredItem} {
   start-one : (refusalOf (startCarryOf v m s .answer) ≡ 1) ↔ (geometryOf v .tag ≢ tagOf First)
   unfolding ownRows
   start-one =
-      let e : refusalOf (startCarryOf v m s .answer) ≡ cond (not (headed (tagOf First) v)) 1 0 = call-refusal startCarry v m s ∙ rows-are x startCarry in
+      let e : refusalOf (startCarryOf v m s .answer) ≡ cond (not (headed (tagOf First) v)) 1 0 = call-refusal startCarry v m s
+      ∙ rows-are x startCarry in
       one-by (headed (tagOf First) v) 0 (λ z. omega arith) e (not-headed (tagOf First))
 
   restamp-one : (refusalOf (restampOf v m s .answer) ≡ 1) ↔ (geometryOf v .tag ≢ carryTag)
@@ -202,8 +213,10 @@ module _ {C : Type 0} {g : Geometry} {v m : List ℕ} {past : List StoredItem} {
   unfolding ownRows
   finish-one =
       let left : ℕ = cond (oldLeft (geometryOf v) v (s .index)) 20 0 in
-      let e : refusalOf (finishCarryOf v m s .answer) ≡ cond (not (headed carryTag v)) 1 left = call-refusal finishCarry v m s ∙ rows-are x finishCarry in
-      one-by (headed carryTag v) left (byCases (oldLeft (geometryOf v) v (s .index)) (λ t. rw t (λ z. omega arith)) (λ t. rw t (λ z. omega arith))) e (not-headed carryTag)
+      let e : refusalOf (finishCarryOf v m s .answer) ≡ cond (not (headed carryTag v)) 1 left = call-refusal finishCarry v m s
+      ∙ rows-are x finishCarry in
+      one-by (headed carryTag v) left (byCases (oldLeft (geometryOf v) v (s .index)) (λ t. rw t (λ z. omega arith))
+      (λ t. rw t (λ z. omega arith))) e (not-headed carryTag)
 
 -- ---- every legal history
 

@@ -41,7 +41,8 @@ use Rattle.history.proofs.Turn.{SameImages, SamePending, turn-holds, tu
 use Rattle.history.proofs.Carry.{image-holds, image-noted, image-pending, restamp-lsn, restamp-valid, restamp-faithful, restamp-image, restamp-past}
 use Rattle.history.proofs.Context.{Ctx, sized, geo, entry-is}
 
-module _ {C : Type 0} {g : Geometry} {v m : List ℕ} {past : List StoredItem} {s : State} {k w : List Logged} (x : Ctx C g v m past s k w) where
+module _ {C : Type 0} {g : Geometry} {v m : List ℕ} {past : List StoredItem} {s : State} {k w : List Logged}
+    (x : Ctx C g v m past s k w) where
   abbrev book : AbstractLog
   book = record { durable = k; pending = w }
 
@@ -54,7 +55,8 @@ module _ {C : Type 0} {g : Geometry} {v m : List ℕ} {past : List StoredItem} {
 
   -- ---- a heading stored
 
-  module _ (tag : ℕ) (plain : ring g ≡ false) (known : (tag ≡ carryTag) ⊎ (tag ≡ tagOf Second)) (same : SameImages g tag v (x .ns)) (pend : SamePending g tag v (s .note)) where
+  module _ (tag : ℕ) (plain : ring g ≡ false) (known : (tag ≡ carryTag) ⊎ (tag ≡ tagOf Second)) (same : SameImages g tag v (x .ns))
+      (pend : SamePending g tag v (s .note)) where
     pub keep-heading : Inv C (withTag g tag) (storeHeading v tag) (newHeading tag ∷ past) (on m s) (record { durable = k; pending = w })
     keep-heading =
         record {
@@ -69,40 +71,51 @@ module _ {C : Type 0} {g : Geometry} {v m : List ℕ} {past : List StoredItem} {
 
   pub start-tag : firstOf (startCarryRows v m s) ≡ 0 → g .tag ≡ tagOf First
   unfolding startCarryRows
-  start-tag h = let r = ready-behind (not (headed (tagOf First) v)) v m s [] h in sym (ap (λ (y : Geometry). y .tag) (geo x)) ∙ headed-tag (tagOf First) v (not-false (headed (tagOf First) v) (r .0))
+  start-tag h = let r = ready-behind (not (headed (tagOf First) v)) v m s [] h in
+      sym (ap (λ (y : Geometry). y .tag) (geo x)) ∙ headed-tag (tagOf First) v (not-false (headed (tagOf First) v) (r .0))
 
   module _ (tag : g .tag ≡ tagOf First) (fit : carriable g v s ≡ true) where
     fits-page : (p : ℕ) → 1 ≤ p → p ≤ g .pages → pageCarries g v s (p - 1) ≡ true
     unfolding carriable
-    fits-page p lo hi = every-at (pageCarries g v s) (g .pages) (and-left (every (g .pages) (pageCarries g v s)) (pendingCarries g v (s .note)) fit) (p - 1) (omega arith)
+    fits-page p lo hi = every-at (pageCarries g v s) (g .pages)
+        (and-left (every (g .pages) (pageCarries g v s)) (pendingCarries g v (s .note)) fit) (p - 1) (omega arith)
 
     own-carries : (p : ℕ) → 1 ≤ p → p ≤ g .pages → onlyNew g p (item g v (pageAt p)) ≡ false
     own-carries p lo hi =
         let e : suc (p - 1) ≡ p = omega arith in
-        let t : (not (onlyNew g p (item g v (pageAt p))) && (eqb (entryOf (s .index) p .slot) 0 || not (onlyNew g p (item g v (slotAt (entryOf (s .index) p .slot)))))) ≡ true = rw e at (fits-page p lo hi) in
+        let t : (not (onlyNew g p (item g v (pageAt p))) && (eqb (entryOf (s .index) p .slot) 0
+        || not (onlyNew g p (item g v (slotAt (entryOf (s .index) p .slot)))))) ≡ true = rw e at (fits-page p lo hi) in
         not-true (onlyNew g p (item g v (pageAt p))) (and-left (not (onlyNew g p (item g v (pageAt p)))) _ t)
 
-    copy-carries : (p : ℕ) → 1 ≤ p → p ≤ g .pages → markAt p (x .ns) (length (x .ns)) .slot ≢ 0 → onlyNew g p (item g v (slotAt (markAt p (x .ns) (length (x .ns)) .slot))) ≡ false
+    copy-carries : (p : ℕ) → 1 ≤ p → p ≤ g .pages → markAt p (x .ns) (length (x .ns)) .slot ≢ 0
+        → onlyNew g p (item g v (slotAt (markAt p (x .ns) (length (x .ns)) .slot))) ≡ false
     copy-carries p lo hi nz =
         let e : suc (p - 1) ≡ p = omega arith in
-        let t : (not (onlyNew g p (item g v (pageAt p))) && (eqb (entryOf (s .index) p .slot) 0 || not (onlyNew g p (item g v (slotAt (entryOf (s .index) p .slot)))))) ≡ true = rw e at (fits-page p lo hi) in
-        let u = and-right (not (onlyNew g p (item g v (pageAt p)))) (eqb (entryOf (s .index) p .slot) 0 || not (onlyNew g p (item g v (slotAt (entryOf (s .index) p .slot))))) t in
-        let u′ : (eqb (markAt p (x .ns) (length (x .ns)) .slot) 0 || not (onlyNew g p (item g v (slotAt (markAt p (x .ns) (length (x .ns)) .slot))))) ≡ true = rw (slot-is p lo hi) at u in
-        not-true (onlyNew g p (item g v (slotAt (markAt p (x .ns) (length (x .ns)) .slot)))) (rw (ne-eqb (markAt p (x .ns) (length (x .ns)) .slot) 0 nz) at u′)
+        let t : (not (onlyNew g p (item g v (pageAt p))) && (eqb (entryOf (s .index) p .slot) 0
+        || not (onlyNew g p (item g v (slotAt (entryOf (s .index) p .slot)))))) ≡ true = rw e at (fits-page p lo hi) in
+        let u = and-right (not (onlyNew g p (item g v (pageAt p))))
+        (eqb (entryOf (s .index) p .slot) 0 || not (onlyNew g p (item g v (slotAt (entryOf (s .index) p .slot))))) t in
+        let u′ : (eqb (markAt p (x .ns) (length (x .ns)) .slot) 0
+        || not (onlyNew g p (item g v (slotAt (markAt p (x .ns) (length (x .ns)) .slot))))) ≡ true = rw (slot-is p lo hi) at u in
+        not-true (onlyNew g p (item g v (slotAt (markAt p (x .ns) (length (x .ns)) .slot))))
+        (rw (ne-eqb (markAt p (x .ns) (length (x .ns)) .slot) 0 nz) at u′)
 
     pub started-images : SameImages g carryTag v (x .ns)
     started-images =
         record {
           own = λ p lo hi. alike-started g p (item g v (pageAt p)) tag (own-carries p lo hi);
-          copy = λ p lo hi nz. alike-started g p (item g v (slotAt (markAt p (x .ns) (length (x .ns)) .slot))) tag (copy-carries p lo hi nz);
+          copy = λ p lo hi nz. alike-started g p (item g v (slotAt (markAt p (x .ns) (length (x .ns)) .slot))) tag
+              (copy-carries p lo hi nz);
         }
 
     started-pending : (y : PendingNote) → pendingCarries g v y ≡ true → SamePending g carryTag v y
     started-pending Absent t = tt
     started-pending (Present y) t = λ z.
-        alike-started g (y .page) (item g v (slotAt (y .slot))) tag (not-true (onlyNew g (y .page) (item g v (slotAt (y .slot)))) (rw z at t))
+        alike-started g (y .page) (item g v (slotAt (y .slot))) tag
+        (not-true (onlyNew g (y .page) (item g v (slotAt (y .slot)))) (rw z at t))
 
-    pub keep-started : Inv C (withTag g carryTag) (storeHeading v carryTag) (newHeading carryTag ∷ past) (on m s) (record { durable = k; pending = w })
+    pub keep-started : Inv C (withTag g carryTag) (storeHeading v carryTag) (newHeading carryTag ∷ past) (on m s)
+        (record { durable = k; pending = w })
     unfolding carriable
     keep-started =
         keep-heading carryTag (no-ring g (rw tag refl)) (inl refl) started-images
@@ -116,7 +129,8 @@ module _ {C : Type 0} {g : Geometry} {v m : List ℕ} {past : List StoredItem} {
         let n = image-number g at i in
         subst (λ (p : Place). onlyOld g (s .index) p (item g v p) ≡ false) (n .place-is) (none (n .number) (n .below))
 
-    finished-own : (p : ℕ) → 1 ≤ p → p ≤ g .pages → validImage (withTag g (tagOf Second)) p (item g v (pageAt p)) ≡ validImage g p (item g v (pageAt p))
+    finished-own : (p : ℕ) → 1 ≤ p → p ≤ g .pages
+        → validImage (withTag g (tagOf Second)) p (item g v (pageAt p)) ≡ validImage g p (item g v (pageAt p))
     finished-own p lo hi =
         let i = within-holds (g .pages) p lo hi in
         alike-finished g (s .index) (pageAt p) p (item g v (pageAt p)) tag i (λ t. t) (none-at-place (pageAt p) i)
@@ -126,10 +140,12 @@ module _ {C : Type 0} {g : Geometry} {v m : List ℕ} {past : List StoredItem} {
     finished-copy p lo hi b nz z =
         let i : within (g .slots) b ≡ true = within-holds (g .slots) b (omega arith) (omega (arith, mark-high p)) in
         let used : slotUsed b (s .index) ≡ true = byCases (slotUsed b (s .index)) (λ t. t)
-        (λ t. absurd (slot-spare (s .index) (x .all) (length (x .all)) (length k) (x .ns) (length (x .ns)) (x .al .index) b t p lo (omega (arith, sized x .p-high)) z)) in
+        (λ t. absurd (slot-spare (s .index) (x .all) (length (x .all)) (length k) (x .ns) (length (x .ns)) (x .al .index) b t p lo
+        (omega (arith, sized x .p-high)) z)) in
         let sn : suc (0 + (p - 1)) ≡ p = omega arith in
         let pl : named p (item g v (slotAt b)) ≡ true → placed (g .pages) (s .index) (slotAt b) (item g v (slotAt b)) ≡ true = λ t.
-        rw used (named-noted b (item g v (slotAt b)) (s .index) 0 (p - 1) (omega (arith, x .al .index .size, sized x .p-high)) (slot-is p lo hi ∙ z) (rw sn t)) in
+        rw used (named-noted b (item g v (slotAt b)) (s .index) 0 (p - 1) (omega (arith, x .al .index .size, sized x .p-high))
+        (slot-is p lo hi ∙ z) (rw sn t)) in
         alike-finished g (s .index) (slotAt b) p (item g v (slotAt b)) tag i pl (none-at-place (slotAt b) i)
 
     pub finished-images : SameImages g (tagOf Second) v (x .ns)
@@ -144,10 +160,13 @@ module _ {C : Type 0} {g : Geometry} {v m : List ℕ} {past : List StoredItem} {
         let unused : slotUsed (y .slot) (s .index) ≡ false =
         spare-tabled (s .index) _ (x .al .index) (y .slot) (bk .spare) in
         alike-finished g (s .index) (slotAt (y .slot)) (y .page) (item g v (slotAt (y .slot))) tag i
-        (λ n. named-outside (g .pages) (s .index) (y .slot) (y .page) (item g v (slotAt (y .slot))) unused (t .0 .low) (t .0 .high) n) (none-at-place (slotAt (y .slot)) i)
+        (λ n. named-outside (g .pages) (s .index) (y .slot) (y .page) (item g v (slotAt (y .slot))) unused (t .0 .low) (t .0 .high) n)
+        (none-at-place (slotAt (y .slot)) i)
 
-    pub keep-finished : Inv C (withTag g (tagOf Second)) (storeHeading v (tagOf Second)) (newHeading (tagOf Second) ∷ past) (on m s) (record { durable = k; pending = w })
-    keep-finished = keep-heading (tagOf Second) (no-ring g (rw tag refl)) (inr refl) finished-images (finished-pending (s .note) (x .al .note-ok))
+    pub keep-finished : Inv C (withTag g (tagOf Second)) (storeHeading v (tagOf Second)) (newHeading (tagOf Second) ∷ past) (on m s)
+        (record { durable = k; pending = w })
+    keep-finished =
+        keep-heading (tagOf Second) (no-ring g (rw tag refl)) (inr refl) finished-images (finished-pending (s .note) (x .al .note-ok))
 
   -- ---- Restamp
 
@@ -156,7 +175,8 @@ module _ {C : Type 0} {g : Geometry} {v m : List ℕ} {past : List StoredItem} {
     size = let q = image-place g at here in item-length g v (volume-size g v (x .hs .vol)) at (q .0) ∙ q .1
 
     words : wordsHold (item g v at) ≡ true
-    words = and-left (wordsHold (item g v at)) (not (bytesHold (item g v at)) && placed (g .pages) (s .index) at (item g v at)) (sym (only-old g (s .index) at (item g v at) here) ∙ was)
+    words = and-left (wordsHold (item g v at)) (not (bytesHold (item g v at)) && placed (g .pages) (s .index) at (item g v at))
+        (sym (only-old g (s .index) at (item g v at) here) ∙ was)
 
     new-size : length (sealImage g (item g v at)) ≡ 256
     new-size = sealImage-length g (item g v at) size
@@ -164,7 +184,8 @@ module _ {C : Type 0} {g : Geometry} {v m : List ℕ} {past : List StoredItem} {
     keeps : (q : ℕ) → Faithful g q k (item g v at) → Faithful g q k (sealImage g (item g v at))
     keeps q f = restamp-faithful g tag (item g v at) size words q k f
 
-    stands : C → (q : ℕ) → validImage g q (item g v at) ≡ true → (validImage g q (sealImage g (item g v at)) ≡ true) × (imageLsn (sealImage g (item g v at)) ≡ imageLsn (item g v at))
+    stands : C → (q : ℕ) → validImage g q (item g v at) ≡ true → (validImage g q (sealImage g (item g v at)) ≡ true)
+        × (imageLsn (sealImage g (item g v at)) ≡ imageLsn (item g v at))
     stands c q t = (restamp-valid g tag (item g v at) size q t, restamp-lsn g tag (item g v at) size)
 
     pub restamped-holds : Holds g (store g v at (sealImage g (item g v at))) k
@@ -174,7 +195,8 @@ module _ {C : Type 0} {g : Geometry} {v m : List ℕ} {past : List StoredItem} {
     restamped-noted = image-noted g v k (x .hs) (x .ns) (x .no) at (sealImage g (item g v at)) new-size keeps here copies
       where
         copies : C → (b q : ℕ) → at ≡ slotAt b → 1 ≤ q → q ≤ g .pages → markAt q (x .ns) (length (x .ns)) .slot ≡ b
-            → (validImage g q (sealImage g (item g v at)) ≡ true) × (imageLsn (sealImage g (item g v at)) ≡ markAt q (x .ns) (length (x .ns)) .backup)
+            → (validImage g q (sealImage g (item g v at)) ≡ true)
+            × (imageLsn (sealImage g (item g v at)) ≡ markAt q (x .ns) (length (x .ns)) .backup)
         copies c b q e lo hi z =
             let i = within-bounds-slot b (subst (λ (y : Place). isImage g y ≡ true) e here) in
             let cp = x .no .copies c q lo hi (λ y. omega arith) in
@@ -186,7 +208,8 @@ module _ {C : Type 0} {g : Geometry} {v m : List ℕ} {past : List StoredItem} {
             within-bounds-slot b t = leb-true 1 b (and-left (leb 1 b) (leb b (g .slots)) t)
 
     pub restamped-pending : PendingOk C g (store g v at (sealImage g (item g v at))) k (x .ns) (s .note)
-    restamped-pending = image-pending g v k (x .hs) (x .ns) (x .no) at (sealImage g (item g v at)) new-size keeps here stands (s .note) (x .al .note-ok)
+    restamped-pending =
+        image-pending g v k (x .hs) (x .ns) (x .no) at (sealImage g (item g v at)) new-size keeps here stands (s .note) (x .al .note-ok)
 
     abbrev newPast : List StoredItem
     newPast = cond (storedBefore at (item g v at) past) (oneItem at (sealImage g (item g v at)) ∷ past) past
@@ -217,7 +240,8 @@ module _ {C : Type 0} {g : Geometry} {v m : List ℕ} {past : List StoredItem} {
         }
 
     -- left torn it is nobody's; the noted backups stand where it was none of them
-    pub torn-restamp : (ys : List ℕ) → length ys ≡ 256 → imageSealed g ys ≡ false → (C → (b : ℕ) → at ≡ slotAt b → slotUsed b (s .index) ≡ false)
+    pub torn-restamp : (ys : List ℕ) → length ys ≡ 256 → imageSealed g ys ≡ false
+        → (C → (b : ℕ) → at ≡ slotAt b → slotUsed b (s .index) ≡ false)
         → Inv C g (store g v at ys) past off (record { durable = k; pending = [] })
     torn-restamp ys five t unused =
         let fails : (q : ℕ) → Faithful g q k (item g v at) → Faithful g q k ys = λ q f. torn-fine g k ys t q in
@@ -225,7 +249,8 @@ module _ {C : Type 0} {g : Geometry} {v m : List ℕ} {past : List StoredItem} {
           ns = x .ns;
           holds = image-holds g v k (x .hs) (x .ns) (x .no) at ys five fails here;
           noted = image-noted g v k (x .hs) (x .ns) (x .no) at ys five fails here (λ c b q e lo hi z.
-              absurd (slot-spare (s .index) (x .all) (length (x .all)) (length k) (x .ns) (length (x .ns)) (x .al .index) b (unused c b e) q lo (omega (arith, sized x .p-high)) z));
+              absurd (slot-spare (s .index) (x .all) (length (x .all)) (length k) (x .ns) (length (x .ns)) (x .al .index) b
+              (unused c b e) q lo (omega (arith, sized x .p-high)) z));
           past-ok = x .ps;
           live = tt;
         }

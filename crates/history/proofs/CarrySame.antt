@@ -30,7 +30,9 @@ use Rattle.model.specs.declared.answer.Answer.the-variants.{Refused, Repaired}
 use Rattle.history.proofs.Logs.{lastOf, last-le}
 use Rattle.history.proofs.Entries.{markAt, mark-ok, entryFrom}
 use Rattle.history.proofs.Sections.{volume-sized}
-use Rattle.history.proofs.Disk.{Holds, Noted, first, first-is, started, rec-at, durable-count, valid-log, valid-notes, index-is}
+use Rattle.history.proofs.Disk.{Holds, Noted}
+use Rattle.history.proofs.NoteScan.{valid-notes, index-is}
+use Rattle.history.proofs.LogScan.{first, first-is, started, rec-at, durable-count, valid-log}
 use Rattle.history.proofs.Turn.{SameImages, turn-item}
 use Rattle.history.proofs.Inspection.{inspect-durable}
 
@@ -69,7 +71,8 @@ module _ (g g′ : Geometry) (p : ℕ) (w w′ : View) (a : ViewsAlike g g′ p 
 abbrev viewIn : Geometry → List ℕ → List Logged → List Note → ℕ → View
 viewIn g v k ns p = viewOf g v (firstHeld g v (length k)) (entryFrom (lastOf p k) (lastOf p k) (markAt p ns (length ns))) p
 
-module _ {C : Type 0} (g : Geometry) (v : List ℕ) (k : List Logged) (h : Holds g v k) (ns : List Note) (o : Noted C g v k ns) (p : ℕ) (buffer : List ℕ) where
+module _ {C : Type 0} (g : Geometry) (v : List ℕ) (k : List Logged) (h : Holds g v k) (ns : List Note) (o : Noted C g v k ns)
+    (p : ℕ) (buffer : List ℕ) where
   wrong-size : eqb (length buffer) 256 ≡ false → inspectOf v p buffer .answer ≡ Refused 2
   unfolding inspectOf inspectRows
   wrong-size t = rw (h .vol .ok, t)
@@ -80,7 +83,8 @@ module _ {C : Type 0} (g : Geometry) (v : List ℕ) (k : List Logged) (h : Holds
 
   asked-page : eqb (length buffer) 256 ≡ true → within (g .pages) p ≡ true
       → inspectOf v p buffer .answer
-      ≡ cond (eqb (lastOf p k) 0) (Refused 7) (cond (isBelow (walkOf g p (viewIn g v k ns p) .stop)) (Refused 23) (Repaired (repairOf g p (viewIn g v k ns p))))
+      ≡ cond (eqb (lastOf p k) 0) (Refused 7)
+      (cond (isBelow (walkOf g p (viewIn g v k ns p) .stop)) (Refused 23) (Repaired (repairOf g p (viewIn g v k ns p))))
   unfolding inspectOf inspectRows
   asked-page t u =
       let w = within-bounds (g .pages) p u in
@@ -98,11 +102,14 @@ pub record Alike (g : Geometry) (v : List ℕ) (k : List Logged) (ns : List Note
       → (validImage (withTag g tag) p (item (withTag g tag) v′ (pageAt p)) ≡ validImage g p (item g v (pageAt p)))
       × (imageLsn (item (withTag g tag) v′ (pageAt p)) ≡ imageLsn (item g v (pageAt p)))
   pub copy : (p : ℕ) → 1 ≤ p → p ≤ g .pages → markAt p ns (length ns) .slot ≢ 0
-      → (validImage (withTag g tag) p (item (withTag g tag) v′ (slotAt (markAt p ns (length ns) .slot))) ≡ validImage g p (item g v (slotAt (markAt p ns (length ns) .slot))))
-      × (imageLsn (item (withTag g tag) v′ (slotAt (markAt p ns (length ns) .slot))) ≡ imageLsn (item g v (slotAt (markAt p ns (length ns) .slot))))
+      → (validImage (withTag g tag) p (item (withTag g tag) v′ (slotAt (markAt p ns (length ns) .slot)))
+      ≡ validImage g p (item g v (slotAt (markAt p ns (length ns) .slot))))
+      × (imageLsn (item (withTag g tag) v′ (slotAt (markAt p ns (length ns) .slot)))
+      ≡ imageLsn (item g v (slotAt (markAt p ns (length ns) .slot))))
   pub log : (n : ℕ) → item (withTag g tag) v′ (logSlot g n) ≡ item g v (logSlot g n)
 
-module _ {C : Type 0} (g : Geometry) (v : List ℕ) (k : List Logged) (h : Holds g v k) (ns : List Note) (o : Noted C g v k ns) (plain : ring g ≡ false) (tag : ℕ) (v′ : List ℕ)
+module _ {C : Type 0} (g : Geometry) (v : List ℕ) (k : List Logged) (h : Holds g v k) (ns : List Note) (o : Noted C g v k ns)
+    (plain : ring g ≡ false) (tag : ℕ) (v′ : List ℕ)
     (h′ : Holds (withTag g tag) v′ k) (o′ : Noted C (withTag g tag) v′ k ns) (same : Alike g v k ns tag v′) where
   -- the run starts at 1 in both
   first-plain : firstHeld g v (length k) ≡ 1
@@ -137,7 +144,8 @@ module _ {C : Type 0} (g : Geometry) (v : List ℕ) (k : List Logged) (h : Holds
     -- where no slot is given the backup's number is 0, and that is no start
     copy-alike : backupStart (withTag g tag) p view′ ≡ backupStart g p view
     copy-alike = byCases (eqb (markAt p ns (length ns) .slot) 0)
-        (λ t. rw t (none (validImage (withTag g tag) p (view′ .copy) && eqb (imageLsn (view′ .copy)) 0) (validImage g p (view .copy) && eqb (imageLsn (view .copy)) 0)))
+        (λ t. rw t (none (validImage (withTag g tag) p (view′ .copy) && eqb (imageLsn (view′ .copy)) 0)
+        (validImage g p (view .copy) && eqb (imageLsn (view .copy)) 0)))
         (λ t. let c = same .copy p lo hi (eqb-false (markAt p ns (length ns) .slot) 0 t) in rw (c .0, c .1))
       where
         none : (a b : Bool) → _≡_ {A = ℕ} (cond a 0 0) (cond b 0 0)
@@ -168,7 +176,10 @@ module _ {C : Type 0} (g : Geometry) (v : List ℕ) (k : List Logged) (h : Holds
       (λ z. rw z)
       (λ z.
       let a = views-alike p (w .0) (w .1) (eqb-false (lastOf p k) 0 z) in
-      rw (walk-alike g (withTag g tag) p (viewIn g v k ns p) (viewIn (withTag g tag) v′ k ns p) a, repair-alike g (withTag g tag) p (viewIn g v k ns p) (viewIn (withTag g tag) v′ k ns p) a))
+      rw (
+        walk-alike g (withTag g tag) p (viewIn g v k ns p) (viewIn (withTag g tag) v′ k ns p) a,
+        repair-alike g (withTag g tag) p (viewIn g v k ns p) (viewIn (withTag g tag) v′ k ns p) a,
+      ))
       ∙ sym (asked-page g v k h ns o p buffer t u)))
       (λ u. wrong-page (withTag g tag) v′ k h′ ns o′ p buffer t u ∙ sym (wrong-page g v k h ns o p buffer t u)))
       (λ t. wrong-size (withTag g tag) v′ k h′ ns o′ p buffer t ∙ sym (wrong-size g v k h ns o p buffer t))
@@ -184,7 +195,8 @@ module _ {C : Type 0} (g : Geometry) (v : List ℕ) (k : List Logged) (h : Holds
       let nz : lastOf p k ≢ 0 = λ z.
       let q : inspectOf v p buffer .answer ≡ Refused 7 = rw (eq-eqb (lastOf p k) 0 z) at (asked-page g v k h ns o p buffer t u) in
       let r = ap refusalOf q in omega arith in
-      shows (inspect-durable (withTag g tag) v′ k h′ ns o′ p (w .0) (w .1) buffer five nz) e ∙ sym (shows (inspect-durable g v k h ns o p (w .0) (w .1) buffer five nz) e₀))
+      shows (inspect-durable (withTag g tag) v′ k h′ ns o′ p (w .0) (w .1) buffer five nz) e
+      ∙ sym (shows (inspect-durable g v k h ns o p (w .0) (w .1) buffer five nz) e₀))
       (λ u. absurd (let q = ap refusalOf (wrong-page (withTag g tag) v′ k h′ ns o′ p buffer t u) in omega arith)))
       (λ t. absurd (let q = ap refusalOf (wrong-size (withTag g tag) v′ k h′ ns o′ p buffer t) in omega arith))
     where
@@ -201,11 +213,13 @@ module _ {C : Type 0} (g : Geometry) (v : List ℕ) (k : List Logged) (h : Holds
 pub log-in : (g : Geometry) → 1 ≤ g .records → (n : ℕ) → In g (logSlot g n)
 log-in g low n = let m : (n - 1) % g .records < g .records = mod-lt (n - 1) low in (omega arith, omega arith)
 
-pub heading-alike : {C : Type 0} (g : Geometry) (v : List ℕ) (k : List Logged) (h : Holds g v k) (ns : List Note) (o : Noted C g v k ns) (tag : ℕ) (plain : ring g ≡ false)
+pub heading-alike : {C : Type 0} (g : Geometry) (v : List ℕ) (k : List Logged) (h : Holds g v k) (ns : List Note) (o : Noted C g v k ns)
+    (tag : ℕ) (plain : ring g ≡ false)
     (known : (tag ≡ carryTag) ⊎ (tag ≡ tagOf Second)) (same : SameImages g tag v ns) → Alike g v k ns tag (storeHeading v tag)
 heading-alike g v k h ns o tag plain known same =
     record {
-      own = λ p lo hi. let e = turn-item g v k h ns o tag plain known same (pageAt p) (lo, hi) in (ap (validImage (withTag g tag) p) e ∙ same .own p lo hi, ap imageLsn e);
+      own = λ p lo hi. let e = turn-item g v k h ns o tag plain known same (pageAt p) (lo, hi) in
+          (ap (validImage (withTag g tag) p) e ∙ same .own p lo hi, ap imageLsn e);
       copy = λ p lo hi nz.
           let high = mark-ok (g .pages) (g .slots) k ns (o .fit) p (length ns) (omega arith) .slots in
           let e = turn-item g v k h ns o tag plain known same (slotAt (markAt p ns (length ns) .slot)) (omega arith, high) in

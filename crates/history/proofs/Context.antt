@@ -69,7 +69,8 @@ passed (t ∷ ts) c e = (r .0, passed ts (c .1) (r .1))
 pub in-range : (P p : ℕ) → not (within P p) ≡ false → (1 ≤ p) × (p ≤ P)
 in-range P p t = within-bounds P p (not-false (within P p) t)
 
-module _ {C : Type 0} {g : Geometry} {v m : List ℕ} {past : List StoredItem} {s : State} {k w : List Logged} (x : Ctx C g v m past s k w) where
+module _ {C : Type 0} {g : Geometry} {v m : List ℕ} {past : List StoredItem} {s : State} {k w : List Logged}
+    (x : Ctx C g v m past s k w) where
   pub sized : Sized g
   sized = volume-sized g v (x .hs .vol)
 
@@ -135,17 +136,24 @@ module _ {C : Type 0} {g : Geometry} {v m : List ℕ} {past : List StoredItem} {
   nowhere p t j b = not-held s p t j (omega (arith, x .al .frames .size, x .al .memory .high))
 
   -- a page that row 10 lets go has no change that is pending
-  pub unblocked : (f : ℕ) → 1 ≤ f → f ≤ x .al .F → frameBlocked s f ≡ false → frame (s .frames) (f - 1) .page ≢ 0 → Settled (x .all) (length k) (frame (s .frames) (f - 1) .page)
+  pub unblocked : (f : ℕ) → 1 ≤ f → f ≤ x .al .F → frameBlocked s f ≡ false → frame (s .frames) (f - 1) .page ≢ 0
+      → Settled (x .all) (length k) (frame (s .frames) (f - 1) .page)
   unblocked f lo hi t nz =
       let p = frame (s .frames) (f - 1) .page in
       let fr = x .al .frames .each (f - 1) (omega arith) nz in
       let e = entry-is p (fr .low) (fr .high) in
       let l : entryOf (s .index) p .last ≤ entryOf (s .index) p .durable = ltb-false _ _ (rw (ne-eqb p 0 nz) at t) in
-      omega (arith, last-mono p (x .all) (length (x .all)) (length k) (omega (arith, len)), ap (λ (y : Entry). y .last) e, ap (λ (y : Entry). y .durable) e)
+      omega (
+        arith,
+        last-mono p (x .all) (length (x .all)) (length k) (omega (arith, len)),
+        ap (λ (y : Entry). y .last) e,
+        ap (λ (y : Entry). y .durable) e,
+      )
 
   pub keep-same : (an : Answer) → Kept C g v past (unchanged an m s) (record { durable = k; pending = w })
   unfolding volumeAfter
-  keep-same an = record { ns = x .ns; holds = x .hs; noted = x .no; past-ok = past-cons g k past nothing tt (x .ps); live = (x .all, x .al) }
+  keep-same an =
+      record { ns = x .ns; holds = x .hs; noted = x .no; past-ok = past-cons g k past nothing tt (x .ps); live = (x .all, x .al) }
 
   -- a call by its table
   pub keep-decided : (rows : List Row) (done : Outcome) (b : AbstractLog) → (firstOf rows ≡ 0 → Kept C g v past done b)

@@ -37,7 +37,8 @@ abbrev pub note : List Note → ℕ → Note
 note ns i = getD ns i noNote
 
 abbrev pub withMark : Mark → Note → Mark
-withMark k x = cond (isWritten x) (record { written = x .lsn; slot = k .slot; backup = k .backup }) (record { written = k .written; slot = x .slot; backup = x .lsn })
+withMark k x = cond (isWritten x) (record { written = x .lsn; slot = k .slot; backup = k .backup })
+    (record { written = k .written; slot = x .slot; backup = x .lsn })
 
 -- the note is a written one (t), or a backup's (not t)
 abbrev pub sameKind : Bool → Note → Bool
@@ -108,14 +109,16 @@ pub record MarkOk (B : ℕ) (l : List Logged) (p : ℕ) (k : Mark) : Type 0 wher
 module _ (P B : ℕ) (l : List Logged) (ns : List Note) (fit : NotesOk P B l ns) (p : ℕ) where
   pub mark-ok : (n : ℕ) → n ≤ length ns → MarkOk B l p (markAt p ns n)
   mark-ok zero h = rw (mark-zero p ns) (record { wrote = omega arith; backs = omega arith; slots = omega arith })
-  mark-ok (suc n) h = elim (ℕ-discrete (note ns n .page) p) [ yes y ↦ rw (mark-hit p ns n y) (step y (mark-ok n (omega arith))) | no z ↦ rw (mark-miss p ns n z) (mark-ok n (omega arith)) ]
+  mark-ok (suc n) h = elim (ℕ-discrete (note ns n .page) p)
+      [ yes y ↦ rw (mark-hit p ns n y) (step y (mark-ok n (omega arith))) | no z ↦ rw (mark-miss p ns n z) (mark-ok n (omega arith)) ]
     where
       step : note ns n .page ≡ p → MarkOk B l p (markAt p ns n) → MarkOk B l p (withMark (markAt p ns n) (note ns n))
       step y old =
           let x = note ns n in
           let f = fit n h in
           let d : suc (x .lsn - 1) ≡ x .lsn = omega (arith, f .some) in
-          let le : x .lsn ≤ lastAt p l (length l) = rw d at (last-ge p l (length l) (x .lsn - 1) (omega (arith, f .below, f .some)) (f .page-is ∙ y)) in
+          let le : x .lsn ≤ lastAt p l (length l) =
+          rw d at (last-ge p l (length l) (x .lsn - 1) (omega (arith, f .below, f .some)) (f .page-is ∙ y)) in
           byCases (isWritten x)
           (λ t. rw t (record { wrote = le; backs = old .backs; slots = old .slots }))
           (λ t. rw t (record { wrote = old .wrote; backs = le; slots = f .backed t .high }))
@@ -126,19 +129,23 @@ module _ (P B : ℕ) (l : List Logged) (ns : List Note) (fit : NotesOk P B l ns)
   mark-past b (suc n) h = mark-miss p ns n (λ e. omega (arith, fit n h .high)) ∙ mark-past b n (omega arith)
 
 -- no two pages share a slot
-pub slots-apart : (P B : ℕ) (l : List Logged) (ns : List Note) → NotesOk P B l ns → P ≤ 64 → (n : ℕ) → n ≤ length ns → (p q : ℕ) → 1 ≤ p → p ≤ 64 → 1 ≤ q → q ≤ 64
+pub slots-apart : (P B : ℕ) (l : List Logged) (ns : List Note) → NotesOk P B l ns → P ≤ 64 → (n : ℕ) → n ≤ length ns → (p q : ℕ) → 1 ≤ p
+    → p ≤ 64 → 1 ≤ q → q ≤ 64
     → markAt p ns n .slot ≢ 0 → markAt p ns n .slot ≡ markAt q ns n .slot → p ≡ q
 slots-apart P B l ns fit P64 zero h p q p1 p2 q1 q2 nz e = absurd (nz (ap (λ (k : Mark). k .slot) (mark-zero p ns)))
 slots-apart P B l ns fit P64 (suc n) h p q p1 p2 q1 q2 nz e =
-    go (λ nz e. slots-apart P B l ns fit P64 n (omega arith) p q p1 p2 q1 q2 nz e) (ℕ-discrete (note ns n .page) p) (ℕ-discrete (note ns n .page) q)
+    go (λ nz e. slots-apart P B l ns fit P64 n (omega arith) p q p1 p2 q1 q2 nz e) (ℕ-discrete (note ns n .page) p)
+    (ℕ-discrete (note ns n .page) q)
   where
-    go : (markAt p ns n .slot ≢ 0 → markAt p ns n .slot ≡ markAt q ns n .slot → p ≡ q) → Dec (note ns n .page ≡ p) → Dec (note ns n .page ≡ q) → p ≡ q
+    go : (markAt p ns n .slot ≢ 0 → markAt p ns n .slot ≡ markAt q ns n .slot → p ≡ q) → Dec (note ns n .page ≡ p)
+        → Dec (note ns n .page ≡ q) → p ≡ q
     go ih (yes y) (yes z) = sym y ∙ z
     go ih (no y) (no z) = ih (rw (mark-miss p ns n y) at nz) (rw (mark-miss p ns n y, mark-miss q ns n z) at e)
     go ih (yes y) (no z) = both (rw (mark-hit p ns n y) at nz) (rw (mark-hit p ns n y, mark-miss q ns n z) at e)
       where
         both : withMark (markAt p ns n) (note ns n) .slot ≢ 0 → withMark (markAt p ns n) (note ns n) .slot ≡ markAt q ns n .slot → p ≡ q
-        both nz e = byCases (isWritten (note ns n)) (λ t. ih (rw t at nz) (rw t at e)) (λ t. absurd (fit n h .backed t .spare q q1 q2 (sym (rw t at e))))
+        both nz e = byCases (isWritten (note ns n)) (λ t. ih (rw t at nz) (rw t at e))
+            (λ t. absurd (fit n h .backed t .spare q q1 q2 (sym (rw t at e))))
     go ih (no y) (yes z) = both (rw (mark-miss p ns n y) at nz) (rw (mark-miss p ns n y, mark-hit q ns n z) at e)
       where
         both : markAt p ns n .slot ≢ 0 → markAt p ns n .slot ≡ withMark (markAt q ns n) (note ns n) .slot → p ≡ q
@@ -164,10 +171,14 @@ Indexed index l a d ns n = Tabled index (λ p. entryFrom (lastAt p l a) (lastAt 
 pub tabled-start : (e : ℕ → Entry) → ((p : ℕ) → e p ≡ emptyEntry) → Tabled emptyIndex e
 unfolding emptyIndex
 tabled-start e z =
-    record { size = length-replicate 64 emptyEntry; entry = λ p h k. getD-replicate 64 (p - 1) emptyEntry emptyEntry (omega arith) ∙ sym (z p) }
+    record {
+      size = length-replicate 64 emptyEntry;
+      entry = λ p h k. getD-replicate 64 (p - 1) emptyEntry emptyEntry (omega arith) ∙ sym (z p);
+    }
 
 -- one entry is set, and nothing else changes
-pub tabled-set : (index : List Entry) (e e′ : ℕ → Entry) → Tabled index e → (q : ℕ) (x : Entry) → 1 ≤ q → q ≤ 64 → x ≡ e′ q → ((p : ℕ) → p ≢ q → e p ≡ e′ p)
+pub tabled-set : (index : List Entry) (e e′ : ℕ → Entry) → Tabled index e → (q : ℕ) (x : Entry) → 1 ≤ q → q ≤ 64 → x ≡ e′ q
+    → ((p : ℕ) → p ≢ q → e p ≡ e′ p)
     → Tabled (setEntry index q x) e′
 tabled-set index e e′ x q y lo hi here there =
     record { size = length-set index (q - 1) y ∙ x .size; entry = λ p h k. go p h k (ℕ-discrete p q) }
@@ -191,15 +202,20 @@ length-map f (x ∷ xs) = ap suc (length-map f xs)
 
 pub tabled-map : (f : Entry → Entry) (index : List Entry) (e : ℕ → Entry) → Tabled index e → Tabled (map f index) (λ p. f (e p))
 tabled-map f index e x =
-    record { size = length-map f index ∙ x .size; entry = λ p h k. getD-map f index (p - 1) (omega (arith, x .size)) ∙ ap f (x .entry p h k) }
+    record {
+      size = length-map f index ∙ x .size;
+      entry = λ p h k. getD-map f index (p - 1) (omega (arith, x .size)) ∙ ap f (x .entry p h k);
+    }
 
 pub indexed-set : (index : List Entry) (l : List Logged) (a d : ℕ) (ns : List Note) (n : ℕ) → Indexed index l a d ns n
     → (l′ : List Logged) (a′ d′ : ℕ) (ns′ : List Note) (n′ q : ℕ) (e : Entry) → 1 ≤ q → q ≤ 64
     → e ≡ entryFrom (lastAt q l′ a′) (lastAt q l′ d′) (markAt q ns′ n′)
-    → ((p : ℕ) → p ≢ q → entryFrom (lastAt p l a) (lastAt p l d) (markAt p ns n) ≡ entryFrom (lastAt p l′ a′) (lastAt p l′ d′) (markAt p ns′ n′))
+    → ((p : ℕ) → p ≢ q
+    → entryFrom (lastAt p l a) (lastAt p l d) (markAt p ns n) ≡ entryFrom (lastAt p l′ a′) (lastAt p l′ d′) (markAt p ns′ n′))
     → Indexed (setEntry index q e) l′ a′ d′ ns′ n′
 indexed-set index l a d ns n x l′ a′ d′ ns′ n′ q e lo hi here there =
-    tabled-set index (λ p. entryFrom (lastAt p l a) (lastAt p l d) (markAt p ns n)) (λ p. entryFrom (lastAt p l′ a′) (lastAt p l′ d′) (markAt p ns′ n′)) x q e lo hi here there
+    tabled-set index (λ p. entryFrom (lastAt p l a) (lastAt p l d) (markAt p ns n))
+    (λ p. entryFrom (lastAt p l′ a′) (lastAt p l′ d′) (markAt p ns′ n′)) x q e lo hi here there
 
 -- a slot is in the index where some page's entry has it
 slot-here : (b : ℕ) (index : List Entry) → slotUsed b index ≡ false → (i : ℕ) → i < length index → getD index i emptyEntry .slot ≢ b
@@ -224,7 +240,8 @@ module _ (index : List Entry) (e : ℕ → Entry) (x : Tabled index e) (b : ℕ)
 
   pub spare-tabled : ((p : ℕ) → 1 ≤ p → p ≤ 64 → e p .slot ≢ b) → slotUsed b index ≡ false
   spare-tabled h = slot-nowhere b index (λ i c q.
-      h (suc i) (omega arith) (omega (arith, x .size)) (sym (ap (λ (y : Entry). y .slot) (x .entry (suc i) (omega arith) (omega (arith, x .size)))) ∙ (rw (suc-less i) q)))
+      h (suc i) (omega arith) (omega (arith, x .size))
+      (sym (ap (λ (y : Entry). y .slot) (x .entry (suc i) (omega arith) (omega (arith, x .size)))) ∙ (rw (suc-less i) q)))
     where
       suc-less : (i : ℕ) → suc i - 1 ≡ i
       suc-less i = omega arith
@@ -271,7 +288,8 @@ module _ (p : ℕ) (ns : List Note) where
   pub by-le : (t : Bool) (n : ℕ) → lastBy t p ns n ≤ n
   unfolding lastBy
   by-le t zero = omega arith
-  by-le t (suc n) = let ih : lastBy t p ns n ≤ n = by-le t n in byCases (eqb (note ns n .page) p && sameKind t (note ns n)) (λ e. rw e (omega arith)) (λ e. rw e (omega arith))
+  by-le t (suc n) = let ih : lastBy t p ns n ≤ n = by-le t n in
+      byCases (eqb (note ns n .page) p && sameKind t (note ns n)) (λ e. rw e (omega arith)) (λ e. rw e (omega arith))
 
   -- the last is one, and none is later
   pub by-is : (t : Bool) (n i : ℕ) → lastBy t p ns n ≡ suc i → (note ns i .page ≡ p) × (sameKind t (note ns i) ≡ true)
@@ -281,7 +299,10 @@ module _ (p : ℕ) (ns : List Note) where
       (λ u.
       let q : suc n ≡ suc i = rw u at e in
       let q′ : i ≡ n = omega arith in
-      rw q′ (eqb-true (note ns n .page) p (and-left (eqb (note ns n .page) p) (sameKind t (note ns n)) u), and-right (eqb (note ns n .page) p) (sameKind t (note ns n)) u))
+      rw q′ (
+        eqb-true (note ns n .page) p (and-left (eqb (note ns n .page) p) (sameKind t (note ns n)) u),
+        and-right (eqb (note ns n .page) p) (sameKind t (note ns n)) u,
+      ))
       (λ u. by-is t n i (rw u at e))
 
   pub by-ge : (t : Bool) (n j : ℕ) → j < n → note ns j .page ≡ p → sameKind t (note ns j) ≡ true → suc j ≤ lastBy t p ns n

@@ -34,7 +34,9 @@ use Rattle.history.proofs.Entries.{markAt, entryFrom, Indexed, spare-ta
 use Rattle.history.proofs.Leaf.{valid-page}
 use Rattle.history.proofs.Records.{Faithful}
 use Rattle.history.proofs.Sections.{volume-sized}
-use Rattle.history.proofs.Disk.{Holds, Noted, Stands, Torn, Spare, durable-count, note-count, index-is}
+use Rattle.history.proofs.Disk.{Holds, Noted, Stands, Torn, Spare}
+use Rattle.history.proofs.NoteScan.{note-count, index-is}
+use Rattle.history.proofs.LogScan.{durable-count}
 use Rattle.history.proofs.Inv.{image-fine, Past, PendingOk, frame, Alive, PowerInv, Inv}
 use Rattle.history.proofs.Stores.{page-holds, page-noted, page-slots, slot-holds, slot-noted, slot-same, slot-other, pending-keep}
 use Rattle.history.proofs.Memory.{memory-is}
@@ -81,7 +83,8 @@ module _ {C : Type 0} (g : Geometry) (v : List ℕ) (k : List Logged) (h : Holds
         note-ok = tt;
       })
 
-pub inv-restart : {C : Type 0} (g : Geometry) (v : List ℕ) (past : List StoredItem) (x : Power) (b : AbstractLog) (m : List ℕ) → Inv C g v past x b
+pub inv-restart : {C : Type 0} (g : Geometry) (v : List ℕ) (past : List StoredItem) (x : Power) (b : AbstractLog) (m : List ℕ)
+    → Inv C g v past x b
     → Inv C g v past (restarted v m) (cond (eqb (firstOf (restartRows v m)) 0) (forget b) b)
 unfolding restartOf
 inv-restart g v past x b m i =
@@ -98,7 +101,8 @@ inv-restart g v past x b m i =
     }))
     (λ t. rw t (record { ns = i .ns; holds = i .holds; noted = i .noted; past-ok = i .past-ok; live = tt }))
 
-pub inv-crash-between : {C : Type 0} (g : Geometry) (v : List ℕ) (past : List StoredItem) (x : Power) (b : AbstractLog) → Inv C g v past x b → Inv C g v past off (forget b)
+pub inv-crash-between : {C : Type 0} (g : Geometry) (v : List ℕ) (past : List StoredItem) (x : Power) (b : AbstractLog) → Inv C g v past x b
+    → Inv C g v past off (forget b)
 inv-crash-between g v past x b i = record { ns = i .ns; holds = i .holds; noted = i .noted; past-ok = i .past-ok; live = tt }
 
 -- ---- damage
@@ -109,7 +113,8 @@ not-noted : (g : Geometry) (b : ℕ) (xs : List ℕ) (index : List Entry) (n : �
 unfolding validAsNoted
 not-noted g b xs [] n h i c e = absurd (omega arith)
 not-noted g b xs (y ∷ index) n h zero c e =
-    let z : (eqb (y .slot) b && validImage g (suc n) xs) ≡ false = or-neither (eqb (y .slot) b && validImage g (suc n) xs) (validAsNoted g b xs (suc n) index) h .0 in
+    let z : (eqb (y .slot) b && validImage g (suc n) xs) ≡ false =
+    or-neither (eqb (y .slot) b && validImage g (suc n) xs) (validAsNoted g b xs (suc n) index) h .0 in
     let q : n + 0 ≡ n = omega arith in
     rw q (rw (eq-eqb (y .slot) b e) at z)
 not-noted g b xs (y ∷ index) n h (suc i) c e =
@@ -144,10 +149,12 @@ module _ {C : Type 0} (g : Geometry) (v : List ℕ) (k : List Logged) (h : Holds
             let n : validAsNoted g i xs 0 (indexOf g v) ≡ false = rw used at e in
             let s : suc (0 + (q - 1)) ≡ q = omega arith in
             let nv : validImage g q xs ≡ false = rw s at
-            (not-noted g i xs (indexOf g v) 0 n (q - 1) (omega (arith, idx .size)) (ap (λ (y : Entry). y .slot) (idx .entry q lo hi′) ∙ z)) in
+            (not-noted g i xs (indexOf g v) 0 n (q - 1) (omega (arith, idx .size))
+            (ap (λ (y : Entry). y .slot) (idx .entry q lo hi′) ∙ z)) in
             absurd (true-not-false t nv);
         outside = λ sp q lo hi t.
-            let u : slotUsed i (indexOf g v) ≡ false = spare-tabled (indexOf g v) (λ p. entryFrom (lastAt p k (length k)) (lastAt p k (length k)) (markAt p ns (length ns))) idx i sp in
+            let u : slotUsed i (indexOf g v) ≡ false = spare-tabled (indexOf g v)
+            (λ p. entryFrom (lastAt p k (length k)) (lastAt p k (length k)) (markAt p ns (length ns))) idx i sp in
             let n : validSomewhere g xs ≡ false = rw u at e in
             absurd (true-not-false (somewhere g xs q lo hi t) n);
       }
@@ -164,13 +171,15 @@ module _ {C : Type 0} (g : Geometry) (v : List ℕ) (k : List Logged) (h : Holds
       go : isWritten y ≡ false → Dec (y .slot ≡ i) → Faithful g (y .page) k (item g (store g v (slotAt i) xs) (slotAt (y .slot)))
       go z (yes e) =
           rw (e, slot-same g v k h ns o i xs lo hi five)
-          (d .outside (subst (λ (n : ℕ). (p : ℕ) → 1 ≤ p → p ≤ 64 → markAt p ns (length ns) .slot ≢ n) e (t .0 .backed z .spare)) (y .page) (t .0 .low) (t .0 .high))
+          (d .outside (subst (λ (n : ℕ). (p : ℕ) → 1 ≤ p → p ≤ 64 → markAt p ns (length ns) .slot ≢ n) e (t .0 .backed z .spare)) (y .page)
+          (t .0 .low) (t .0 .high))
       go z (no e) =
           let bk = t .0 .backed z in
           rw (slot-other g v k h ns o i xs lo hi five (slotAt (y .slot)) (bk .low, bk .high) (omega (arith, bk .low))) (t .2 z)
 
 -- a live machine after a store that leaves its pending note in order
-live-keep : (C : Type 0) (g : Geometry) (v v′ : List ℕ) (x : Power) (b : AbstractLog) (ns : List Note) → ((y : PendingNote) → PendingOk C g v (b .durable) ns y → PendingOk C g v′ (b .durable) ns y)
+live-keep : (C : Type 0) (g : Geometry) (v v′ : List ℕ) (x : Power) (b : AbstractLog) (ns : List Note)
+    → ((y : PendingNote) → PendingOk C g v (b .durable) ns y → PendingOk C g v′ (b .durable) ns y)
     → PowerInv C g v x b ns → PowerInv C g v′ x b ns
 live-keep C g v v′ off b ns f l = tt
 live-keep C g v v′ (on m s) b ns f l = (
@@ -187,7 +196,8 @@ live-keep C g v v′ (on m s) b ns f l = (
   },
 )
 
-pub inv-damage : (C : Type 0) (g : Geometry) (v : List ℕ) (past : List StoredItem) (x : Power) (b : AbstractLog) (at : Place) (xs : List ℕ) → (C → ⊥) → isImage g at ≡ true → length xs ≡ 256
+pub inv-damage : (C : Type 0) (g : Geometry) (v : List ℕ) (past : List StoredItem) (x : Power) (b : AbstractLog) (at : Place) (xs : List ℕ)
+    → (C → ⊥) → isImage g at ≡ true → length xs ≡ 256
     → (passesAt g (indexOf g v) at xs ≡ false) ⊎ (storedBefore at xs past ≡ true) → Inv C g v past x b → Inv C g (store g v at xs) past x b
 inv-damage C g v past x b (pageAt p) xs no-c r five d i =
     let w = within-bounds (g .pages) p r in
@@ -197,7 +207,8 @@ inv-damage C g v past x b (pageAt p) xs no-c r five d i =
       holds = page-holds g v (b .durable) (i .holds) (i .ns) (i .noted) p xs (w .0) (w .1) five f;
       noted = page-noted g v (b .durable) (i .holds) (i .ns) (i .noted) p xs (w .0) (w .1) five f;
       past-ok = i .past-ok;
-      live = live-keep C g v (store g v (pageAt p) xs) x b (i .ns) (λ y. pending-keep C g v (store g v (pageAt p) xs) (b .durable) (b .durable) (i .ns) y (λ q z f. f) (λ z f. f)
+      live = live-keep C g v (store g v (pageAt p) xs) x b (i .ns)
+          (λ y. pending-keep C g v (store g v (pageAt p) xs) (b .durable) (b .durable) (i .ns) y (λ q z f. f) (λ z f. f)
           (page-slots g v (b .durable) (i .holds) (i .ns) (i .noted) p xs (w .0) (w .1) five f)) (i .live);
     }
   where
@@ -212,7 +223,8 @@ inv-damage C g v past x b (slotAt n) xs no-c r five d i =
       holds = slot-holds g v (b .durable) (i .holds) (i .ns) (i .noted) n xs (w .0) (w .1) five;
       noted = slot-noted g v (b .durable) (i .holds) (i .ns) (i .noted) n xs (w .0) (w .1) five (f .given) (λ c p a z e. absurd (no-c c));
       past-ok = i .past-ok;
-      live = live-keep C g v (store g v (slotAt n) xs) x b (i .ns) (pending-damage g v (b .durable) (i .holds) (i .ns) (i .noted) n xs (w .0) (w .1) five no-c f) (i .live);
+      live = live-keep C g v (store g v (slotAt n) xs) x b (i .ns)
+          (pending-damage g v (b .durable) (i .holds) (i .ns) (i .noted) n xs (w .0) (w .1) five no-c f) (i .live);
     }
 inv-damage C g v past x b (recordAt n) xs no-c r five d i = absurd (true-not-false r refl)
 inv-damage C g v past x b (noteAt n) xs no-c r five d i = absurd (true-not-false r refl)

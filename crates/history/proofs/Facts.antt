@@ -21,7 +21,7 @@ use Rattle.history.proofs.Logs.{at, lastOf, last-hit, last-ge, last-is,
 use Rattle.history.proofs.Entries.{markAt, entryFrom, slots-apart}
 use Rattle.history.proofs.Records.{ReplayOf, Faithful}
 use Rattle.history.proofs.Sections.{volume-sized}
-use Rattle.history.proofs.Disk.{index-is}
+use Rattle.history.proofs.NoteScan.{index-is}
 use Rattle.history.proofs.Inv.{Inv}
 use Rattle.history.proofs.Context.{Ctx, entry-is, last-entry, durable-last, found-frame}
 use Rattle.history.proofs.WellFormed.{state-ok, memory-ok}
@@ -50,7 +50,8 @@ module _ (h : History) (legal : Legal h) where
   p64 = volume-sized (present h) (volumeOf h) (i .holds .vol) .p-high
 
   -- a page's entry, as the volume gives it
-  entry : (p : ℕ) → 1 ≤ p → p ≤ h .pages → entryOf (indexOf (headingOf h) (volumeOf h)) p ≡ entryFrom (lastOf p (durableOf h)) (lastOf p (durableOf h)) (markAt p (i .ns) (length (i .ns)))
+  entry : (p : ℕ) → 1 ≤ p → p ≤ h .pages → entryOf (indexOf (headingOf h) (volumeOf h)) p
+      ≡ entryFrom (lastOf p (durableOf h)) (lastOf p (durableOf h)) (markAt p (i .ns) (length (i .ns)))
   entry p lo hi =
       rw heading (index-is (present h) (volumeOf h) (durableOf h) (i .holds) (i .ns) (i .noted) .entry p lo (omega (arith, p64)))
 
@@ -62,7 +63,8 @@ module _ (h : History) (legal : Legal h) where
     same-entry : (p : ℕ) → 1 ≤ p → p ≤ h .pages → SameEntry h s p
     same-entry p lo hi =
         let a = entry-is ctx p lo hi in
-        let b : entryOf (indexOf (headingOf h) (volumeOf h)) p ≡ entryFrom (lastOf p (durableOf h)) (lastOf p (durableOf h)) (markAt p (ctx .ns) (length (ctx .ns))) =
+        let b : entryOf (indexOf (headingOf h) (volumeOf h)) p ≡ entryFrom (lastOf p (durableOf h)) (lastOf p (durableOf h))
+        (markAt p (ctx .ns) (length (ctx .ns))) =
         rw heading (index-is (present h) (volumeOf h) (durableOf h) (ctx .hs) (ctx .ns) (ctx .no) .entry p lo (omega (arith, p64))) in
         let d = durable-last ctx p lo hi in
         record {
@@ -81,7 +83,8 @@ module _ (h : History) (legal : Legal h) where
         record {
           last = rw (last-is p (durableOf h ++ logOf h .pending), ← sp) (last-entry ctx p lo hi);
           frame = λ t.
-              rw (last-is p (durableOf h ++ logOf h .pending), replay-is p (durableOf h ++ logOf h .pending), ← sp) (found-frame ctx p lo (rw t) .framed .frame-is);
+              rw (last-is p (durableOf h ++ logOf h .pending), replay-is p (durableOf h ++ logOf h .pending), ← sp)
+              (found-frame ctx p lo (rw t) .framed .frame-is);
         }
 
   stored-image : (at : Place) (x : List ℕ) → isImage (headingOf h) at ≡ true → storedBefore at x (reached h .past) ≡ true → StoredImage h x
@@ -99,7 +102,12 @@ module _ (h : History) (legal : Legal h) where
     not-above : validImage (headingOf h) p own ≡ true → imageLsn own ≤ entryOf (indexOf (headingOf h) (volumeOf h)) p .durable
     not-above t =
         let f = own-good t in
-        omega (arith, f .lsn-is, ap (λ (y : Entry). y .durable) (entry p lo hi), last-ge p (durableOf h) (length (durableOf h)) (f .place) (f .below) (f .page-is))
+        omega (
+          arith,
+          f .lsn-is,
+          ap (λ (y : Entry). y .durable) (entry p lo hi),
+          last-ge p (durableOf h) (length (durableOf h)) (f .place) (f .below) (f .page-is),
+        )
 
     own-image : OwnImage h p
     own-image =
@@ -113,11 +121,13 @@ module _ (h : History) (legal : Legal h) where
         record {
           durable = ap (λ (y : Entry). y .durable) (entry p lo hi) ∙ sym (last-is p (durableOf h));
           backup = λ nz t.
-              is-replay p (durableOf h) (item (headingOf h) (volumeOf h) (slotAt (entryOf (indexOf (headingOf h) (volumeOf h)) p .slot))) (copy (entryOf (indexOf (headingOf h) (volumeOf h)) p .slot)
+              is-replay p (durableOf h) (item (headingOf h) (volumeOf h) (slotAt (entryOf (indexOf (headingOf h) (volumeOf h)) p .slot)))
+              (copy (entryOf (indexOf (headingOf h) (volumeOf h)) p .slot)
               (ap (λ (y : Entry). y .slot) (entry p lo hi)) nz t);
         }
       where
-        copy : (b : ℕ) → b ≡ markAt p (i .ns) (length (i .ns)) .slot → b ≢ 0 → Faithful (headingOf h) p (durableOf h) (item (headingOf h) (volumeOf h) (slotAt b))
+        copy : (b : ℕ) → b ≡ markAt p (i .ns) (length (i .ns)) .slot → b ≢ 0
+            → Faithful (headingOf h) p (durableOf h) (item (headingOf h) (volumeOf h) (slotAt b))
         copy b q nz = rw (heading, q) (i .noted .backups p lo hi (λ z. nz (q ∙ z)))
 
 pub facts : Facts
@@ -142,12 +152,16 @@ facts =
       releases = releases-is;
       letsGo = lets-go;
       slots = λ h l p q p1 p2 q1 q2 nz e.
-          let a : entryOf (indexOf (headingOf h) (volumeOf h)) p .slot ≡ markAt p (i h l .ns) (length (i h l .ns)) .slot = ap (λ (y : Entry). y .slot) (entry h l p p1 p2) in
-          let b : entryOf (indexOf (headingOf h) (volumeOf h)) q .slot ≡ markAt q (i h l .ns) (length (i h l .ns)) .slot = ap (λ (y : Entry). y .slot) (entry h l q q1 q2) in
-          slots-apart (h .pages) (h .slots) (durableOf h) (i h l .ns) (i h l .noted .fit) (p64 h l) (length (i h l .ns)) (omega arith) p q p1 (omega (arith, p64 h l)) q1 (omega (arith, p64 h l))
+          let a : entryOf (indexOf (headingOf h) (volumeOf h)) p .slot ≡ markAt p (i h l .ns) (length (i h l .ns)) .slot =
+          ap (λ (y : Entry). y .slot) (entry h l p p1 p2) in
+          let b : entryOf (indexOf (headingOf h) (volumeOf h)) q .slot ≡ markAt q (i h l .ns) (length (i h l .ns)) .slot =
+          ap (λ (y : Entry). y .slot) (entry h l q q1 q2) in
+          slots-apart (h .pages) (h .slots) (durableOf h) (i h l .ns) (i h l .noted .fit) (p64 h l) (length (i h l .ns))
+          (omega arith) p q p1 (omega (arith, p64 h l)) q1 (omega (arith, p64 h l))
           (λ z. nz (a ∙ z)) (sym a ∙ (e ∙ b));
       loads = λ h l m s e p f nz. load-durable (ctx h l m s e) p f (λ z. nz (last-is p (durableOf h) ∙ z));
       inspects = λ h l p buffer nz.
           inspect-durable (present h) (volumeOf h) (durableOf h) (i h l .holds) (i h l .ns) (i h l .noted) p buffer
-          (λ lo hi z. nz (last-is p (durableOf h) ∙ (sym (ap (λ (y : Entry). y .durable) (index-is (present h) (volumeOf h) (durableOf h) (i h l .holds) (i h l .ns) (i h l .noted) .entry p lo (omega (arith, p64 h l)))) ∙ z)));
+          (λ lo hi z. nz (last-is p (durableOf h) ∙ (sym (ap (λ (y : Entry). y .durable) (index-is (present h) (volumeOf h) (durableOf h)
+          (i h l .holds) (i h l .ns) (i h l .noted) .entry p lo (omega (arith, p64 h l)))) ∙ z)));
     }

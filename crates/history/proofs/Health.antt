@@ -47,7 +47,8 @@ module _ (h : History) (legal : Legal h) where
   page-not-ahead : (p : ℕ) → 1 ≤ p → p ≤ h .pages → (w : View) → w .own ≡ item (headingOf h) (volumeOf h) (pageAt p)
       → w .durable ≡ entryOf (indexOf (headingOf h) (volumeOf h)) p .durable → classIn (headingOf h) p w ≢ Ahead
   page-not-ahead p lo hi w o d =
-      not-ahead (validImage (headingOf h) p (w .own)) (imageLsn (w .own)) (w .durable) (w .written) (rw (o, d) (facts .own h legal p lo hi .not-above))
+      not-ahead (validImage (headingOf h) p (w .own)) (imageLsn (w .own)) (w .durable) (w .written)
+      (rw (o, d) (facts .own h legal p lo hi .not-above))
 
   pages-are : headingOf h .pages ≡ h .pages
   pages-are = ap (λ (g : Geometry). g .pages) (heading h legal)
@@ -59,9 +60,11 @@ module _ (h : History) (legal : Legal h) where
       let none = none-at (inspectRows (volumeOf h) p (length buffer)) (omega arith) (q .0) in
       let b = within-bounds (headingOf h .pages) p (not-false _ (none 2)) in
       subst (λ (y : Repair). y .class ≢ Ahead) (q .1)
-      (page-not-ahead p (b .0) (rw pages-are at (b .1)) (viewOf (headingOf h) (volumeOf h) (firstHeld (headingOf h) (volumeOf h) (durableCount (headingOf h) (volumeOf h))) (entryOf (indexOf (headingOf h) (volumeOf h)) p) p) refl refl)
+      (page-not-ahead p (b .0) (rw pages-are at (b .1)) (viewOf (headingOf h) (volumeOf h) (firstHeld (headingOf h) (volumeOf h)
+      (durableCount (headingOf h) (volumeOf h))) (entryOf (indexOf (headingOf h) (volumeOf h)) p) p) refl refl)
 
-  loads-not : (m : List ℕ) (s : State) → reached h .power ≡ on m s → (p f : ℕ) (r : Repair) → loadOf (volumeOf h) m s p f .answer ≡ Repaired r → r .class ≢ Ahead
+  loads-not : (m : List ℕ) (s : State) → reached h .power ≡ on m s → (p f : ℕ) (r : Repair)
+      → loadOf (volumeOf h) m s p f .answer ≡ Repaired r → r .class ≢ Ahead
   unfolding loadRows repairOf
   loads-not m s o p f r e =
       let q = load-repairs (volumeOf h) m s p f r e in
@@ -69,7 +72,8 @@ module _ (h : History) (legal : Legal h) where
       let b = within-bounds (headingOf h .pages) p (not-false _ (none 3)) in
       let hi : p ≤ h .pages = rw pages-are at (b .1) in
       subst (λ (y : Repair). y .class ≢ Ahead) (q .1)
-      (page-not-ahead p (b .0) hi (viewOf (headingOf h) (volumeOf h) (firstHeld (headingOf h) (volumeOf h) (s .durable)) (entryOf (s .index) p) p) refl (facts .entries h legal m s o p (b .0) hi .durable))
+      (page-not-ahead p (b .0) hi (viewOf (headingOf h) (volumeOf h) (firstHeld (headingOf h) (volumeOf h) (s .durable))
+      (entryOf (s .index) p) p) refl (facts .entries h legal m s o p (b .0) hi .durable))
 
 pub never-ahead : NeverAhead
 never-ahead = record { inspects = inspects-not; loads = loads-not }

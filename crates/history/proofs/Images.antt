@@ -29,17 +29,20 @@ use Rattle.history.proofs.Stores.{page-holds, page-noted, slot-holds, s
 use Rattle.history.proofs.Context.{Ctx, sized, len, few, body-size, durable-last, durable-page, durable-body, Found}
 
 -- an item that may be stored: what it leaves whole, and torn
-pub record StoreOk (C : Type 0) (g : Geometry) (v : List ℕ) (past : List StoredItem) (k : List Logged) (ns : List Note) (at : Place) (xs : List ℕ) (k′ : List Logged) (ns′ : List Note) : Type 0 where
+pub record StoreOk (C : Type 0) (g : Geometry) (v : List ℕ) (past : List StoredItem) (k : List Logged) (ns : List Note) (at : Place)
+    (xs : List ℕ) (k′ : List Logged) (ns′ : List Note) : Type 0 where
   pub holds′ : Holds g (store g v at xs) k′
   pub noted′ : Noted C g (store g v at xs) k′ ns′
   pub past′ : Past g k′ (oneItem at xs ∷ past)
-  pub torn′ : (ys : List ℕ) → itemSealed g at ys ≡ false → length ys ≡ width at → Holds g (store g v at ys) k × Noted C g (store g v at ys) k ns
+  pub torn′ : (ys : List ℕ) → itemSealed g at ys ≡ false → length ys ≡ width at → Holds g (store g v at ys) k
+      × Noted C g (store g v at ys) k ns
 
 -- a torn image is nobody's
 pub torn-fine : (g : Geometry) (k : List Logged) (ys : List ℕ) → imageSealed g ys ≡ false → Fine g k ys
 torn-fine g k ys t q z = absurd (true-not-false (valid-sealed g q ys z) t)
 
-module _ {C : Type 0} {g : Geometry} {v m : List ℕ} {past : List StoredItem} {s : State} {k w : List Logged} (x : Ctx C g v m past s k w) where
+module _ {C : Type 0} {g : Geometry} {v m : List ℕ} {past : List StoredItem} {s : State} {k w : List Logged}
+    (x : Ctx C g v m past s k w) where
   -- the image of a frame whose newest change is durable
   module _ (p : ℕ) (f : Found x p) (b : imageLsn (frameBytes m (holder s p)) ≤ s .durable) where
     abbrev N : ℕ
@@ -77,7 +80,8 @@ module _ {C : Type 0} {g : Geometry} {v m : List ℕ} {past : List StoredItem} {
               page = p;
               low = f .framed .low;
               high = f .framed .high;
-              number = sealImage-field g (frameImage p N B) (frame-size g p N B pg nm (body-size x p)) 2 0 (lit≤ tt) ∙ frameImage-page p N B (body-size x p) (omega (arith, pg));
+              number = sealImage-field g (frameImage p N B) (frame-size g p N B pg nm (body-size x p)) 2 0 (lit≤ tt)
+                  ∙ frameImage-page p N B (body-size x p) (omega (arith, pg));
               good = record {
                 place = j;
                 lsn-is = image-lsn g p N B pg nm (body-size x p) ∙ q;
@@ -88,7 +92,8 @@ module _ {C : Type 0} {g : Geometry} {v m : List ℕ} {past : List StoredItem} {
             })
 
     pub sealed-valid : validImage g p (sealImage g (frameBytes m (holder s p))) ≡ true
-    sealed-valid = rw (f .framed .frame-is) (sealImage-valid g (frameImage p N B) (frame-size g p N B pg nm (body-size x p)) p (frameImage-page p N B (body-size x p) (omega (arith, pg))) (frameImage-zeros p N B (body-size x p)))
+    sealed-valid = rw (f .framed .frame-is) (sealImage-valid g (frameImage p N B) (frame-size g p N B pg nm (body-size x p)) p
+        (frameImage-page p N B (body-size x p) (omega (arith, pg))) (frameImage-zeros p N B (body-size x p)))
 
     pub sealed-lsn : imageLsn (sealImage g (frameBytes m (holder s p))) ≡ imageLsn (frameBytes m (holder s p))
     sealed-lsn = rw (f .framed .frame-is) (image-lsn g p N B pg nm (body-size x p) ∙ sym (frame-lsn g p N B pg nm (body-size x p)))
@@ -100,13 +105,15 @@ module _ {C : Type 0} {g : Geometry} {v m : List ℕ} {past : List StoredItem} {
     abbrev noteFor : ℕ → ℕ → Note
     noteFor kd sl = record { number = lastNote s + 1; page = p; kind = kd; slot = sl; lsn = imageLsn (frameBytes m (holder s p)) }
 
-    mark-le : (markAt p (x .ns) (length (x .ns)) .written ≤ imageLsn (frameBytes m (holder s p))) × (markAt p (x .ns) (length (x .ns)) .backup ≤ imageLsn (frameBytes m (holder s p)))
+    mark-le : (markAt p (x .ns) (length (x .ns)) .written ≤ imageLsn (frameBytes m (holder s p)))
+        × (markAt p (x .ns) (length (x .ns)) .backup ≤ imageLsn (frameBytes m (holder s p)))
     mark-le =
         let o = mark-ok (g .pages) (g .slots) k (x .ns) (x .no .fit) p (length (x .ns)) (omega arith) in
         let e : lastOf p k ≡ lastOf p (x .all) = sym (settled ∙ durable-last x p (f .framed .low) (f .framed .high)) in
         (omega (arith, o .wrote, lsn-is), omega (arith, o .backs, lsn-is))
 
-    note-for : (kd sl : ℕ) → (isWritten (noteFor kd sl) ≡ true → sl ≡ 0) → (isWritten (noteFor kd sl) ≡ false → Backed (g .slots) (x .ns) (length (x .ns)) (noteFor kd sl))
+    note-for : (kd sl : ℕ) → (isWritten (noteFor kd sl) ≡ true → sl ≡ 0)
+        → (isWritten (noteFor kd sl) ≡ false → Backed (g .slots) (x .ns) (length (x .ns)) (noteFor kd sl))
         → NoteOk (g .pages) (g .slots) k (x .ns) (length (x .ns)) (noteFor kd sl)
     note-for kd sl wr bk = go (lastOf p (x .all)) refl
       where
@@ -129,7 +136,8 @@ module _ {C : Type 0} {g : Geometry} {v m : List ℕ} {past : List StoredItem} {
     pub write-note : NoteOk (g .pages) (g .slots) k (x .ns) (length (x .ns)) (noteFor 1 0)
     write-note = note-for 1 0 (λ t. refl) (λ t. absurd (true-not-false refl t))
 
-    pub backup-note : (sl : ℕ) → 1 ≤ sl → sl ≤ g .slots → slotUsed sl (s .index) ≡ false → NoteOk (g .pages) (g .slots) k (x .ns) (length (x .ns)) (noteFor 2 sl)
+    pub backup-note : (sl : ℕ) → 1 ≤ sl → sl ≤ g .slots → slotUsed sl (s .index) ≡ false
+        → NoteOk (g .pages) (g .slots) k (x .ns) (length (x .ns)) (noteFor 2 sl)
     backup-note sl lo hi t =
         note-for 2 sl (λ t. absurd (true-not-false t refl))
         (λ z. record {
@@ -154,16 +162,20 @@ module _ {C : Type 0} {g : Geometry} {v m : List ℕ} {past : List StoredItem} {
           );
         }
 
-    pub backup-store : (sl : ℕ) → 1 ≤ sl → sl ≤ g .slots → slotUsed sl (s .index) ≡ false → StoreOk C g v past k (x .ns) (slotAt sl) (sealImage g (frameBytes m (holder s p))) k (x .ns)
+    pub backup-store : (sl : ℕ) → 1 ≤ sl → sl ≤ g .slots → slotUsed sl (s .index) ≡ false
+        → StoreOk C g v past k (x .ns) (slotAt sl) (sealImage g (frameBytes m (holder s p))) k (x .ns)
     backup-store sl lo hi un =
         let nobody : (q : ℕ) → 1 ≤ q → q ≤ g .pages → markAt q (x .ns) (length (x .ns)) .slot ≢ sl =
-        λ q a b. slot-spare (s .index) (x .all) (length (x .all)) (length k) (x .ns) (length (x .ns)) (x .al .index) sl un q a (omega (arith, sized x .p-high)) in
+        λ q a b. slot-spare (s .index) (x .all) (length (x .all)) (length k) (x .ns) (length (x .ns)) (x .al .index) sl un q a
+        (omega (arith, sized x .p-high)) in
         record {
           holds′ = slot-holds g v k (x .hs) (x .ns) (x .no) sl (sealImage g (frameBytes m (holder s p))) lo hi sealed-size;
-          noted′ = slot-noted g v k (x .hs) (x .ns) (x .no) sl (sealImage g (frameBytes m (holder s p))) lo hi sealed-size (λ q l₁ h₁ z. fine q) (λ c q a b e. absurd (nobody q a b e));
+          noted′ = slot-noted g v k (x .hs) (x .ns) (x .no) sl (sealImage g (frameBytes m (holder s p))) lo hi sealed-size
+              (λ q l₁ h₁ z. fine q) (λ c q a b e. absurd (nobody q a b e));
           past′ = past-cons g k past (oneItem (slotAt sl) (sealImage g (frameBytes m (holder s p)))) (λ z. image-is) (x .ps);
           torn′ = λ ys t n. (
             slot-holds g v k (x .hs) (x .ns) (x .no) sl ys lo hi n,
-            slot-noted g v k (x .hs) (x .ns) (x .no) sl ys lo hi n (λ q l₁ h₁ z. torn-fine g k ys t q) (λ c q a b e. absurd (nobody q a b e)),
+            slot-noted g v k (x .hs) (x .ns) (x .no) sl ys lo hi n (λ q l₁ h₁ z. torn-fine g k ys t q)
+                (λ c q a b e. absurd (nobody q a b e)),
           );
         }

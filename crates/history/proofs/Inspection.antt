@@ -28,10 +28,13 @@ use Rattle.history.proofs.Entries.{markAt, entryFrom}
 use Rattle.history.proofs.Leaf.{image-shown}
 use Rattle.history.proofs.Records.{length-replay}
 use Rattle.history.proofs.Sections.{Sized, volume-sized, most-high}
-use Rattle.history.proofs.Disk.{Holds, Noted, first, durable-count, valid-log, valid-notes, index-is}
+use Rattle.history.proofs.Disk.{Holds, Noted}
+use Rattle.history.proofs.NoteScan.{valid-notes, index-is}
+use Rattle.history.proofs.LogScan.{first, durable-count, valid-log}
 use Rattle.history.proofs.Views.{view-body, view-whole, view-granted, Unserved, exact-below, below-exact}
 
-module _ {C : Type 0} (g : Geometry) (v : List ℕ) (k : List Logged) (h : Holds g v k) (ns : List Note) (o : Noted C g v k ns) (p : ℕ) (lo : 1 ≤ p) (hi : p ≤ g .pages) where
+module _ {C : Type 0} (g : Geometry) (v : List ℕ) (k : List Logged) (h : Holds g v k) (ns : List Note) (o : Noted C g v k ns) (p : ℕ)
+    (lo : 1 ≤ p) (hi : p ≤ g .pages) where
   sz : Sized g
   sz = volume-sized g v (h .vol)
 
@@ -39,13 +42,23 @@ module _ {C : Type 0} (g : Geometry) (v : List ℕ) (k : List Logged) (h : Holds
   entry-is = index-is g v k h ns o .entry p lo (omega (arith, sz .p-high))
 
   abbrev below : Bool
-  below = isBelow (walkOf g p (viewOf g v (firstHeld g v (length k)) (entryFrom (lastOf p k) (lastOf p k) (markAt p ns (length ns))) p) .stop)
+  below = isBelow (walkOf g p
+      (viewOf g v (firstHeld g v (length k)) (entryFrom (lastOf p k) (lastOf p k) (markAt p ns (length ns))) p) .stop)
 
   -- no row but 7 and 23 can hold
   rows-are : (size : ℕ) → size ≡ 256 → firstOf (inspectRows v p size) ≡ cond (eqb (lastOf p k) 0) 7 (cond below 23 0)
   unfolding inspectRows
   rows-are size e =
-      rw (h .vol .geo, h .vol .ok, eq-eqb size 256 e, within-holds (g .pages) p lo hi, valid-log g v k h ns o, valid-notes g v k h ns o, entry-is, durable-count g v k h ns o)
+      rw (
+        h .vol .geo,
+        h .vol .ok,
+        eq-eqb size 256 e,
+        within-holds (g .pages) p lo hi,
+        valid-log g v k h ns o,
+        valid-notes g v k h ns o,
+        entry-is,
+        durable-count g v k h ns o,
+      )
 
   -- the proviso, and that record 1 has left
   abbrev Stand : Type 0
@@ -69,7 +82,8 @@ module _ {C : Type 0} (g : Geometry) (v : List ℕ) (k : List Logged) (h : Holds
     answered = refusalOf (inspectOf v p buffer .answer)
 
     abbrev Shows : Type 0
-    Shows = (refusalOf (inspectOf v p buffer .answer) ≡ 0) × (part (inspectOf v p buffer .buffer) 4 248 ≡ bytesOf 4 (lastOf p k) ++ bodyOf p k)
+    Shows = (refusalOf (inspectOf v p buffer .answer) ≡ 0)
+        × (part (inspectOf v p buffer .buffer) 4 248 ≡ bytesOf 4 (lastOf p k) ++ bodyOf p k)
 
     pub inspect-blank : lastOf p k ≡ 0 → refusalOf (inspectOf v p buffer .answer) ≡ 7
     unfolding inspectOf
@@ -77,17 +91,21 @@ module _ {C : Type 0} (g : Geometry) (v : List ℕ) (k : List Logged) (h : Holds
 
     pub inspect-above : lastOf p k ≢ 0 → below ≡ false → Shows
     unfolding inspectOf
-    inspect-above nz up = rw (rows-are (length buffer) e, ne-eqb (lastOf p k) 0 nz, up) (refl, rw (h .vol .geo, entry-is, durable-count g v k h ns o) (go (lastOf p k) refl))
+    inspect-above nz up = rw (rows-are (length buffer) e, ne-eqb (lastOf p k) 0 nz, up)
+        (refl, rw (h .vol .geo, entry-is, durable-count g v k h ns o) (go (lastOf p k) refl))
       where
         go : (n : ℕ) → lastOf p k ≡ n
-            → part (sealImage g (rebuilt g p (viewOf g v (firstHeld g v (length k)) (entryFrom (lastOf p k) (lastOf p k) (markAt p ns (length ns))) p))) 4 248 ≡ bytesOf 4 (lastOf p k) ++ bodyOf p k
+            → part (sealImage g (rebuilt g p (viewOf g v (firstHeld g v (length k))
+            (entryFrom (lastOf p k) (lastOf p k) (markAt p ns (length ns))) p))) 4 248 ≡ bytesOf 4 (lastOf p k) ++ bodyOf p k
         go zero q = absurd (nz q)
         go (suc j) q =
             let b : suc j ≤ length k = omega (arith, last-le p k (length k)) in
             let vb = view-body g v k h ns o (suc j) j p lo hi b (last-page p k (length k) j q) (rw q at up) in
             let bd : replayAt p k (suc j) ≡ bodyOf p k = sym (replay-last p k (length k) ∙ ap (replayAt p k) q) in
-            let e₁ : rebuiltBody g p (viewOf g v (firstHeld g v (length k)) (entryFrom (suc j) (suc j) (markAt p ns (length ns))) p) ≡ bodyOf p k = vb ∙ bd in
-            rw q (rw e₁ (image-shown g p (suc j) (bodyOf p k) (omega (arith, sz .p-high)) (omega (arith, h .room, most-high g sz)) (length-replay (g .pages) p k (length k) (omega arith) (h .fair))))
+            let e₁ : rebuiltBody g p
+            (viewOf g v (firstHeld g v (length k)) (entryFrom (suc j) (suc j) (markAt p ns (length ns))) p) ≡ bodyOf p k = vb ∙ bd in
+            rw q (rw e₁ (image-shown g p (suc j) (bodyOf p k) (omega (arith, sz .p-high)) (omega (arith, h .room, most-high g sz))
+            (length-replay (g .pages) p k (length k) (omega arith) (h .fair))))
 
     inspect-low : lastOf p k ≢ 0 → below ≡ true → refusalOf (inspectOf v p buffer .answer) ≡ 23
     unfolding inspectOf
@@ -100,10 +118,12 @@ module _ {C : Type 0} (g : Geometry) (v : List ℕ) (k : List Logged) (h : Holds
     inspect-granted nz f = inspect-above nz (served nz f)
 
     -- 23 exactly where the page cannot be rebuilt
-    pub inspect-exact : lastOf p k ≢ 0 → (refusalOf (inspectOf v p buffer .answer) ≡ 23) ↔ Unserved g v k (entryOf (indexOf g v) p) p (first g v k h ns o)
+    pub inspect-exact : lastOf p k ≢ 0
+        → (refusalOf (inspectOf v p buffer .answer) ≡ 23) ↔ Unserved g v k (entryOf (indexOf g v) p) p (first g v k h ns o)
     inspect-exact nz = go (lastOf p k) refl
       where
-        go : (n : ℕ) → lastOf p k ≡ n → (refusalOf (inspectOf v p buffer .answer) ≡ 23) ↔ Unserved g v k (entryOf (indexOf g v) p) p (first g v k h ns o)
+        go : (n : ℕ) → lastOf p k ≡ n
+            → (refusalOf (inspectOf v p buffer .answer) ≡ 23) ↔ Unserved g v k (entryOf (indexOf g v) p) p (first g v k h ns o)
         go zero q = absurd (nz q)
         go (suc j) q =
             let b : suc j ≤ length k = omega (arith, last-le p k (length k)) in

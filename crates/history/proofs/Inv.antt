@@ -71,7 +71,8 @@ unfolding sameBytes
 same-bytes [] [] h = refl
 same-bytes [] (y ∷ ys) h = let z : _≡_ {A = ℕ} 0 1 = cc in absurd (omega arith)
 same-bytes (x ∷ xs) [] h = let z : _≡_ {A = ℕ} 0 1 = cc in absurd (omega arith)
-same-bytes (x ∷ xs) (y ∷ ys) h = rw (eqb-true x y (and-left (eqb x y) (sameBytes xs ys) h), same-bytes xs ys (and-right (eqb x y) (sameBytes xs ys) h))
+same-bytes (x ∷ xs) (y ∷ ys) h =
+    rw (eqb-true x y (and-left (eqb x y) (sameBytes xs ys) h), same-bytes xs ys (and-right (eqb x y) (sameBytes xs ys) h))
 
 same-place : (p q : Place) → samePlace p q ≡ true → p ≡ q
 same-place (pageAt i) (pageAt j) h = ap pageAt (eqb-true i j h)
@@ -91,7 +92,8 @@ same-place (noteAt i) (slotAt j) h = absurd (true-not-false h refl)
 same-place (noteAt i) (recordAt j) h = absurd (true-not-false h refl)
 same-place (noteAt i) (noteAt j) h = ap noteAt (eqb-true i j h)
 
-pub past-cons : (g : Geometry) (k : List Logged) (past : List StoredItem) (x : StoredItem) → ItemFine g k x → Past g k past → Past g k (x ∷ past)
+pub past-cons : (g : Geometry) (k : List Logged) (past : List StoredItem) (x : StoredItem) → ItemFine g k x
+    → Past g k past → Past g k (x ∷ past)
 unfolding storedBefore
 past-cons g k past nothing t f at xs i e = f at xs i e
 past-cons g k past (newHeading tag) t f at xs i e = f at xs i e
@@ -114,7 +116,8 @@ Room g ns = (1 ≤ g .notes) × ((i : ℕ) → i < length ns → length ns ≡ i
 abbrev pub PendingOk : Type 0 → Geometry → List ℕ → List Logged → List Note → PendingNote → Type 0
 PendingOk C g v k ns Absent = Unit {0}
 PendingOk C g v k ns (Present x) =
-    NoteOk (g .pages) (g .slots) k ns (length ns) x × (length ns < mostNotes g) × (isWritten x ≡ false → Faithful g (x .page) k (item g v (slotAt (x .slot)))) × Room g ns
+    NoteOk (g .pages) (g .slots) k ns (length ns) x × (length ns < mostNotes g)
+    × (isWritten x ≡ false → Faithful g (x .page) k (item g v (slotAt (x .slot)))) × Room g ns
     × (C → isWritten x ≡ false → Copy g v (x .page) (x .slot) (x .lsn))
 
 -- a memory of F frames

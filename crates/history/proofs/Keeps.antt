@@ -36,7 +36,8 @@ use Rattle.history.proofs.Disk.{Spare}
 use Rattle.history.proofs.Asked.{notes-room, notes-asked}
 use Rattle.history.proofs.Records.{recOf, recOf-is, Fair, valid-append}
 use Rattle.history.proofs.Inv.{past-cons, past-append, PendingOk, note-append, image-fine, Inv}
-use Rattle.history.proofs.Stores.{record-size, force-holds, force-noted, torn-holds, torn-noted, rec-slots, note-holds, note-noted, note-torn, slot-same, pending-keep, spare-rises}
+use Rattle.history.proofs.Stores.{record-size, force-holds, force-noted, torn-holds, torn-noted, rec-slots, slot-same, pending-keep}
+use Rattle.history.proofs.NoteStores.{note-holds, note-noted, note-torn, spare-rises}
 use Rattle.history.proofs.LogSteps.{oldest-is, oldest-fair, oldest-page, log-force, index-force, index-note}
 use Rattle.history.proofs.FrameSteps.{frames-clean, frames-later}
 use Rattle.history.proofs.Context.{Ctx, Kept, passed, in-range, sized, geo, len, Found, found-frame, keep-same}
@@ -50,7 +51,8 @@ no-note : (n : PendingNote) → notePending n ≡ false → n ≡ Absent
 no-note Absent e = refl
 no-note (Present y) e = absurd (true-not-false refl e)
 
-module _ {C : Type 0} {g : Geometry} {v m : List ℕ} {past : List StoredItem} {s : State} {k w : List Logged} (x : Ctx C g v m past s k w) where
+module _ {C : Type 0} {g : Geometry} {v m : List ℕ} {past : List StoredItem} {s : State} {k w : List Logged}
+    (x : Ctx C g v m past s k w) where
   -- ---- Force: the oldest pending record
 
   module _ (c : Logged) (r : List Logged) (e : w ≡ c ∷ r) where
@@ -77,12 +79,14 @@ module _ {C : Type 0} {g : Geometry} {v m : List ℕ} {past : List StoredItem} {
         rw (oldest, next) (record {
           holds′ = force-holds g v k (x .hs) (x .ns) (x .no) c room new-fair;
           noted′ = force-noted g v k (x .hs) (x .ns) (x .no) c room new-fair spare;
-          past′ = past-cons g (k ++ (c ∷ [])) past (oneItem (logSlot g (suc (length k))) (recOf (k ++ (c ∷ [])) (length k))) (λ z. absurd (true-not-false z refl))
+          past′ = past-cons g (k ++ (c ∷ [])) past (oneItem (logSlot g (suc (length k))) (recOf (k ++ (c ∷ [])) (length k)))
+              (λ z. absurd (true-not-false z refl))
               (past-append g k (c ∷ []) past (x .ps));
           torn′ = λ ys f n. (torn-holds g v k (x .hs) (x .ns) (x .no) ys n f, torn-noted g v k (x .hs) (x .ns) (x .no) ys n f room spare);
         })
 
-    force-pending : PendingOk C g (store g v (logSlot g (s .durable + 1)) (pendingBytes m (s .durable + 1))) (k ++ (c ∷ [])) (x .ns) (s .note)
+    force-pending : PendingOk C g (store g v (logSlot g (s .durable + 1)) (pendingBytes m (s .durable + 1)))
+        (k ++ (c ∷ [])) (x .ns) (s .note)
     force-pending =
         rw (oldest, next)
         (pending-keep C g v (store g v (logSlot g (suc (length k))) (recOf (k ++ (c ∷ [])) (length k))) k (k ++ (c ∷ [])) (x .ns) (s .note)
@@ -96,7 +100,8 @@ module _ {C : Type 0} {g : Geometry} {v m : List ℕ} {past : List StoredItem} {
     page-read : field 2 8 (pendingBytes m (s .durable + 1)) ≡ c .page
     page-read =
         record-page (pendingBytes m (s .durable + 1))
-        ∙ (rw oldest (ap (λ (y : LogRecord). y .page) (recOf-is (g .pages) (k ++ (c ∷ [])) (length k) (sized x .p-high) (omega (arith, room, most-high g (sized x))) new-fair .fields)
+        ∙ (rw oldest (ap (λ (y : LogRecord). y .page)
+        (recOf-is (g .pages) (k ++ (c ∷ [])) (length k) (sized x .p-high) (omega (arith, room, most-high g (sized x))) new-fair .fields)
         ∙ ap (λ (y : Logged). y .page) (atA k c)))
 
     keep-forced : (an : Answer)
@@ -120,10 +125,14 @@ module _ {C : Type 0} {g : Geometry} {v m : List ℕ} {past : List StoredItem} {
               F = x .al .F;
               memory = x .al .memory;
               log = log-force g m (s .durable) (s .pending) k w (x .all) (x .al .log) c r e;
-              frames = frames-later (g .pages) (x .al .F) (x .all) (length k) (s .frames) m (x .al .frames) (x .al .memory .high) (length (k ++ (c ∷ []))) (omega (arith, lenA k c)) (omega (arith, lenA k c, len x, ap length e));
-              index = rw (lenA k c) (index-force (s .index) (x .all) (length k) (x .ns) (length (x .ns)) (x .al .index) (c .page) (s .durable + 1) (page-low .0)
-                  (omega (arith, page-low .1, sized x .p-high)) (oldest-page g m (s .durable) (s .pending) k w (x .all) (x .al .log) c r e) next);
-              displaced = displaced-keep (g .records) (length k) (length (x .all)) (Spare k (x .ns)) (Spare (k ++ (c ∷ [])) (x .ns)) (λ i b z. rw (List·getD-append k (c ∷ []) noLogged i b) z)
+              frames = frames-later (g .pages) (x .al .F) (x .all) (length k) (s .frames) m (x .al .frames) (x .al .memory .high)
+                  (length (k ++ (c ∷ []))) (omega (arith, lenA k c)) (omega (arith, lenA k c, len x, ap length e));
+              index = rw (lenA k c) (index-force (s .index) (x .all) (length k) (x .ns) (length (x .ns)) (x .al .index) (c .page)
+                  (s .durable + 1) (page-low .0)
+                  (omega (arith, page-low .1, sized x .p-high))
+                  (oldest-page g m (s .durable) (s .pending) k w (x .all) (x .al .log) c r e) next);
+              displaced = displaced-keep (g .records) (length k) (length (x .all)) (Spare k (x .ns)) (Spare (k ++ (c ∷ [])) (x .ns))
+                  (λ i b z. rw (List·getD-append k (c ∷ []) noLogged i b) z)
                   (length (k ++ (c ∷ []))) (omega (arith, lenA k c)) (x .al .displaced);
               notes-is = x .al .notes-is;
               note-ok = force-pending;
@@ -148,7 +157,8 @@ module _ {C : Type 0} {g : Geometry} {v m : List ℕ} {past : List StoredItem} {
   some-pending c r e = ne-eqb (s .pending) 0 (λ z. omega (arith, x .al .log .pending-is, ap length e))
 
   pub keep-force : (w′ : List Logged) → w ≡ w′ → Kept C g v past forced (moveFirst k w)
-  keep-force [] e = rw (none-pending e, e) (subst (λ (z : List Logged). Kept C g v past (unchanged Nothing m s) (record { durable = k; pending = z })) e (keep-same x Nothing))
+  keep-force [] e = rw (none-pending e, e)
+      (subst (λ (z : List Logged). Kept C g v past (unchanged Nothing m s) (record { durable = k; pending = z })) e (keep-same x Nothing))
   keep-force (c ∷ r) e = rw (some-pending c r e, e) (keep-forced c r e Done)
 
   -- ---- Write
@@ -187,8 +197,10 @@ module _ {C : Type 0} {g : Geometry} {v m : List ℕ} {past : List StoredItem} {
   unfolding volumeAfter
   keep-write p f = byCases (pageDirty s p) (λ d. rw (d, geo x) (go d)) (λ d. rw d (keep-same x Nothing))
     where
-      go : pageDirty s p ≡ true → Inv C g (store g v (pageAt p) (sealImage g (frameBytes m (holder s p)))) (oneItem (pageAt p) (sealImage g (frameBytes m (holder s p))) ∷ past)
-          (on m (withFrames s (withFrame s (holder s p) p false) (nextNote s p 1 0 (imageLsn (frameBytes m (holder s p)))))) (record { durable = k; pending = w })
+      go : pageDirty s p ≡ true → Inv C g (store g v (pageAt p) (sealImage g (frameBytes m (holder s p))))
+          (oneItem (pageAt p) (sealImage g (frameBytes m (holder s p))) ∷ past)
+          (on m (withFrames s (withFrame s (holder s p) p false) (nextNote s p 1 0 (imageLsn (frameBytes m (holder s p))))))
+          (record { durable = k; pending = w })
       go d =
           let q = f .ready d in
           let fo = f .frame-of in
@@ -205,11 +217,18 @@ module _ {C : Type 0} {g : Geometry} {v m : List ℕ} {past : List StoredItem} {
                 F = x .al .F;
                 memory = x .al .memory;
                 log = x .al .log;
-                frames = rw (row, ← (fo .page-is)) (frames-clean (g .pages) (x .al .F) (x .all) (length k) (s .frames) m (x .al .frames) (x .al .memory .high) (fo .row) (fo .in-table));
+                frames = rw (row, ← (fo .page-is)) (frames-clean (g .pages) (x .al .F) (x .all) (length k) (s .frames) m (x .al .frames)
+                    (x .al .memory .high) (fo .row) (fo .in-table));
                 index = x .al .index;
                 displaced = x .al .displaced;
                 notes-is = x .al .notes-is;
-                note-ok = (write-note x p fo (q .2), notes-room x (q .1), (λ z. absurd (true-not-false refl z)), notes-asked x (q .1), (λ c z. absurd (true-not-false refl z)));
+                note-ok = (
+                  write-note x p fo (q .2),
+                  notes-room x (q .1),
+                  (λ z. absurd (true-not-false refl z)),
+                  notes-asked x (q .1),
+                  (λ c z. absurd (true-not-false refl z)),
+                );
               },
             );
           }
@@ -268,10 +287,12 @@ module _ {C : Type 0} {g : Geometry} {v m : List ℕ} {past : List StoredItem} {
             note-ok = (
               backup-note x p fo (f .forced-to) b (f .slot-low) (f .slot-high) (f .spare),
               notes-room x (f .few),
-              (λ z. rw (slot-same g v k (x .hs) (x .ns) (x .no) b (sealImage g (frameBytes m (holder s p))) (f .slot-low) (f .slot-high) (sealed-size x p fo (f .forced-to)))
+              (λ z. rw (slot-same g v k (x .hs) (x .ns) (x .no) b (sealImage g (frameBytes m (holder s p))) (f .slot-low) (f .slot-high)
+                  (sealed-size x p fo (f .forced-to)))
                   (image-fine g k (sealImage g (frameBytes m (holder s p))) (image-is x p fo (f .forced-to)) p)),
               notes-asked x (f .few),
-              (λ c z. rw (slot-same g v k (x .hs) (x .ns) (x .no) b (sealImage g (frameBytes m (holder s p))) (f .slot-low) (f .slot-high) (sealed-size x p fo (f .forced-to)))
+              (λ c z. rw (slot-same g v k (x .hs) (x .ns) (x .no) b (sealImage g (frameBytes m (holder s p))) (f .slot-low) (f .slot-high)
+                  (sealed-size x p fo (f .forced-to)))
                   (sealed-valid x p fo (f .forced-to), sealed-lsn x p fo (f .forced-to))),
             );
           },
@@ -280,17 +301,23 @@ module _ {C : Type 0} {g : Geometry} {v m : List ℕ} {past : List StoredItem} {
 
   -- ---- Note
 
-  pub note-store : (y : Note) → PendingOk C g v k (x .ns) (Present y) → StoreOk C g v past k (x .ns) (noteSlot g (lastNote s + 1)) (noteBytes y) k (x .ns ++ (y ∷ []))
+  pub note-store : (y : Note) → PendingOk C g v k (x .ns) (Present y)
+      → StoreOk C g v past k (x .ns) (noteSlot g (lastNote s + 1)) (noteBytes y) k (x .ns ++ (y ∷ []))
   note-store y t =
       let e : lastNote s + 1 ≡ suc (length (x .ns)) = omega (arith, x .al .notes-is) in
       rw e (record {
         holds′ = note-holds g v k (x .hs) (x .ns) (x .no) (noteBytes y) (t .3) (note-length y);
         noted′ = note-noted g v k (x .hs) (x .ns) (x .no) y (t .0) (t .1) (t .3) (t .2) (t .4);
-        past′ = past-cons g k past (oneItem (noteSlot g (suc (length (x .ns)))) (noteBytes y)) (λ z. absurd (true-not-false z refl)) (x .ps);
-        torn′ = λ ys f n. (note-holds g v k (x .hs) (x .ns) (x .no) ys (t .3) n, note-torn g v k (x .hs) (x .ns) (x .no) ys (t .3) n f (t .1));
+        past′ = past-cons g k past (oneItem (noteSlot g (suc (length (x .ns)))) (noteBytes y))
+            (λ z. absurd (true-not-false z refl)) (x .ps);
+        torn′ = λ ys f n. (
+          note-holds g v k (x .hs) (x .ns) (x .no) ys (t .3) n,
+          note-torn g v k (x .hs) (x .ns) (x .no) ys (t .3) n f (t .1),
+        );
       })
 
-  pub keep-note : (y : PendingNote) → PendingOk C g v k (x .ns) y → Kept C g v past (noteStored v m s y) (record { durable = k; pending = w })
+  pub keep-note : (y : PendingNote) → PendingOk C g v k (x .ns) y
+      → Kept C g v past (noteStored v m s y) (record { durable = k; pending = w })
   unfolding volumeAfter notedState
   keep-note Absent t = keep-same x Nothing
   keep-note (Present y) t =
@@ -307,8 +334,10 @@ module _ {C : Type 0} {g : Geometry} {v m : List ℕ} {past : List StoredItem} {
             memory = x .al .memory;
             log = x .al .log;
             frames = x .al .frames;
-            index = index-note (s .index) (x .all) (length k) (x .ns) (x .al .index) y (t .0 .low) (omega (arith, t .0 .high, sized x .p-high));
-            displaced = displaced-keep (g .records) (length k) (length (x .all)) (Spare k (x .ns)) (Spare k (x .ns ++ (y ∷ []))) (λ i b z. spare-rises g v k (x .hs) (x .ns) (x .no) y (t .0) k i z)
+            index = index-note (s .index) (x .all) (length k) (x .ns) (x .al .index) y (t .0 .low)
+                (omega (arith, t .0 .high, sized x .p-high));
+            displaced = displaced-keep (g .records) (length k) (length (x .all)) (Spare k (x .ns)) (Spare k (x .ns ++ (y ∷ [])))
+                (λ i b z. spare-rises g v k (x .hs) (x .ns) (x .no) y (t .0) k i z)
                 (length k) (omega arith) (x .al .displaced);
             notes-is = rw (lenN (x .ns) y) (omega (arith, x .al .notes-is));
             note-ok = tt;

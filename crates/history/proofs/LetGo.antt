@@ -51,10 +51,12 @@ use Rattle.history.proofs.Reached.{present, tied, live}
 -- what a call that took page p out of its frame leaves, in a machine that keeps the invariant
 record Leaves (g : Geometry) (v m : List ℕ) (s : State) (p : ℕ) (o : Outcome) : Type 0 where
   volume : volumeAfter v (o .stored) ≡ v
-  text : (f : ℕ) → refusalOf (loadOf v (o .memory) (o .state) p f .answer) ≡ 0 → frameBytes (loadOf v (o .memory) (o .state) p f .memory) f ≡ frameBytes m (holder s p)
+  text : (f : ℕ) → refusalOf (loadOf v (o .memory) (o .state) p f .answer) ≡ 0
+      → frameBytes (loadOf v (o .memory) (o .state) p f .memory) f ≡ frameBytes m (holder s p)
   opens : (f : ℕ) → 1 ≤ f → f ≤ frameCount (length (o .memory)) → frameBlocked (o .state) f ≡ false
       → (gone g v ≡ true → startStands g v (entryOf (indexOf g v) p) p ≡ true) → refusalOf (loadOf v (o .memory) (o .state) p f .answer) ≡ 0
-  below : (f : ℕ) → refusalOf (loadOf v (o .memory) (o .state) p f .answer) ≡ 23 → (gone g v ≡ true) × (startStands g v (entryOf (indexOf g v) p) p ≡ true → ⊥)
+  below : (f : ℕ) → refusalOf (loadOf v (o .memory) (o .state) p f .answer) ≡ 23
+      → (gone g v ≡ true) × (startStands g v (entryOf (indexOf g v) p) p ≡ true → ⊥)
 
 module _ {C : Type 0} {g : Geometry} {v m : List ℕ} {past : List StoredItem} {s : State} {k w : List Logged} (x : Ctx C g v m past s k w)
     (p : ℕ) (lo : 1 ≤ p) (hi : p ≤ g .pages) (before : held s p ≡ true) where
@@ -73,13 +75,15 @@ module _ {C : Type 0} {g : Geometry} {v m : List ℕ} {past : List StoredItem} {
   free : lastOf p (x .all) ≡ lastOf p k → frameBlocked s (holder s p) ≡ false
   free e =
       let en = entry-is x p lo hi in
-      rw (at-page, ne-eqb p 0 (λ z. omega arith)) (le-ltb (entryOf (s .index) p .durable) (entryOf (s .index) p .last) (omega (arith, ap (λ (y : Entry). y .last) en, ap (λ (y : Entry). y .durable) en, durable-last x p lo hi)))
+      rw (at-page, ne-eqb p 0 (λ z. omega arith)) (le-ltb (entryOf (s .index) p .durable) (entryOf (s .index) p .last)
+      (omega (arith, ap (λ (y : Entry). y .last) en, ap (λ (y : Entry). y .durable) en, durable-last x p lo hi)))
 
   blocked : lastOf p (x .all) ≢ lastOf p k → frameBlocked s (holder s p) ≡ true
   blocked ne =
       let en = entry-is x p lo hi in
       let l = last-mono p (x .all) (length (x .all)) (length k) (omega (arith, len x)) in
-      rw (at-page, ne-eqb p 0 (λ z. omega arith)) (lt-ltb (entryOf (s .index) p .durable) (entryOf (s .index) p .last) (omega (arith, ap (λ (y : Entry). y .last) en, ap (λ (y : Entry). y .durable) en, durable-last x p lo hi)))
+      rw (at-page, ne-eqb p 0 (λ z. omega arith)) (lt-ltb (entryOf (s .index) p .durable) (entryOf (s .index) p .last)
+      (omega (arith, ap (λ (y : Entry). y .last) en, ap (λ (y : Entry). y .durable) en, durable-last x p lo hi)))
 
   -- the page is in no frame once its row is emptied
   abbrev freed : State
@@ -91,13 +95,17 @@ module _ {C : Type 0} {g : Geometry} {v m : List ℕ} {past : List StoredItem} {
       other : Holder p (freed .frames) (holder freed p) → ⊥
       other r = elim (ℕ-discrete (r .row) (holder s p - 1)) [
         | yes e ↦
-            let z : 0 ≡ p = sym (ap (λ (y : Frame). y .page) (getD-set-same (s .frames) (holder s p - 1) emptyFrame emptyFrame (omega (arith, found-at .holder-is, found-at .in-table, x .al .memory .high, x .al .frames .size))))
+            let z : 0 ≡ p = sym (ap (λ (y : Frame). y .page) (getD-set-same (s .frames) (holder s p - 1) emptyFrame emptyFrame
+            (omega (arith, found-at .holder-is, found-at .in-table, x .al .memory .high, x .al .frames .size))))
             ∙ rw e at (r .page-is) in
             omega arith
         | no e ↦
-            let q : frame (s .frames) (r .row) .page ≡ p = rw (getD-set-other (s .frames) (holder s p - 1) (r .row) emptyFrame emptyFrame e) at (r .page-is) in
-            let b : r .row < x .al .F = x .al .frames .inside (r .row) (omega (arith, r .below, length-set (s .frames) (holder s p - 1) emptyFrame, x .al .frames .size)) (λ z. omega arith) in
-            let o : r .row ≡ found-at .row = x .al .frames .once (r .row) (found-at .row) b (found-at .in-table) (λ z. omega arith) (q ∙ sym (found-at .page-is)) in
+            let q : frame (s .frames) (r .row) .page ≡ p =
+            rw (getD-set-other (s .frames) (holder s p - 1) (r .row) emptyFrame emptyFrame e) at (r .page-is) in
+            let b : r .row < x .al .F = x .al .frames .inside (r .row)
+            (omega (arith, r .below, length-set (s .frames) (holder s p - 1) emptyFrame, x .al .frames .size)) (λ z. omega arith) in
+            let o : r .row ≡ found-at .row =
+            x .al .frames .once (r .row) (found-at .row) b (found-at .in-table) (λ z. omega arith) (q ∙ sym (found-at .page-is)) in
             e (omega (arith, found-at .holder-is))
       ]
 
@@ -112,14 +120,17 @@ module _ {C : Type 0} {g : Geometry} {v m : List ℕ} {past : List StoredItem} {
   unfolding beginRows
   other-page page f e z =
       let t = passed (beginRows v m s page f) (omega arith) e in
-      let n : entryOf (s .index) p .last ≡ 0 = rw z (eqb-true (entryOf (s .index) page .last) 0 (not-false (blank s page) (t .1 .1 .1 .1 .1 .0))) in
+      let n : entryOf (s .index) p .last ≡ 0 =
+      rw z (eqb-true (entryOf (s .index) page .last) 0 (not-false (blank s page) (t .1 .1 .1 .1 .1 .0))) in
       omega (arith, last-entry x p lo hi, found-at .framed .some)
 
   -- ---- a Load of the page, in a machine in which it is in no frame and has the changes that it had
 
-  module _ {m′ : List ℕ} {past′ : List StoredItem} {s′ : State} {k′ w′ : List Logged} (x′ : Ctx C g v m′ past′ s′ k′ w′) (after : held s′ p ≡ false)
+  module _ {m′ : List ℕ} {past′ : List StoredItem} {s′ : State} {k′ w′ : List Logged} (x′ : Ctx C g v m′ past′ s′ k′ w′)
+      (after : held s′ p ≡ false)
       (same-last : lastOf p (k′ ++ w′) ≡ lastOf p (k ++ w)) (same-body : bodyOf p (k′ ++ w′) ≡ bodyOf p (k ++ w)) where
-    again-text : (f : ℕ) → refusalOf (loadOf v m′ s′ p f .answer) ≡ 0 → frameBytes (loadOf v m′ s′ p f .memory) f ≡ frameBytes m (holder s p)
+    again-text : (f : ℕ) → refusalOf (loadOf v m′ s′ p f .answer) ≡ 0
+        → frameBytes (loadOf v m′ s′ p f .memory) f ≡ frameBytes m (holder s p)
     again-text f e =
         let b = loaded-bytes x′ p f (sym (load-refusal x′ p f) ∙ e) in
         b .1 ∙ (rw (← (b .2), ← (b .3), same-last, same-body, ← (x .al .log .split)) (sym (found-at .framed .frame-is)))
@@ -140,10 +151,20 @@ module _ {C : Type 0} {g : Geometry} {v m : List ℕ} {past : List StoredItem} {
     unfolding ownRows
     again-opens f f1 f2 t q =
         load-refusal x′ p f ∙ (rows-are x′ (load p f)
-        ∙ rw (geo x′, within-holds (g .pages) p lo hi, within-holds (frameCount (length m′)) f f1 f2, ne-eqb (entryOf (s′ .index) p .last) 0 (λ z. some (sym (last-entry x′ p lo hi) ∙ z)), after, t, load-unbroken x′ p lo hi settled some, not-below q))
+        ∙ rw (
+          geo x′,
+          within-holds (g .pages) p lo hi,
+          within-holds (frameCount (length m′)) f f1 f2,
+          ne-eqb (entryOf (s′ .index) p .last) 0 (λ z. some (sym (last-entry x′ p lo hi) ∙ z)),
+          after,
+          t,
+          load-unbroken x′ p lo hi settled some,
+          not-below q,
+        ))
 
     again : (o : Outcome) → o .memory ≡ m′ → o .state ≡ s′ → volumeAfter v (o .stored) ≡ v → Leaves g v m s p o
-    again o em es ev = rw (em, es) (record { volume = ev; text = again-text; opens = again-opens; below = λ f e. below-only x′ p f (sym (load-refusal x′ p f) ∙ e) })
+    again o em es ev = rw (em, es)
+        (record { volume = ev; text = again-text; opens = again-opens; below = λ f e. below-only x′ p f (sym (load-refusal x′ p f) ∙ e) })
 
   -- ---- the calls that take a page out of its frame
 
@@ -151,10 +172,12 @@ module _ {C : Type 0} {g : Geometry} {v m : List ℕ} {past : List StoredItem} {
   by-table : (rows : List Row) (done : Outcome) → (firstOf rows ≡ 0 → held (done .state) p ≡ false → Leaves g v m s p done)
       → held (decided rows m s done .state) p ≡ false → Leaves g v m s p (decided rows m s done)
   by-table rows done f h =
-      byCases (eqb (firstOf rows) 0) (λ t. rw t (f (eqb-true (firstOf rows) 0 t) (rw t at h))) (λ t. absurd (true-not-false before (rw t at h)))
+      byCases (eqb (firstOf rows) 0) (λ t. rw t (f (eqb-true (firstOf rows) 0 t) (rw t at h)))
+      (λ t. absurd (true-not-false before (rw t at h)))
 
   after-kept : (o : Outcome) (b : AbstractLog) → o .stored ≡ nothing → Kept C g v past o b → held (o .state) p ≡ false
-      → lastOf p (b .durable ++ b .pending) ≡ lastOf p (k ++ w) → bodyOf p (b .durable ++ b .pending) ≡ bodyOf p (k ++ w) → Leaves g v m s p o
+      → lastOf p (b .durable ++ b .pending) ≡ lastOf p (k ++ w)
+      → bodyOf p (b .durable ++ b .pending) ≡ bodyOf p (k ++ w) → Leaves g v m s p o
   unfolding volumeAfter
   after-kept o b none i h el eb =
       let i′ : Inv C g v (nothing ∷ past) (on (o .memory) (o .state)) b = rw none at i in
@@ -187,7 +210,8 @@ module _ {C : Type 0} {g : Geometry} {v m : List ℕ} {past : List StoredItem} {
 
   still : (s′ : State) → SameRows s′ → held s′ p ≡ true
   still s′ e =
-      is-held s′ p (holder s p - 1) (omega (arith, e .0, found-at .holder-is, found-at .in-table, x .al .memory .high, x .al .frames .size)) (e .1 (holder s p - 1) ∙ at-page)
+      is-held s′ p (holder s p - 1) (omega (arith, e .0, found-at .holder-is, found-at .in-table, x .al .memory .high, x .al .frames .size))
+      (e .1 (holder s p - 1) ∙ at-page)
 
   stays : (o : Outcome) → SameRows (o .state) → held (o .state) p ≡ false → Leaves g v m s p o
   stays o e h = absurd (true-not-false (still (o .state) e) h)
@@ -201,7 +225,12 @@ module _ {C : Type 0} {g : Geometry} {v m : List ℕ} {past : List StoredItem} {
     put-same i = elim (ℕ-discrete i (holder s q - 1)) [
       | yes e ↦
           let r : holder s q - 1 ≡ row-of .row = omega (arith, row-of .holder-is) in
-          rw (e, getD-set-same (s .frames) (holder s q - 1) (record { page = q; dirty = t }) emptyFrame (omega (arith, row-of .holder-is, row-of .in-table, x .al .memory .high, x .al .frames .size)), r)
+          rw (
+            e,
+            getD-set-same (s .frames) (holder s q - 1) (record { page = q; dirty = t }) emptyFrame
+                (omega (arith, row-of .holder-is, row-of .in-table, x .al .memory .high, x .al .frames .size)),
+            r,
+          )
           (sym (row-of .page-is))
       | no e ↦ ap (λ (y : Frame). y .page) (getD-set-other (s .frames) (holder s q - 1) i (record { page = q; dirty = t }) emptyFrame e)
     ]
@@ -214,16 +243,19 @@ module _ {C : Type 0} {g : Geometry} {v m : List ℕ} {past : List StoredItem} {
       let t = passed (changeRows v m s page c) (omega arith) e in
       let q = in-range (geometryOf v .pages) page (t .1 .1 .1 .0) in
       stays _ (length-set (s .frames) (holder s page - 1) _, put-same page (q .0) (t .1 .1 .1 .1 .1 .0) true) h)
-  leaves force = by-table (forceRows v m s) _ (λ e. byCases (eqb (s .pending) 0) (λ t. rw t (stays _ (refl, λ i. refl))) (λ t. rw t (stays _ (refl, λ i. refl))))
+  leaves force = by-table (forceRows v m s) _
+      (λ e. byCases (eqb (s .pending) 0) (λ t. rw t (stays _ (refl, λ i. refl))) (λ t. rw t (stays _ (refl, λ i. refl))))
   leaves (write page) = by-table (writeRows v m s page) _ (λ e.
       let t = passed (writeRows v m s page) (omega arith) e in
       let q = in-range (geometryOf v .pages) page (t .1 .1 .1 .0) in
       byCases (pageDirty s page)
-      (λ d. rw d (stays _ (length-set (s .frames) (holder s page - 1) _, put-same page (q .0) (t .1 .1 .1 .1 .0) false))) (λ d. rw d (stays _ (refl, λ i. refl))))
+      (λ d. rw d (stays _ (length-set (s .frames) (holder s page - 1) _, put-same page (q .0) (t .1 .1 .1 .1 .0) false)))
+      (λ d. rw d (stays _ (refl, λ i. refl))))
   leaves (backup page b) = by-table (backupRows v m s page b) _ (λ e. stays _ (refl, λ i. refl))
   leaves (release page) = release-leaves page
   leaves startCarry = by-table (startCarryRows v m s) _ (λ e. stays _ (refl, λ i. refl))
-  leaves restamp = by-table (restampRows v m s) _ (λ e. byCases (ltb (firstOld (geometryOf v) v (s .index)) (imageCount (geometryOf v))) (λ t. rw t (stays _ (refl, λ i. refl))) (λ t. rw t (stays _ (refl, λ i. refl))))
+  leaves restamp = by-table (restampRows v m s) _ (λ e. byCases (ltb (firstOld (geometryOf v) v (s .index)) (imageCount (geometryOf v)))
+      (λ t. rw t (stays _ (refl, λ i. refl))) (λ t. rw t (stays _ (refl, λ i. refl))))
   leaves finishCarry = by-table (finishCarryRows v m s) _ (λ e. stays _ (refl, λ i. refl))
   leaves note = by-table (noteRows v m s) (noteStored v m s (s .note)) (λ e. noted (s .note))
     where
@@ -241,14 +273,17 @@ module _ (h : History) (legal : Legal h) (m : List ℕ) (s : State) (e : reached
   releases-is p lo hi t =
       let x = live h legal m s e in
       let sp : x .all ≡ durableOf h ++ logOf h .pending = x .al .log .split in
-      let r : refusalOf (releaseOf (volumeOf h) m s p .answer) ≡ cond (frameBlocked s (holder s p)) 10 0 = call-refusal (release p) (volumeOf h) m s ∙ release-rows x p lo hi t in
+      let r : refusalOf (releaseOf (volumeOf h) m s p .answer) ≡ cond (frameBlocked s (holder s p)) 10 0 =
+      call-refusal (release p) (volumeOf h) m s ∙ release-rows x p lo hi t in
       record {
         free = λ z. r ∙ rw (free x p lo hi t (rw sp (sym (last-is p (durableOf h ++ logOf h .pending)) ∙ (z ∙ last-is p (durableOf h)))));
-        blocked = λ z. r ∙ rw (blocked x p lo hi t (λ y. z (last-is p (durableOf h ++ logOf h .pending) ∙ (rw (← sp) (y ∙ sym (last-is p (durableOf h)))))));
+        blocked = λ z. r ∙ rw (blocked x p lo hi t
+            (λ y. z (last-is p (durableOf h ++ logOf h .pending) ∙ (rw (← sp) (y ∙ sym (last-is p (durableOf h)))))));
         gone = release-empties x p lo hi t;
       }
 
-  pub lets-go : (c : Call) → (p : ℕ) → 1 ≤ p → p ≤ h .pages → held s p ≡ true → held (outcomeOf c (volumeOf h) m s .state) p ≡ false → LetGo h m s c p
+  pub lets-go : (c : Call) → (p : ℕ) → 1 ≤ p → p ≤ h .pages → held s p ≡ true
+      → held (outcomeOf c (volumeOf h) m s .state) p ≡ false → LetGo h m s c p
   lets-go c p lo hi t f =
       let l = leaves (live h legal m s e) p lo hi t c f in
       record { volume = l .volume; text = l .text; opens = rw heading (l .opens); below = rw heading (l .below) }

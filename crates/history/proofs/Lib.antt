@@ -5,9 +5,12 @@ pub mod Records
 pub mod Sections
 pub mod Runs
 pub mod Disk
+pub mod LogScan
+pub mod NoteScan
 pub mod Walk
 pub mod Inv
 pub mod Stores
+pub mod NoteStores
 pub mod Turn
 pub mod Carry
 pub mod Memory

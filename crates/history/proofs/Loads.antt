@@ -30,7 +30,8 @@ use Rattle.history.proofs.Memory.{frame-count, frame-memory, frame-same
 use Rattle.history.proofs.FrameSteps.{frames-put}
 use Rattle.history.proofs.Views.{view-unbroken, view-body, view-whole, view-granted, Unserved, below-exact, exact-below}
 use Rattle.history.proofs.Entries.{markAt, entryFrom}
-use Rattle.history.proofs.Disk.{first, index-is}
+use Rattle.history.proofs.NoteScan.{index-is}
+use Rattle.history.proofs.LogScan.{first}
 use Rattle.history.proofs.Context.{Ctx, Kept, Passed, passed, in-range, sized, geo, fair, few, body-size, entry-is, last-entry, durable-last, durable-page, durable-body, nowhere, unblocked}
 
 -- the rows before a row whose number is answered do not hold, and it does
@@ -46,7 +47,8 @@ none-other n nz (t ∷ ts) o = pick (t .0) (t .1) (firstOf ts) (o .0) (none-othe
     pick true m k p q = p
     pick false m k p q = q
 
-pub until : (n : ℕ) (ts : List Row) (b : Bool) (rest : List Row) → Others n ts → Others n rest → n ≢ 0 → firstOf (ts ++ ((b, n) ∷ rest)) ≡ n → Passed ts × (b ≡ true)
+pub until : (n : ℕ) (ts : List Row) (b : Bool) (rest : List Row) → Others n ts → Others n rest → n ≢ 0 → firstOf (ts ++ ((b, n) ∷ rest)) ≡ n
+    → Passed ts × (b ≡ true)
 until n [] b rest o r nz e = (tt, go b (firstOf rest) (none-other n nz rest r) e)
   where
     go : (b : Bool) (k : ℕ) → k ≢ n → cond b n k ≡ n → b ≡ true
@@ -61,16 +63,19 @@ until n (t ∷ ts) b rest o r nz e =
     go true m k ne e = absurd (ne e)
     go false m k ne e = (refl, e)
 
-module _ {C : Type 0} {g : Geometry} {v m : List ℕ} {past : List StoredItem} {s : State} {k w : List Logged} (x : Ctx C g v m past s k w) where
+module _ {C : Type 0} {g : Geometry} {v m : List ℕ} {past : List StoredItem} {s : State} {k w : List Logged}
+    (x : Ctx C g v m past s k w) where
   -- a page with a change and none that is pending
   module _ (page : ℕ) (lo : 1 ≤ page) (hi : page ≤ g .pages) (st : Settled (x .all) (length k) page) (nz : lastOf page (x .all) ≢ 0) where
     abbrev Restored : ℕ → Type 0
     Restored p =
         (isBroken (walkOf g p (viewOf g v (firstHeld g v (s .durable)) (entryOf (s .index) p) p) .stop) ≡ false)
         × (isBelow (walkOf g p (viewOf g v (firstHeld g v (s .durable)) (entryOf (s .index) p) p) .stop) ≡ false
-        → rebuilt g p (viewOf g v (firstHeld g v (s .durable)) (entryOf (s .index) p) p) ≡ frameImage p (lastOf p (x .all)) (bodyOf p (x .all)))
+        → rebuilt g p (viewOf g v (firstHeld g v (s .durable)) (entryOf (s .index) p) p)
+        ≡ frameImage p (lastOf p (x .all)) (bodyOf p (x .all)))
         × (gone g v ≡ false → isBelow (walkOf g p (viewOf g v (firstHeld g v (s .durable)) (entryOf (s .index) p) p) .stop) ≡ false)
-        × (startStands g v (entryOf (indexOf g v) p) p ≡ true → isBelow (walkOf g p (viewOf g v (firstHeld g v (s .durable)) (entryOf (s .index) p) p) .stop) ≡ false)
+        × (startStands g v (entryOf (indexOf g v) p) p ≡ true
+        → isBelow (walkOf g p (viewOf g v (firstHeld g v (s .durable)) (entryOf (s .index) p) p) .stop) ≡ false)
 
     restored : (n : ℕ) → lastOf page (x .all) ≡ n → Restored page
     restored zero q = absurd (nz q)
@@ -84,17 +89,20 @@ module _ {C : Type 0} {g : Geometry} {v m : List ℕ} {past : List StoredItem} {
         let last : lastOf page k ≡ suc j = sym (durable-last x page lo hi) ∙ d in
         let found : entryOf (indexOf g v) page ≡ entryFrom (lastOf page k) (lastOf page k) (markAt page (x .ns) (length (x .ns))) =
         index-is g v k (x .hs) (x .ns) (x .no) .entry page lo (omega (arith, sized x .p-high)) in
-        rw (x .al .log .durable-is, entry-is x page lo hi, d, q, found) (vu, λ z. ap (frameImage page (suc j)) (vb z ∙ sym (durable-body x page j q b)), vw, λ t. vg t last)
+        rw (x .al .log .durable-is, entry-is x page lo hi, d, q, found)
+        (vu, λ z. ap (frameImage page (suc j)) (vb z ∙ sym (durable-body x page j q b)), vw, λ t. vg t last)
 
     pub load-unbroken : chainBroken g v s page ≡ false
     load-unbroken = restored (lastOf page (x .all)) refl .0
 
     pub load-image : chainBelow g v s page ≡ false
-        → rebuilt g page (viewOf g v (firstHeld g v (s .durable)) (entryOf (s .index) page) page) ≡ frameImage page (lastOf page (x .all)) (bodyOf page (x .all))
+        → rebuilt g page (viewOf g v (firstHeld g v (s .durable)) (entryOf (s .index) page) page)
+        ≡ frameImage page (lastOf page (x .all)) (bodyOf page (x .all))
     load-image = restored (lastOf page (x .all)) refl .1
 
     -- 23, exactly
-    exactly : (n : ℕ) → lastOf page (x .all) ≡ n → (chainBelow g v s page ≡ true) ↔ Unserved g v k (entryOf (indexOf g v) page) page (first g v k (x .hs) (x .ns) (x .no))
+    exactly : (n : ℕ) → lastOf page (x .all) ≡ n
+        → (chainBelow g v s page ≡ true) ↔ Unserved g v k (entryOf (indexOf g v) page) page (first g v k (x .hs) (x .ns) (x .no))
     exactly zero q = absurd (nz q)
     exactly (suc j) q =
         let d : lastAt page (x .all) (length k) ≡ suc j = sym st ∙ q in
@@ -103,8 +111,10 @@ module _ {C : Type 0} {g : Geometry} {v m : List ℕ} {past : List StoredItem} {
         let last : lastOf page k ≡ suc j = sym (durable-last x page lo hi) ∙ d in
         let found : entryOf (indexOf g v) page ≡ entryFrom (lastOf page k) (lastOf page k) (markAt page (x .ns) (length (x .ns))) =
         index-is g v k (x .hs) (x .ns) (x .no) .entry page lo (omega (arith, sized x .p-high)) in
-        rw (x .al .log .durable-is, entry-is x page lo hi, d, found)
-        (below-exact g v k (x .hs) (x .ns) (x .no) (suc j) j page lo hi b pg last, exact-below g v k (x .hs) (x .ns) (x .no) (suc j) j page lo hi b pg last)
+        rw (x .al .log .durable-is, entry-is x page lo hi, d, found) (
+          below-exact g v k (x .hs) (x .ns) (x .no) (suc j) j page lo hi b pg last,
+          exact-below g v k (x .hs) (x .ns) (x .no) (suc j) j page lo hi b pg last,
+        )
 
     pub load-exact : (chainBelow g v s page ≡ true) ↔ Unserved g v k (entryOf (indexOf g v) page) page (first g v k (x .hs) (x .ns) (x .no))
     load-exact = exactly (lastOf page (x .all)) refl
@@ -126,7 +136,8 @@ module _ {C : Type 0} {g : Geometry} {v m : List ℕ} {past : List StoredItem} {
     pub settled : Settled (x .all) (length k) page
     pub spare : frame (s .frames) (f - 1) .page ≢ 0 → Settled (x .all) (length k) (frame (s .frames) (f - 1) .page)
 
-  loaded-from : (page f : ℕ) → not (within (geometryOf v .pages) page) ≡ false → not (within (frameCount (length m)) f) ≡ false → blank s page ≡ false → held s page ≡ false
+  loaded-from : (page f : ℕ) → not (within (geometryOf v .pages) page) ≡ false → not (within (frameCount (length m)) f) ≡ false
+      → blank s page ≡ false → held s page ≡ false
       → frameBlocked s f ≡ false → Loaded page f
   loaded-from page f t₁ t₂ t₃ t₄ t₅ =
       let r : (1 ≤ page) × (page ≤ g .pages) = rw (geo x) at (in-range (geometryOf v .pages) page t₁) in
@@ -160,25 +171,31 @@ module _ {C : Type 0} {g : Geometry} {v m : List ℕ} {past : List StoredItem} {
   never-broken page f e =
       let h : Geometry = geometryOf v in
       let u = until 19
-      ((not (validVolume v), 1) ∷ (not (validMemory (length m)), 2) ∷ (not (wellFormed h (frameCount (length m)) s), 2) ∷ (not (within (h .pages) page), 3)
+      ((not (validVolume v), 1) ∷ (not (validMemory (length m)), 2) ∷ (not (wellFormed h (frameCount (length m)) s), 2)
+      ∷ (not (within (h .pages) page), 3)
       ∷ (not (within (frameCount (length m)) f), 4) ∷ (blank s page, 7) ∷ (held s page, 9) ∷ (frameBlocked s f, 10) ∷ [])
       (chainBroken h v s page) ((chainBelow h v s page, 23) ∷ []) (omega arith) (omega arith) (λ z. omega arith) e in
       let t = u .0 in
-      let l = loaded-from page f (t .1 .1 .1 .0) (t .1 .1 .1 .1 .0) (t .1 .1 .1 .1 .1 .0) (t .1 .1 .1 .1 .1 .1 .0) (t .1 .1 .1 .1 .1 .1 .1 .0) in
+      let l = loaded-from page f (t .1 .1 .1 .0) (t .1 .1 .1 .1 .0) (t .1 .1 .1 .1 .1 .0) (t .1 .1 .1 .1 .1 .1 .0)
+      (t .1 .1 .1 .1 .1 .1 .1 .0) in
       let b : chainBroken g v s page ≡ true = rw (geo x) at (u .1) in
       true-not-false b (load-unbroken page (l .low) (l .high) (l .settled) (l .some))
 
   -- 23 comes only where record 1 has left and the proviso fails
-  pub below-only : (page f : ℕ) → firstOf (loadRows v m s page f) ≡ 23 → (gone g v ≡ true) × (startStands g v (entryOf (indexOf g v) page) page ≡ true → ⊥)
+  pub below-only : (page f : ℕ) → firstOf (loadRows v m s page f) ≡ 23
+      → (gone g v ≡ true) × (startStands g v (entryOf (indexOf g v) page) page ≡ true → ⊥)
   unfolding loadRows
   below-only page f e =
       let h : Geometry = geometryOf v in
       let u = until 23
-      ((not (validVolume v), 1) ∷ (not (validMemory (length m)), 2) ∷ (not (wellFormed h (frameCount (length m)) s), 2) ∷ (not (within (h .pages) page), 3)
-      ∷ (not (within (frameCount (length m)) f), 4) ∷ (blank s page, 7) ∷ (held s page, 9) ∷ (frameBlocked s f, 10) ∷ (chainBroken h v s page, 19) ∷ [])
+      ((not (validVolume v), 1) ∷ (not (validMemory (length m)), 2) ∷ (not (wellFormed h (frameCount (length m)) s), 2)
+      ∷ (not (within (h .pages) page), 3)
+      ∷ (not (within (frameCount (length m)) f), 4) ∷ (blank s page, 7) ∷ (held s page, 9) ∷ (frameBlocked s f, 10)
+      ∷ (chainBroken h v s page, 19) ∷ [])
       (chainBelow h v s page) [] (omega arith) tt (λ z. omega arith) e in
       let t = u .0 in
-      let l = loaded-from page f (t .1 .1 .1 .0) (t .1 .1 .1 .1 .0) (t .1 .1 .1 .1 .1 .0) (t .1 .1 .1 .1 .1 .1 .0) (t .1 .1 .1 .1 .1 .1 .1 .0) in
+      let l = loaded-from page f (t .1 .1 .1 .0) (t .1 .1 .1 .1 .0) (t .1 .1 .1 .1 .1 .0) (t .1 .1 .1 .1 .1 .1 .0)
+      (t .1 .1 .1 .1 .1 .1 .1 .0) in
       let b : chainBelow g v s page ≡ true = rw (geo x) at (u .1) in (
         byCases (gone g v) (λ z. z) (λ z. absurd (true-not-false b (load-whole page (l .low) (l .high) (l .settled) (l .some) z))),
         λ z. true-not-false b (load-granted page (l .low) (l .high) (l .settled) (l .some) z),
@@ -188,7 +205,8 @@ module _ {C : Type 0} {g : Geometry} {v m : List ℕ} {past : List StoredItem} {
       → Kept C g v past (record {
         answer = an;
         state = withFrames s (withFrame s f page t) (s .note);
-        memory = splice m (frameAt f) (rebuilt (geometryOf v) page (viewOf (geometryOf v) v (firstHeld (geometryOf v) v (s .durable)) (entryOf (s .index) page) page));
+        memory = splice m (frameAt f) (rebuilt (geometryOf v) page
+            (viewOf (geometryOf v) v (firstHeld (geometryOf v) v (s .durable)) (entryOf (s .index) page) page));
         stored = nothing;
       }) (record { durable = k; pending = w })
   unfolding volumeAfter
@@ -201,7 +219,12 @@ module _ {C : Type 0} {g : Geometry} {v m : List ℕ} {past : List StoredItem} {
       rw (geo x, im) (go l (frameImage page (lastOf page (x .all)) (bodyOf page (x .all))) sz refl)
     where
       go : Loaded page f → (image : List ℕ) → length image ≡ 256 → image ≡ frameImage page (lastOf page (x .all)) (bodyOf page (x .all))
-          → Kept C g v past (record { answer = an; state = withFrames s (withFrame s f page t) (s .note); memory = splice m (frameAt f) image; stored = nothing }) (record { durable = k; pending = w })
+          → Kept C g v past (record {
+            answer = an;
+            state = withFrames s (withFrame s f page t) (s .note);
+            memory = splice m (frameAt f) image;
+            stored = nothing;
+          }) (record { durable = k; pending = w })
       go l image sz im =
           record {
             ns = x .ns;
@@ -220,17 +243,21 @@ module _ {C : Type 0} {g : Geometry} {v m : List ℕ} {past : List StoredItem} {
                   room = x .al .log .room;
                   fair = x .al .log .fair;
                   few = x .al .log .few;
-                  waits = λ i a b. frame-pending (x .al .F) m (x .al .memory) f image (l .frame-low) (l .frame-high) sz (suc i) ∙ x .al .log .waits i a b;
+                  waits = λ i a b. frame-pending (x .al .F) m (x .al .memory) f image (l .frame-low) (l .frame-high) sz (suc i)
+                      ∙ x .al .log .waits i a b;
                 };
-                frames = frames-put (g .pages) (x .al .F) (x .all) (length k) (s .frames) m (x .al .frames) (x .al .memory .high) (x .all) (splice m (frameAt f) image) (f - 1) page t
+                frames = frames-put (g .pages) (x .al .F) (x .all) (length k) (s .frames) m (x .al .frames) (x .al .memory .high) (x .all)
+                    (splice m (frameAt f) image) (f - 1) page t
                     (omega (arith, l .frame-low, l .frame-high))
                     (record {
                       low = l .low;
                       high = l .high;
                       some = let nz = l .some in omega arith;
-                      frame-is = let e : suc (f - 1) ≡ f = omega (arith, l .frame-low) in rw e (frame-same (x .al .F) m (x .al .memory) f image (l .frame-low) (l .frame-high) sz ∙ im);
+                      frame-is = let e : suc (f - 1) ≡ f = omega (arith, l .frame-low) in
+                          rw e (frame-same (x .al .F) m (x .al .memory) f image (l .frame-low) (l .frame-high) sz ∙ im);
                     })
-                    (λ i b ne. frame-other (x .al .F) m (x .al .memory) f image (l .frame-low) (l .frame-high) sz (suc i) (omega arith) (omega arith))
+                    (λ i b ne. frame-other (x .al .F) m (x .al .memory) f image (l .frame-low) (l .frame-high) sz (suc i)
+                    (omega arith) (omega arith))
                     (λ q ne. (refl, refl, refl)) (λ i b ne. l .absent i b) (λ a b. l .spare a);
                 index = x .al .index;
                 displaced = x .al .displaced;

@@ -1,6 +1,6 @@
--- Theorem A, last part: every record below the run is spare, and every record that a pending one will displace is durable and spare. And the
--- base's demand 3 as an instance: a history on a volume that is no ring is safe. Theorem C: a history without damage, and in which no Restamp
--- of a noted backup was left torn, is safe.
+-- Theorem A, last part: every record below the run is spare, and every record that a pending one will displace is durable and spare. And
+-- the base's demand 3 as an instance: a history on a volume that is no ring is safe. Theorem C: a history without damage, and in which no
+-- Restamp of a noted backup was left torn, is safe.
 use mathlib.Core.Path.{_≡_, refl, sym, ap, _∙_, subst}
 use mathlib.Core.Logic.{_≢_, _↔_}
 use mathlib.Core.Bool.{Bool, true, false, cond, _&&_}
@@ -27,7 +27,8 @@ use Rattle.history.proofs.Logs.{at, lastOf}
 use Rattle.history.proofs.Entries.{markAt, entryFrom}
 use Rattle.history.proofs.Records.{Fair}
 use Rattle.history.proofs.Sections.{volume-sized}
-use Rattle.history.proofs.Disk.{first, first-is, started, durable-count, index-is}
+use Rattle.history.proofs.NoteScan.{index-is}
+use Rattle.history.proofs.LogScan.{first, first-is, started, durable-count}
 use Rattle.history.proofs.Inv.{Inv}
 use Rattle.history.proofs.Context.{Ctx, entry-is}
 use Rattle.history.proofs.Reached.{Undamaged, madeWith, present, tied, uncarried, live}
@@ -101,9 +102,11 @@ module _ (h : History) (legal : Legal h) where
       (λ t. or-left _ t)
       (λ t.
       let k = i .noted .copies c p lo hi (eqb-false (markAt p ns (length ns) .slot) 0 t) in
-      or-right (eqb (markAt p ns (length ns) .slot) 0) (or-left _ (and-both (k .0) (eq-eqb (imageLsn (item g v (slotAt (markAt p ns (length ns) .slot)))) (markAt p ns (length ns) .backup) (k .1))))))
+      or-right (eqb (markAt p ns (length ns) .slot) 0) (or-left _ (and-both (k .0)
+      (eq-eqb (imageLsn (item g v (slotAt (markAt p ns (length ns) .slot)))) (markAt p ns (length ns) .backup) (k .1))))))
 
--- demand 3 of the base: two stores that are no rings, without any proviso (`made-safe` gives the same for volumes made so and not carried over)
+-- demand 3 of the base: two stores that are no rings, without any proviso (`made-safe` gives the same for volumes made so and not carried
+-- over)
 pub demand3-plain : (h k : History) → Legal h → Legal k → ring (present h) ≡ false → ring (present k) ≡ false → h .pages ≡ k .pages
     → (l : List Logged) → Begins (durableOf h) l → Begins (durableOf k) l
     → (x y : List ℕ) → length x ≡ 256 → length y ≡ 256
@@ -115,4 +118,5 @@ pub demand3-undamaged : (h k : History) → Legal h → Legal k → Undamaged h 
     → (l : List Logged) → Begins (durableOf h) l → Begins (durableOf k) l
     → (x y : List ℕ) → length x ≡ 256 → length y ≡ 256
     → ((p : ℕ) → 1 ≤ p → p ≤ h .pages → Agree h k x y p) ↔ (length (durableOf h) ≡ length (durableOf k))
-demand3-undamaged h k lh lk uh uk same l b c x y sx sy = demand3 h k lh lk same (undamaged-safe h lh uh) (undamaged-safe k lk uk) l b c x y sx sy
+demand3-undamaged h k lh lk uh uk same l b c x y sx sy =
+    demand3 h k lh lk same (undamaged-safe h lh uh) (undamaged-safe k lk uk) l b c x y sx sy

@@ -35,7 +35,8 @@ use Rattle.model.specs.declared.reading.Comparison.the-variants as answers
 use Rattle.history.proofs.Logs.{noLogged, at, lastAt, lastOf, replayAt, bodyOf, last-agree, replay-agree, last-miss, replay-miss, last-le, last-is, replay-is}
 use Rattle.history.proofs.Records.{Fair, recOf}
 use Rattle.history.proofs.Sections.{volume-sized, most-high}
-use Rattle.history.proofs.Disk.{Holds, Noted, durable-count}
+use Rattle.history.proofs.Disk.{Holds, Noted}
+use Rattle.history.proofs.LogScan.{durable-count}
 use Rattle.history.proofs.Archive.{stands, page-read}
 use Rattle.history.proofs.Reached.{Undamaged, present, tied}
 use Rattle.history.proofs.Theorem.{demand2}
@@ -51,7 +52,8 @@ front-part n m rest e =
     let l : length xs ≡ 60 = omega (arith, withSum-length checksum xs, e) in
     with-part checksum 8 52 60 xs l (omega arith)
 
-encode-part : (n m m′ p : ℕ) (c : Change) (bytes : List ℕ) → length (encodeChange n m p c bytes) ≡ 64 → length (encodeChange n m′ p c bytes) ≡ 64
+encode-part : (n m m′ p : ℕ) (c : Change) (bytes : List ℕ) → length (encodeChange n m p c bytes) ≡ 64
+    → length (encodeChange n m′ p c bytes) ≡ 64
     → part (encodeChange n m p c bytes) 8 52 ≡ part (encodeChange n m′ p c bytes) 8 52
 unfolding encodeChange recordBytes
 encode-part n m m′ p c bytes e e′ =
@@ -65,15 +67,18 @@ module _ (P : ℕ) (few : P ≤ 64) (l : List Logged) (i : ℕ) (low : i < topNu
   long : length (encodeChange (suc i) m (at l i .page) (at l i .change) (at l i .bytes)) ≡ 64
   long = encoded-length (suc i) m (at l i .page) (at l i .change) (at l i .bytes) encodes
 
-  fields : recordOf (encodeChange (suc i) m (at l i .page) (at l i .change) (at l i .bytes)) ≡ recordFor (suc i) m (at l i .page) (at l i .change)
+  fields : recordOf (encodeChange (suc i) m (at l i .page) (at l i .change) (at l i .bytes)) ≡ recordFor (suc i) m
+      (at l i .page) (at l i .change)
   fields = encoded-back (suc i) m (at l i .page) (at l i .change) (at l i .bytes) encodes
 
-  own-bytes : take (lengthOf (at l i .change)) (payloadOf (encodeChange (suc i) m (at l i .page) (at l i .change) (at l i .bytes))) ≡ at l i .bytes
+  own-bytes : take (lengthOf (at l i .change))
+      (payloadOf (encodeChange (suc i) m (at l i .page) (at l i .change) (at l i .bytes))) ≡ at l i .bytes
   own-bytes =
       let c = at l i .change in
       let k = fits-facts (kindOf c) (lengthOf c) (offsetOf c) (fillOf c) (f .fit) in
       rw (encoded-payload (suc i) m (at l i .page) c (at l i .bytes) encodes)
-      (padded-bytes (lengthOf c) (at l i .bytes) (k .length) (omega (arith, f .whole)) ∙ take-all (lengthOf c) (at l i .bytes) (omega (arith, f .whole)))
+      (padded-bytes (lengthOf c) (at l i .bytes) (k .length) (omega (arith, f .whole))
+      ∙ take-all (lengthOf c) (at l i .bytes) (omega (arith, f .whole)))
 
 -- two records that hold the same change hold the same logged change
 module _ (P Q : ℕ) (fewP : P ≤ 64) (fewQ : Q ≤ 64) (l k : List Logged) (i : ℕ) (low : i < topNumber) (f : Fair P l i) (g : Fair Q k i) where
@@ -100,7 +105,8 @@ module _ (P Q : ℕ) (fewP : P ≤ 64) (fewQ : Q ≤ 64) (l k : List Logged) (i 
       sym (ap (λ (x : LogRecord). x .offset) a) ∙ field-same r s e 2 4 (omega arith) ∙ ap (λ (x : LogRecord). x .offset) b in
       let fill : fillOf (at l i .change) ≡ fillOf (at k i .change) =
       sym (ap (λ (x : LogRecord). x .fill) a) ∙ byte-same r s e 6 (omega arith) ∙ ap (λ (x : LogRecord). x .fill) b in
-      let change : at l i .change ≡ at k i .change = sym (change-back (at l i .change)) ∙ rw (kind, size, offset, fill) (change-back (at k i .change)) in
+      let change : at l i .change ≡ at k i .change = sym (change-back (at l i .change))
+      ∙ rw (kind, size, offset, fill) (change-back (at k i .change)) in
       let bytes : at l i .bytes ≡ at k i .bytes =
       sym (own-bytes P fewP l i low f m (last-low l)) ∙ rw (size, payload-same r s e) (own-bytes Q fewQ k i low g n (last-low k)) in
       λ j. record { page = page j; change = change j; bytes = bytes j }
@@ -112,8 +118,10 @@ module _ (P Q : ℕ) (fewP : P ≤ 64) (fewQ : Q ≤ 64) (l k : List Logged) (i 
       let n = lastAt (at l i .page) k i in
       let c = at l i in
       let d : at k i ≡ c = sym e in
-      let q : length (encodeChange (suc i) n (at l i .page) (at l i .change) (at l i .bytes)) ≡ 64 = long P fewP l i low f n (last-le (at l i .page) k i) in
-      rw (d, encode-part (suc i) m n (c .page) (c .change) (c .bytes) (long P fewP l i low f m (last-low l)) q) (bytes-same (part (encodeChange (suc i) n (c .page) (c .change) (c .bytes)) 8 52))
+      let q : length (encodeChange (suc i) n (at l i .page) (at l i .change) (at l i .bytes)) ≡ 64 =
+      long P fewP l i low f n (last-le (at l i .page) k i) in
+      rw (d, encode-part (suc i) m n (c .page) (c .change) (c .bytes) (long P fewP l i low f m (last-low l)) q)
+      (bytes-same (part (encodeChange (suc i) n (c .page) (c .change) (c .bytes)) 8 52))
 
 -- ---- lists
 
@@ -154,10 +162,13 @@ module _ (h : History) (legal : Legal h) (here : gone (geometryOf (reached h .vo
   count-is = let i = tied h legal in rw heading (durable-count (present h) (reached h .volume) (durableOf h) (i .holds) (i .ns) (i .noted))
 
   pub record-is : (c : ℕ) → c < length (durableOf h) → recordIn (reached h .volume) (suc c) ≡ recOf (durableOf h) c
-  record-is c b = let i = tied h legal in rw heading (stands (present h) (reached h .volume) (durableOf h) (i .holds) (i .ns) (i .noted) here′ c b)
+  record-is c b = let i = tied h legal in
+      rw heading (stands (present h) (reached h .volume) (durableOf h) (i .holds) (i .ns) (i .noted) here′ c b)
 
-  pub page-is : (c : ℕ) → c < length (durableOf h) → logRecord (geometryOf (reached h .volume)) (reached h .volume) (suc c) .page ≡ at (durableOf h) c .page
-  page-is c b = let i = tied h legal in rw heading (page-read (present h) (reached h .volume) (durableOf h) (i .holds) (i .ns) (i .noted) here′ c b)
+  pub page-is : (c : ℕ) → c < length (durableOf h)
+      → logRecord (geometryOf (reached h .volume)) (reached h .volume) (suc c) .page ≡ at (durableOf h) c .page
+  page-is c b = let i = tied h legal in
+      rw heading (page-read (present h) (reached h .volume) (durableOf h) (i .holds) (i .ns) (i .noted) here′ c b)
 
   pub pages-few : h .pages ≤ 64
   pages-few = let i = tied h legal in volume-sized (present h) (reached h .volume) (i .holds .vol) .p-high
@@ -182,7 +193,8 @@ module _ (h : History) (legal : Legal h) (here : gone (geometryOf (reached h .vo
 
 -- ---- two histories
 
-module _ (h k : History) (lh : Legal h) (lk : Legal k) (z : mirrorRefusal (mirrorOf (reached h .volume) (reached k .volume) .answer) ≡ 0) where
+module _ (h k : History) (lh : Legal h) (lk : Legal k)
+    (z : mirrorRefusal (mirrorOf (reached h .volume) (reached k .volume) .answer) ≡ 0) where
   abbrev v : List ℕ
   v = reached h .volume
 
@@ -209,8 +221,10 @@ module _ (h k : History) (lh : Legal h) (lk : Legal k) (z : mirrorRefusal (mirro
       let fk = fair-at k lk (b .here .1) i y in
       let low = number-low h lh (b .here .0) i x in
       rw (record-is h lh (b .here .0) i x, record-is k lk (b .here .1) i y) (
-        logged-same (h .pages) (k .pages) (pages-few h lh (b .here .0)) (pages-few k lk (b .here .1)) (durableOf h) (durableOf k) i low fh fk,
-        change-same (h .pages) (k .pages) (pages-few h lh (b .here .0)) (pages-few k lk (b .here .1)) (durableOf h) (durableOf k) i low fh fk,
+        logged-same (h .pages) (k .pages) (pages-few h lh (b .here .0)) (pages-few k lk (b .here .1)) (durableOf h)
+            (durableOf k) i low fh fk,
+        change-same (h .pages) (k .pages) (pages-few h lh (b .here .0)) (pages-few k lk (b .here .1)) (durableOf h)
+            (durableOf k) i low fh fk,
       )
 
   same-at : (i : ℕ) → i < n → at (durableOf h) i ≡ at (durableOf k) i
@@ -222,19 +236,24 @@ module _ (h k : History) (lh : Legal h) (lk : Legal k) (z : mirrorRefusal (mirro
         front = take n (durableOf h);
         size = length-take-le n (durableOf h) (few .0);
         first = (drop n (durableOf h), take-append-drop n (durableOf h));
-        second = (drop n (durableOf k), rw (take-same n (durableOf h) (durableOf k) (few .0) (few .1) same-at) (take-append-drop n (durableOf k)));
+        second = (
+          drop n (durableOf k),
+          rw (take-same n (durableOf h) (durableOf k) (few .0) (few .1) same-at) (take-append-drop n (durableOf k)),
+        );
         longest = λ l bh bk. elim (decLt n (length l)) [
           | yes y ↦
               let p = begins-at l (durableOf h) bh n y in
               let q = begins-at l (durableOf k) bk n y in
               let t = alike n (omega (arith, p .1)) (omega (arith, q .1)) .1 (p .0 ∙ sym (q .0)) in
-              absurd (true-not-false t (common v w .next (omega (arith, p .1, count-is h lh (b .here .0))) (omega (arith, q .1, count-is k lk (b .here .1)))))
+              absurd (true-not-false t
+              (common v w .next (omega (arith, p .1, count-is h lh (b .here .0))) (omega (arith, q .1, count-is k lk (b .here .1)))))
           | no y ↦ omega arith
         ];
       }
 
   module _ (p : ℕ) (lo : 1 ≤ p) (hi : p ≤ h .pages) (ki : p ≤ k .pages) (unlisted : listed v w p ≡ false) where
-    beyond : (m : ℕ) → n < m → (m ≤ durableIn v → logRecord (geometryOf v) v m .page ≢ p) × (m ≤ durableIn w → logRecord (geometryOf w) w m .page ≢ p)
+    beyond : (m : ℕ) → n < m → (m ≤ durableIn v → logRecord (geometryOf v) v m .page ≢ p)
+        × (m ≤ durableIn w → logRecord (geometryOf w) w m .page ≢ p)
     beyond = listed-exact v w p z lo (omega (arith, hi, pages-few h lh (b .here .0))) .0 unlisted
 
     none-h : (i : ℕ) → n ≤ i → i < length (durableOf h) → at (durableOf h) i .page ≢ p
@@ -248,14 +267,16 @@ module _ (h k : History) (lh : Legal h) (lk : Legal k) (z : mirrorRefusal (mirro
         let a = last-kept p (durableOf h) n none-h (few .0) in
         let c = last-kept p (durableOf k) n none-k (few .1) in (
           last-is p (durableOf h) ∙ a .0 ∙ last-agree p (durableOf h) (durableOf k) n same-at ∙ sym (c .0) ∙ sym (last-is p (durableOf k)),
-          replay-is p (durableOf h) ∙ a .1 ∙ replay-agree p (durableOf h) (durableOf k) n same-at ∙ sym (c .1) ∙ sym (replay-is p (durableOf k)),
+          replay-is p (durableOf h) ∙ a .1 ∙ replay-agree p (durableOf h) (durableOf k) n same-at ∙ sym (c .1)
+              ∙ sym (replay-is p (durableOf k)),
         )
 
     pub agrees : (x y : List ℕ) → length x ≡ 256 → length y ≡ 256 → Agree h k x y p
     agrees x y sx sy = go (shows h lh (b .here .0) p lo hi x sx) (shows k lk (b .here .1) p lo ki y sy)
       where
         go : ((lastPlace p (durableOf h) ≡ 0) × (inspection h p x ≡ 7)) ⊎ ((lastPlace p (durableOf h) ≢ 0) × ShowsReplay h p x)
-            → ((lastPlace p (durableOf k) ≡ 0) × (inspection k p y ≡ 7)) ⊎ ((lastPlace p (durableOf k) ≢ 0) × ShowsReplay k p y) → Agree h k x y p
+            → ((lastPlace p (durableOf k) ≡ 0) × (inspection k p y ≡ 7))
+            ⊎ ((lastPlace p (durableOf k) ≢ 0) × ShowsReplay k p y) → Agree h k x y p
         go (inl a) (inl c) = inl (a .1, c .1)
         go (inl a) (inr c) = absurd (c .0 (sym (same-page .0) ∙ a .0))
         go (inr a) (inl c) = absurd (a .0 (same-page .0 ∙ c .0))
@@ -267,10 +288,13 @@ agree-counts : (k n m : ℕ) → comparison k n m ≡ Comparison.Agree → (k �
 unfolding comparison
 agree-counts k n m =
     byCases (eqb k n)
-    (λ t. rw t (byCases (eqb k m) (λ u. rw u (λ e. (eqb-true k n t, eqb-true k m u))) (λ u. rw u (λ e. let z : _≡_ {A = ℕ} 0 1 = cc in absurd (omega arith)))))
-    (λ t. rw t (byCases (eqb k m) (λ u. rw u (λ e. let z : _≡_ {A = ℕ} 0 1 = cc in absurd (omega arith))) (λ u. rw u (λ e. let z : _≡_ {A = ℕ} 0 1 = cc in absurd (omega arith)))))
+    (λ t. rw t (byCases (eqb k m) (λ u. rw u (λ e. (eqb-true k n t, eqb-true k m u)))
+    (λ u. rw u (λ e. let z : _≡_ {A = ℕ} 0 1 = cc in absurd (omega arith)))))
+    (λ t. rw t (byCases (eqb k m) (λ u. rw u (λ e. let z : _≡_ {A = ℕ} 0 1 = cc in absurd (omega arith)))
+    (λ u. rw u (λ e. let z : _≡_ {A = ℕ} 0 1 = cc in absurd (omega arith)))))
 
-module _ (h k : History) (lh : Legal h) (lk : Legal k) (e : mirrorOf (reached h .volume) (reached k .volume) .answer ≡ Comparison.Agree) where
+module _ (h k : History) (lh : Legal h) (lk : Legal k)
+    (e : mirrorOf (reached h .volume) (reached k .volume) .answer ≡ Comparison.Agree) where
   taken : mirrorRefusal (mirrorOf (reached h .volume) (reached k .volume) .answer) ≡ 0
   taken = ap mirrorRefusal e
 
@@ -283,7 +307,8 @@ module _ (h k : History) (lh : Legal h) (lk : Legal k) (e : mirrorOf (reached h 
 
   pub agreed : (p : ℕ) → 1 ≤ p → p ≤ h .pages → p ≤ k .pages → (x y : List ℕ) → length x ≡ 256 → length y ≡ 256 → Agree h k x y p
   agreed p lo hi ki =
-      agrees h k lh lk taken p lo hi ki (unlisted p lo (omega (arith, hi, pages-few h lh (both (reached h .volume) (reached k .volume) taken .here .0))))
+      agrees h k lh lk taken p lo hi ki
+      (unlisted p lo (omega (arith, hi, pages-few h lh (both (reached h .volume) (reached k .volume) taken .here .0))))
 
 pub mirror : MirrorHistory
 mirror =

@@ -39,7 +39,8 @@ module _ (h : Heading) (p b l n : ℕ) (ok : validCounts p b l n ≡ true) where
   abbrev g : Geometry
   g = geometryFor h p b l n
 
-  zero-image : (q : ℕ) (at : Place) → item g (emptyVolume h p b l n) at ≡ replicate 256 0 → validImage g q (item g (emptyVolume h p b l n) at) ≡ true → ⊥
+  zero-image : (q : ℕ) (at : Place) → item g (emptyVolume h p b l n) at ≡ replicate 256 0
+      → validImage g q (item g (emptyVolume h p b l n) at) ≡ true → ⊥
   zero-image q at e t =
       let z : imageSealed g (item g (emptyVolume h p b l n) at) ≡ false = rw e (zero-image-fails g) in
       true-not-false (valid-sealed g q (item g (emptyVolume h p b l n) at) t) z
@@ -62,7 +63,11 @@ module _ (h : Heading) (p b l n : ℕ) (ok : validCounts p b l n ≡ true) where
         noted = record {
           few = omega arith;
           run = record { held = λ i a b. absurd (omega arith); oldest = λ i a b. absurd (omega arith); lost = λ i a. absurd (omega arith) };
-          notes = record { held = λ i a b. absurd (omega arith); oldest = λ i a b. absurd (omega arith); lost = λ i a. absurd (omega arith) };
+          notes = record {
+            held = λ i a b. absurd (omega arith);
+            oldest = λ i a b. absurd (omega arith);
+            lost = λ i a. absurd (omega arith);
+          };
           tail = record {
             gap = λ j. rw (empty-item h p b l n g refl refl refl refl (noteAt 1) (omega arith)) (zero-fails 12 16 (omega arith));
             rest = λ i j z. rw (empty-item h p b l n g refl refl refl refl (noteAt i) (omega arith)) (zero-replicate 16);
@@ -130,6 +135,7 @@ module _ (h : History) (legal : Legal h) where
       not-carry Second = eqb-false (tagOf Second) carryTag refl
 
   -- the machine that is on
-  pub live : (m : List ℕ) (s : State) → reached h .power ≡ on m s → Ctx (Undamaged h) (present h) (reached h .volume) m (reached h .past) s (durableOf h) (logOf h .pending)
+  pub live : (m : List ℕ) (s : State) → reached h .power ≡ on m s
+      → Ctx (Undamaged h) (present h) (reached h .volume) m (reached h .past) s (durableOf h) (logOf h .pending)
   live m s e = context (present h) (reached h .volume) m (reached h .past) s (logOf h)
       (subst (λ (y : Power). Inv (Undamaged h) (present h) (reached h .volume) (reached h .past) y (logOf h)) e tied)

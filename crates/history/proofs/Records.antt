@@ -37,13 +37,15 @@ pub recOf-is : (P : ℕ) (l : List Logged) (i : ℕ) → P ≤ 64 → i < topNum
     → RecordIs (recOf l i) (suc i) (lastAt (at l i .page) l i) (at l i .page) (at l i .change) (at l i .bytes)
 unfolding recOf
 recOf-is P l i p b f =
-    record-is (suc i) (lastAt (at l i .page) l i) (at l i .page) (at l i .change) (at l i .bytes) b (omega (arith, last-le (at l i .page) l i)) (omega (arith, f .high)) (f .fit) (f .whole)
+    record-is (suc i) (lastAt (at l i .page) l i) (at l i .page) (at l i .change) (at l i .bytes) b
+    (omega (arith, last-le (at l i .page) l i)) (omega (arith, f .high)) (f .fit) (f .whole)
 
 pub recOf-append : (l r : List Logged) (i : ℕ) → i < length l → recOf (l ++ r) i ≡ recOf l i
 unfolding recOf
 recOf-append l r i h = rw (List·getD-append l r noLogged i h, last-append (at l i .page) l r i (omega arith))
 
-pub recOf-new : (all : List Logged) (c : Logged) (e : ℕ) → e ≡ lastOf (c .page) all → encodeChange (suc (length all)) e (c .page) (c .change) (c .bytes) ≡ recOf (all ++ (c ∷ [])) (length all)
+pub recOf-new : (all : List Logged) (c : Logged) (e : ℕ) → e ≡ lastOf (c .page) all
+    → encodeChange (suc (length all)) e (c .page) (c .change) (c .bytes) ≡ recOf (all ++ (c ∷ [])) (length all)
 unfolding recOf
 recOf-new all c e q = rw (atA all c, lastN all c (c .page), q)
 

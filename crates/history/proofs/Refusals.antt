@@ -30,13 +30,16 @@ use Rattle.model.specs.declared.state.PendingNote.the-variants.{Absent, Present
 use Rattle.model.specs.declared.state.State.{State}
 use Rattle.history.specs.Facts.{Ordinary}
 use Rattle.history.proofs.Logs.{lastOf, last-mono}
-use Rattle.history.proofs.Disk.{Holds, Noted, valid-log, valid-notes}
+use Rattle.history.proofs.Disk.{Holds, Noted}
+use Rattle.history.proofs.NoteScan.{valid-notes}
+use Rattle.history.proofs.LogScan.{valid-log}
 use Rattle.history.proofs.Context.{Ctx, in-range, geo, len, last-entry, durable-last}
 use Rattle.history.proofs.Loads.{Others, none-other, until, never-broken}
 use Rattle.history.proofs.WellFormed.{state-ok, memory-ok, volume-ok}
 
 -- the answer of a call is what its table says
-decided-refusal : (rows : List Row) (m : List ℕ) (s : State) (done : Outcome) → refusalOf (done .answer) ≡ 0 → refusalOf (decided rows m s done .answer) ≡ firstOf rows
+decided-refusal : (rows : List Row) (m : List ℕ) (s : State) (done : Outcome) → refusalOf (done .answer) ≡ 0
+    → refusalOf (decided rows m s done .answer) ≡ firstOf rows
 decided-refusal rows m s done z = byCases (eqb (firstOf rows) 0) (λ t. rw t (z ∙ sym (eqb-true (firstOf rows) 0 t))) (λ t. rw t)
 
 pub call-refusal : (c : Call) (v m : List ℕ) (s : State) → refusalOf (outcomeOf c v m s .answer) ≡ firstOf (rowsOf c v m s)
@@ -61,7 +64,8 @@ pub restart-refusal : (v m : List ℕ) → refusalOf (restartOf v m .answer) ≡
 unfolding restartOf
 restart-refusal v m = decided-refusal (restartRows v m) m _ _ refl
 
-pub inspect-refusal : (v : List ℕ) (p : ℕ) (buffer : List ℕ) → refusalOf (inspectOf v p buffer .answer) ≡ firstOf (inspectRows v p (length buffer))
+pub inspect-refusal : (v : List ℕ) (p : ℕ) (buffer : List ℕ)
+    → refusalOf (inspectOf v p buffer .answer) ≡ firstOf (inspectRows v p (length buffer))
 unfolding inspectOf
 inspect-refusal v p buffer = byCases (eqb (firstOf (inspectRows v p (length buffer))) 0)
     (λ t. rw t (sym (eqb-true (firstOf (inspectRows v p (length buffer))) 0 t))) (λ t. rw t)
@@ -80,23 +84,27 @@ ordinary ts a b c d e =
 usual : (ts : List Row) → Others 1 ts → Others 2 ts → Others 17 ts → Others 18 ts → Others 19 ts → Ordinary (firstOf ts)
 usual ts a b c d e = ordinary ts a b c d (none-other 19 (λ z. omega arith) ts e)
 
-module _ {C : Type 0} {g : Geometry} {v m : List ℕ} {past : List StoredItem} {s : State} {k w : List Logged} (x : Ctx C g v m past s k w) where
+module _ {C : Type 0} {g : Geometry} {v m : List ℕ} {past : List StoredItem} {s : State} {k w : List Logged}
+    (x : Ctx C g v m past s k w) where
   -- a call's own rows, after the rows 1 and 2
   unfoldable pub ownRows : Call → List Row
   ownRows (begin page f fill) =
-      (not (within (geometryOf v .pages) page), 3) ∷ (not (within (frameCount (length m)) f), 4) ∷ (not (blank s page), 9) ∷ (frameBlocked s f, 10) ∷ (eqb (s .pending) 16, 11)
-      ∷ (logFull (geometryOf v) v s, 12) ∷ []
+      (not (within (geometryOf v .pages) page), 3) ∷ (not (within (frameCount (length m)) f), 4) ∷ (not (blank s page), 9)
+      ∷ (frameBlocked s f, 10) ∷ (eqb (s .pending) 16, 11) ∷ (logFull (geometryOf v) v s, 12) ∷ []
   ownRows (load page f) =
-      (not (within (geometryOf v .pages) page), 3) ∷ (not (within (frameCount (length m)) f), 4) ∷ (blank s page, 7) ∷ (held s page, 9) ∷ (frameBlocked s f, 10)
+      (not (within (geometryOf v .pages) page), 3) ∷ (not (within (frameCount (length m)) f), 4) ∷ (blank s page, 7) ∷ (held s page, 9)
+      ∷ (frameBlocked s f, 10)
       ∷ (chainBroken (geometryOf v) v s page, 19) ∷ (chainBelow (geometryOf v) v s page, 23) ∷ []
   ownRows (change page c payload) =
-      (not (within (geometryOf v .pages) page), 3) ∷ (not (fits c), 6) ∷ (not (held s page), 8) ∷ (eqb (s .pending) 16, 11) ∷ (logFull (geometryOf v) v s, 12) ∷ []
+      (not (within (geometryOf v .pages) page), 3) ∷ (not (fits c), 6) ∷ (not (held s page), 8) ∷ (eqb (s .pending) 16, 11)
+      ∷ (logFull (geometryOf v) v s, 12) ∷ []
   ownRows force = []
   ownRows (write page) =
-      (not (within (geometryOf v .pages) page), 3) ∷ (not (held s page), 8) ∷ (pageDirty s page && notePending (s .note), 13) ∷ (pageDirty s page && notesFull (geometryOf v) v s, 14)
-      ∷ (pageDirty s page && notDurable m s page, 15) ∷ []
+      (not (within (geometryOf v .pages) page), 3) ∷ (not (held s page), 8) ∷ (pageDirty s page && notePending (s .note), 13)
+      ∷ (pageDirty s page && notesFull (geometryOf v) v s, 14) ∷ (pageDirty s page && notDurable m s page, 15) ∷ []
   ownRows (backup page b) =
-      (not (within (geometryOf v .pages) page), 3) ∷ (not (within (geometryOf v .slots) b), 5) ∷ (not (held s page), 8) ∷ (notePending (s .note), 13)
+      (not (within (geometryOf v .pages) page), 3) ∷ (not (within (geometryOf v .slots) b), 5) ∷ (not (held s page), 8)
+      ∷ (notePending (s .note), 13)
       ∷ (notesFull (geometryOf v) v s, 14) ∷ (notDurable m s page, 15) ∷ (slotUsed b (s .index), 16) ∷ []
   ownRows (release page) = (not (within (geometryOf v .pages) page), 3) ∷ (not (held s page), 8) ∷ (frameBlocked s (holder s page), 10) ∷ []
   ownRows note = []
@@ -121,10 +129,13 @@ module _ {C : Type 0} {g : Geometry} {v m : List ℕ} {past : List StoredItem} {
 
   own-ordinary : (c : Call) → carries c ≡ false → Ordinary (firstOf (ownRows c))
   unfolding ownRows
-  own-ordinary (begin page f fill) o = usual (ownRows (begin page f fill)) (omega arith) (omega arith) (omega arith) (omega arith) (omega arith)
+  own-ordinary (begin page f fill) o =
+      usual (ownRows (begin page f fill)) (omega arith) (omega arith) (omega arith) (omega arith) (omega arith)
   own-ordinary (load page f) o =
-      ordinary (ownRows (load page f)) (omega arith) (omega arith) (omega arith) (omega arith) (λ e. never-broken x page f (rows-are (load page f) ∙ e))
-  own-ordinary (change page c payload) o = usual (ownRows (change page c payload)) (omega arith) (omega arith) (omega arith) (omega arith) (omega arith)
+      ordinary (ownRows (load page f)) (omega arith) (omega arith) (omega arith) (omega arith)
+      (λ e. never-broken x page f (rows-are (load page f) ∙ e))
+  own-ordinary (change page c payload) o =
+      usual (ownRows (change page c payload)) (omega arith) (omega arith) (omega arith) (omega arith) (omega arith)
   own-ordinary force o = usual [] tt tt tt tt tt
   own-ordinary (write page) o = usual (ownRows (write page)) (omega arith) (omega arith) (omega arith) (omega arith) (omega arith)
   own-ordinary (backup page b) o = usual (ownRows (backup page b)) (omega arith) (omega arith) (omega arith) (omega arith) (omega arith)
@@ -142,11 +153,13 @@ module _ {C : Type 0} {g : Geometry} {v m : List ℕ} {past : List StoredItem} {
   unfolding ownRows
   load-durable p f nz e =
       let u = until 7 ((not (within (geometryOf v .pages) p), 3) ∷ (not (within (frameCount (length m)) f), 4) ∷ []) (blank s p)
-      ((held s p, 9) ∷ (frameBlocked s f, 10) ∷ (chainBroken (geometryOf v) v s p, 19) ∷ (chainBelow (geometryOf v) v s p, 23) ∷ []) (omega arith) (omega arith) (λ z. omega arith)
+      ((held s p, 9) ∷ (frameBlocked s f, 10) ∷ (chainBroken (geometryOf v) v s p, 19) ∷ (chainBelow (geometryOf v) v s p, 23) ∷ [])
+      (omega arith) (omega arith) (λ z. omega arith)
       (sym (rows-are (load p f)) ∙ (sym (call-refusal (load p f) v m s) ∙ e)) in
       let r : (1 ≤ p) × (p ≤ g .pages) = rw (geo x) at (in-range (geometryOf v .pages) p (u .0 .0)) in
       let z : lastOf p (x .all) ≡ 0 = sym (last-entry x p (r .0) (r .1)) ∙ eqb-true (entryOf (s .index) p .last) 0 (u .1) in
-      nz (let le = last-mono p (x .all) (length (x .all)) (length k) (omega (arith, len x)) in omega (arith, durable-last x p (r .0) (r .1)))
+      nz (let le = last-mono p (x .all) (length (x .all)) (length k) (omega (arith, len x)) in
+      omega (arith, durable-last x p (r .0) (r .1)))
 
 -- ---- Restart and Inspect, on any volume that holds a list of changes and notes
 
@@ -169,18 +182,21 @@ module _ {C : Type 0} (g : Geometry) (v : List ℕ) (k : List Logged) (h : Holds
   pub inspect-right : (p : ℕ) (buffer : List ℕ) → length buffer ≡ 256 → Ordinary (refusalOf (inspectOf v p buffer .answer))
   unfolding shortRows
   inspect-right p buffer e =
-      rw (inspect-refusal v p buffer, inspect-rows p (length buffer) e) (usual (shortRows p) (omega arith) (omega arith) (omega arith) (omega arith) (omega arith))
+      rw (inspect-refusal v p buffer, inspect-rows p (length buffer) e)
+      (usual (shortRows p) (omega arith) (omega arith) (omega arith) (omega arith) (omega arith))
 
   pub inspect-wrong : (p : ℕ) (buffer : List ℕ) → length buffer ≢ 256 → refusalOf (inspectOf v p buffer .answer) ≡ 2
   unfolding inspectRows
   inspect-wrong p buffer e = inspect-refusal v p buffer ∙ rw (h .vol .ok, ne-eqb (length buffer) 256 e)
 
   -- a page with a durable change is not refused 7
-  pub inspect-durable : (p : ℕ) (buffer : List ℕ) → (1 ≤ p → p ≤ g .pages → entryOf (indexOf g v) p .durable ≢ 0) → refusalOf (inspectOf v p buffer .answer) ≢ 7
+  pub inspect-durable : (p : ℕ) (buffer : List ℕ) → (1 ≤ p → p ≤ g .pages → entryOf (indexOf g v) p .durable ≢ 0)
+      → refusalOf (inspectOf v p buffer .answer) ≢ 7
   unfolding shortRows
   inspect-durable p buffer nz e = elim (ℕ-discrete (length buffer) 256) [
     | yes y ↦
-        let u = until 7 ((not (within (g .pages) p), 3) ∷ []) (eqb (entryOf (indexOf g v) p .durable) 0) ((foundBelow g v p, 23) ∷ []) (omega arith) (omega arith) (λ z. omega arith)
+        let u = until 7 ((not (within (g .pages) p), 3) ∷ []) (eqb (entryOf (indexOf g v) p .durable) 0) ((foundBelow g v p, 23) ∷ [])
+        (omega arith) (omega arith) (λ z. omega arith)
         (sym (inspect-rows p (length buffer) y) ∙ (sym (inspect-refusal v p buffer) ∙ e)) in
         let r = in-range (g .pages) p (u .0 .0) in
         nz (r .0) (r .1) (eqb-true (entryOf (indexOf g v) p .durable) 0 (u .1))

@@ -19,9 +19,12 @@ use Rattle.history.proofs.Inv.{past-cons, frame}
 use Rattle.history.proofs.FrameSteps.{frames-empty}
 use Rattle.history.proofs.Context.{Ctx, Kept, passed, in-range, geo, Found, found-frame, unblocked}
 
-module _ {C : Type 0} {g : Geometry} {v m : List ℕ} {past : List StoredItem} {s : State} {k w : List Logged} (x : Ctx C g v m past s k w) where
+module _ {C : Type 0} {g : Geometry} {v m : List ℕ} {past : List StoredItem} {s : State} {k w : List Logged}
+    (x : Ctx C g v m past s k w) where
   pub keep-release : (p : ℕ) (an : Answer) → firstOf (releaseRows v m s p) ≡ 0
-      → Kept C g v past (record { answer = an; state = withFrames s (withFrame s (holder s p) 0 false) (s .note); memory = m; stored = nothing }) (record { durable = k; pending = w })
+      → Kept C g v past
+      (record { answer = an; state = withFrames s (withFrame s (holder s p) 0 false) (s .note); memory = m; stored = nothing })
+      (record { durable = k; pending = w })
   unfolding volumeAfter releaseRows
   keep-release p an e =
       let t = passed (releaseRows v m s p) (omega arith) e in
@@ -42,7 +45,8 @@ module _ {C : Type 0} {g : Geometry} {v m : List ℕ} {past : List StoredItem} {
             F = x .al .F;
             memory = x .al .memory;
             log = x .al .log;
-            frames = frames-empty (g .pages) (x .al .F) (x .all) (length k) (s .frames) m (x .al .frames) (x .al .memory .high) (holder s p - 1) (omega arith) nz (unblocked x (holder s p) lo hi (t .1 .1 .1 .1 .1 .0) nz);
+            frames = frames-empty (g .pages) (x .al .F) (x .all) (length k) (s .frames) m (x .al .frames) (x .al .memory .high)
+                (holder s p - 1) (omega arith) nz (unblocked x (holder s p) lo hi (t .1 .1 .1 .1 .1 .0) nz);
             index = x .al .index;
             displaced = x .al .displaced;
             notes-is = x .al .notes-is;

@@ -28,8 +28,10 @@ module _ (g : Geometry) (v : List ℕ) (place : ℕ → Place) (c L n : ℕ) (ri
       (λ i. sealed c (item g v (place (slotOf L (suc i)))) ≡ false) S low r room
       (λ a w. let lo : 1 ≤ L = low a in rw w (good (n - L) (omega arith))) (λ a t. t)
 
-  module _ (number : (i : ℕ) → i < n → field 4 0 (bytes i) ≡ suc i) (top : 1 ≤ n → item g v (place (slotOf L (suc (n - 1)))) ≡ bytes (n - 1))
-      (tail : Tail g v place c n L) (zeros : (i : ℕ) → 1 ≤ i → i ≤ L → allZero (item g v (place i)) ≡ true → sealed c (item g v (place i)) ≡ false)
+  module _ (number : (i : ℕ) → i < n → field 4 0 (bytes i) ≡ suc i)
+      (top : 1 ≤ n → item g v (place (slotOf L (suc (n - 1)))) ≡ bytes (n - 1))
+      (tail : Tail g v place c n L)
+      (zeros : (i : ℕ) → 1 ≤ i → i ≤ L → allZero (item g v (place i)) ≡ true → sealed c (item g v (place i)) ≡ false)
       (start : ℕ) (parts : (i : ℕ) → part v (start + (c + 4) * i) (c + 4) ≡ item g v (place (suc i))) where
     -- before the turn each place is its own slot
     low-item : (i : ℕ) → i < n → i < L → n < i + L → item g v (place (suc i)) ≡ bytes i
@@ -44,7 +46,8 @@ module _ (g : Geometry) (v : List ℕ) (place : ℕ → Place) (c L n : ℕ) (ri
         all-held : (i : ℕ) → i < n → item g v (place (suc i)) ≡ bytes i
         all-held i b = elim (decLt n (i + L)) [
           | yes y ↦ low-item i b (omega (arith, room e)) y
-          | no z ↦ ⊎-elim (λ h. ap (λ (k : ℕ). item g v (place k)) (sym (slot-low L i (omega (arith, room e)))) ∙ h) (λ h. absurd (true-not-false (h .0) e))
+          | no z ↦ ⊎-elim (λ h. ap (λ (k : ℕ). item g v (place k)) (sym (slot-low L i (omega (arith, room e)))) ∙ h)
+              (λ h. absurd (true-not-false (h .0) e))
               (r .oldest i b (omega (arith, room e)))
         ]
 

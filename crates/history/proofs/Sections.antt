@@ -81,14 +81,16 @@ run-is c v (suc N) at (suc k) h f t =
     let z : at + (c + 4) * 0 ≡ at = omega arith in
     let s : (i : ℕ) → at + (c + 4) * suc i ≡ (at + (c + 4)) + (c + 4) * i = λ i. omega arith in
     run-goes c v N at (rw z at (f 0 (omega arith)))
-    ∙ ap suc (run-is c v N (at + (c + 4)) k (omega arith) (λ i b. rw (s i) at (f (suc i) (omega arith))) (λ b. rw (s k) at (t (omega arith))))
+    ∙ ap suc (run-is c v N (at + (c + 4)) k (omega arith) (λ i b. rw (s i) at (f (suc i) (omega arith)))
+    (λ b. rw (s k) at (t (omega arith))))
 
 zero-append : (xs ys : List ℕ) → allZero xs ≡ true → allZero ys ≡ true → allZero (xs ++ ys) ≡ true
 unfolding allZero
 zero-append [] ys h k = k
 zero-append (x ∷ xs) ys h k = rw (and-left (eqb x 0) (allZero xs) h, zero-append xs ys (and-right (eqb x 0) (allZero xs) h) k)
 
-zeros-are : (size : ℕ) (v : List ℕ) (k at : ℕ) → ((i : ℕ) → i < k → allZero (part v (at + size * i) size) ≡ true) → allZero (part v at (size * k)) ≡ true
+zeros-are : (size : ℕ) (v : List ℕ) (k at : ℕ) → ((i : ℕ) → i < k → allZero (part v (at + size * i) size) ≡ true)
+    → allZero (part v at (size * k)) ≡ true
 unfolding part allZero
 zeros-are size v zero at f = let z : size * 0 ≡ 0 = omega arith in rw z
 zeros-are size v (suc k) at f =
@@ -99,7 +101,8 @@ zeros-are size v (suc k) at f =
     (zero-append (take size (drop at v)) (take (size * k) (drop (at + size) v)) (rw z at (f 0 (omega arith)))
     (zeros-are size v k (at + size) (λ i b. rw (s i) at (f (suc i) (omega arith)))))
 
-pub rest-zero : (size count : ℕ) (v : List ℕ) (at n : ℕ) → ((i : ℕ) → suc n < suc i → i < count → allZero (part v (at + size * i) size) ≡ true) → restZero size count v at n ≡ true
+pub rest-zero : (size count : ℕ) (v : List ℕ) (at n : ℕ)
+    → ((i : ℕ) → suc n < suc i → i < count → allZero (part v (at + size * i) size) ≡ true) → restZero size count v at n ≡ true
 unfolding restZero
 rest-zero size count v at n f =
     zeros-are size v (count - (n + 1)) (at + size * (n + 1)) (λ i b.

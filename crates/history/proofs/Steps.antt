@@ -1,5 +1,5 @@
--- One event, and a list of events, keep the invariant, under the tag that they leave. Beside it: which histories leave every noted backup as
--- it was stored.
+-- One event, and a list of events, keep the invariant, under the tag that they leave. Beside it: which histories leave every noted backup
+-- as it was stored.
 use mathlib.Core.Path.{_≡_, refl, sym, _∙_, subst}
 use mathlib.Core.Logic.{_≢_, inl, inr, ⊎-elim}
 use mathlib.Core.Bool.{Bool, true, false, cond, not, _&&_, _||_}
@@ -54,23 +54,28 @@ Tied C g w b = Inv C g (w .volume) (w .past) (w .power) b
 abbrev pub TiedTo : Type 0 → Bool → Geometry → Machine → AbstractLog → Type 0
 TiedTo C start g w b = (tag : ℕ) × Turns start g tag × Tied C (withTag g tag) w b
 
-pub context : {C : Type 0} (g : Geometry) (v m : List ℕ) (past : List StoredItem) (s : State) (b : AbstractLog) → Inv C g v past (on m s) b → Ctx C g v m past s (b .durable) (b .pending)
+pub context : {C : Type 0} (g : Geometry) (v m : List ℕ) (past : List StoredItem) (s : State) (b : AbstractLog) → Inv C g v past (on m s) b
+    → Ctx C g v m past s (b .durable) (b .pending)
 context g v m past s b i = record { all = i .live .0; ns = i .ns; hs = i .holds; no = i .noted; ps = i .past-ok; al = i .live .1 }
 
-module _ (g : Geometry) (C : Type 0) (v m : List ℕ) (past : List StoredItem) (s : State) (b : AbstractLog) (i : Inv C g v past (on m s) b) where
+module _ (g : Geometry) (C : Type 0) (v m : List ℕ) (past : List StoredItem) (s : State) (b : AbstractLog)
+    (i : Inv C g v past (on m s) b) where
   abbrev here : Machine
   here = record { volume = v; power = on m s; past = past }
 
   -- a call
-  call-step : (c : Call) → payloadFits c ≡ true → startFits (on m s) v c ≡ true → TiedTo C (isStartCarry c) g (step here (perform c)) (stepLog here b (perform c))
+  call-step : (c : Call) → payloadFits c ≡ true → startFits (on m s) v c ≡ true
+      → TiedTo C (isStartCarry c) g (step here (perform c)) (stepLog here b (perform c))
   unfolding step stepLog
   call-step c p f = byCases (carries c)
       (λ t. inv-carry (context g v m past s b i) c t f)
       (λ t. (g .tag, (λ z ne. refl), rw (plain-after c t v (outcomeOf c v m s .stored) past) (inv-call (context g v m past s b i) c t p)))
 
   -- a crash within a call
-  carry-cut : (c : Call) → carries c ≡ true → (l : Left) → tornFits (geometryOf v) (outcomeOf c v m s .stored) l ≡ true → (leftNew l ≡ true → startFits (on m s) v c ≡ true)
-      → (C → (isRestamp c && tearsNoted (on m s) v l) ≡ false) → TiedTo C (isStartCarry c) g (step here (crashIn c l)) (stepLog here b (crashIn c l))
+  carry-cut : (c : Call) → carries c ≡ true → (l : Left) → tornFits (geometryOf v) (outcomeOf c v m s .stored) l ≡ true
+      → (leftNew l ≡ true → startFits (on m s) v c ≡ true)
+      → (C → (isRestamp c && tearsNoted (on m s) v l) ≡ false)
+      → TiedTo C (isStartCarry c) g (step here (crashIn c l)) (stepLog here b (crashIn c l))
   unfolding step stepLog
   carry-cut (begin page f fill) o l t n u = absurd (true-not-false o refl)
   carry-cut (load page f) o l t n u = absurd (true-not-false o refl)
@@ -81,15 +86,22 @@ module _ (g : Geometry) (C : Type 0) (v m : List ℕ) (past : List StoredItem) (
   carry-cut (release page) o l t n u = absurd (true-not-false o refl)
   carry-cut note o l t n u = absurd (true-not-false o refl)
   carry-cut startCarry o l t n u = start-cut (context g v m past s b i) l n t
-  carry-cut restamp o l t n u = restamp-cut (context g v m past s b i) l t (λ c xs e. subst (λ (y : Left). tearsNoted (on m s) v y ≡ false) e (u c))
+  carry-cut restamp o l t n u =
+      restamp-cut (context g v m past s b i) l t (λ c xs e. subst (λ (y : Left). tearsNoted (on m s) v y ≡ false) e (u c))
   carry-cut finishCarry o l t n u = finish-cut (context g v m past s b i) l t
 
-  cut-step : (c : Call) (l : Left) → tornFits (geometryOf v) (outcomeOf c v m s .stored) l ≡ true → (leftNew l ≡ true → startFits (on m s) v c ≡ true)
-      → (C → (isRestamp c && tearsNoted (on m s) v l) ≡ false) → TiedTo C (isStartCarry c) g (step here (crashIn c l)) (stepLog here b (crashIn c l))
+  cut-step : (c : Call) (l : Left) → tornFits (geometryOf v) (outcomeOf c v m s .stored) l ≡ true
+      → (leftNew l ≡ true → startFits (on m s) v c ≡ true)
+      → (C → (isRestamp c && tearsNoted (on m s) v l) ≡ false)
+      → TiedTo C (isStartCarry c) g (step here (crashIn c l)) (stepLog here b (crashIn c l))
   unfolding step stepLog
   cut-step c l t n u = byCases (carries c)
       (λ o. carry-cut c o l t n u)
-      (λ o. (g .tag, (λ z ne. refl), rw (plain-left c o v (outcomeOf c v m s .stored) l past) (inv-crash (context g v m past s b i) c o l t)))
+      (λ o. (
+        g .tag,
+        (λ z ne. refl),
+        rw (plain-left c o v (outcomeOf c v m s .stored) l past) (inv-crash (context g v m past s b i) c o l t),
+      ))
 
 module _ (C : Type 0) where
   by-start : {g : Geometry} {w : Machine} {b : AbstractLog} (start : Bool) → TiedTo C start g w b → TiedTo C (start || false) g w b
@@ -97,15 +109,18 @@ module _ (C : Type 0) where
   by-start false x = x
 
   -- one event
-  one-step : (g : Geometry) (v : List ℕ) (past : List StoredItem) (x : Power) (b : AbstractLog) → Inv C g v past x b → (e : Event) → (C → harms (record { volume = v; power = x; past = past }) e ≡ false)
+  one-step : (g : Geometry) (v : List ℕ) (past : List StoredItem) (x : Power) (b : AbstractLog) → Inv C g v past x b
+      → (e : Event) → (C → harms (record { volume = v; power = x; past = past }) e ≡ false)
       → allowed (record { volume = v; power = x; past = past }) e ≡ true
-      → TiedTo C (startsIn (e ∷ [])) g (step (record { volume = v; power = x; past = past }) e) (stepLog (record { volume = v; power = x; past = past }) b e)
+      → TiedTo C (startsIn (e ∷ [])) g (step (record { volume = v; power = x; past = past }) e)
+      (stepLog (record { volume = v; power = x; past = past }) b e)
   unfolding step stepLog allowed
   one-step g v past x b i (restart m) nd t = (g .tag, (λ z ne. refl), inv-restart g v past x b (lent x m) i)
   one-step g v past x b i crash nd t = (g .tag, (λ z ne. refl), inv-crash-between g v past x b i)
   one-step g v past off b i (perform c) nd t = absurd (true-not-false t refl)
   one-step g v past (on m s) b i (perform c) nd t =
-      by-start (isStartCarry c) (call-step g C v m past s b i c (and-left (payloadFits c) (startFits (on m s) v c) t) (and-right (payloadFits c) (startFits (on m s) v c) t))
+      by-start (isStartCarry c) (call-step g C v m past s b i c (and-left (payloadFits c) (startFits (on m s) v c) t)
+      (and-right (payloadFits c) (startFits (on m s) v c) t))
   one-step g v past off b i (crashIn c l) nd t = absurd (true-not-false t refl)
   one-step g v past (on m s) b i (crashIn c l) nd t =
       let torn-ok = tornFits (geometryOf v) (outcomeOf c v m s .stored) l in
@@ -114,21 +129,27 @@ module _ (C : Type 0) where
       by-start (isStartCarry c) (cut-step g C v m past s b i c l (and-left torn-ok rest t) (λ n. rw n at r) nd)
   one-step g v past x b i (damage at xs) nd t =
       let e = i .holds .vol .geo in
-      let t₁ : (isImage g at && (eqb (length xs) 256 && (not (passesAt g (indexOf g v) at xs) || storedBefore at xs past))) ≡ true = rw e at t in
+      let t₁ : (isImage g at && (eqb (length xs) 256 && (not (passesAt g (indexOf g v) at xs) || storedBefore at xs past))) ≡ true =
+      rw e at t in
       let t₂ = and-right (isImage g at) (eqb (length xs) 256 && (not (passesAt g (indexOf g v) at xs) || storedBefore at xs past)) t₁ in (
         g .tag,
         (λ z ne. refl),
-        rw e (inv-damage C g v past x b at xs (λ c. true-not-false refl (nd c)) (and-left (isImage g at) _ t₁) (eqb-true (length xs) 256 (and-left (eqb (length xs) 256) _ t₂))
-            (⊎-elim (λ h. inl (not-true (passesAt g (indexOf g v) at xs) h)) inr (or-cases (not (passesAt g (indexOf g v) at xs)) (storedBefore at xs past) (and-right (eqb (length xs) 256) _ t₂))) i),
+        rw e (inv-damage C g v past x b at xs (λ c. true-not-false refl (nd c)) (and-left (isImage g at) _ t₁)
+            (eqb-true (length xs) 256 (and-left (eqb (length xs) 256) _ t₂))
+            (⊎-elim (λ h. inl (not-true (passesAt g (indexOf g v) at xs) h)) inr
+            (or-cases (not (passesAt g (indexOf g v) at xs)) (storedBefore at xs past) (and-right (eqb (length xs) 256) _ t₂))) i),
       )
 
-  pub all-steps : (es : List Event) (g : Geometry) (w : Machine) (b : AbstractLog) → Tied C g w b → (C → unharmed w es ≡ true) → allAllowed w es ≡ true → TiedTo C (startsIn es) g (run w es) (logAfter w b es)
+  pub all-steps : (es : List Event) (g : Geometry) (w : Machine) (b : AbstractLog) → Tied C g w b → (C → unharmed w es ≡ true)
+      → allAllowed w es ≡ true → TiedTo C (startsIn es) g (run w es) (logAfter w b es)
   unfolding allAllowed run logAfter
   all-steps [] g w b i f t = (g .tag, (λ z ne. refl), i)
   all-steps (e ∷ es) g w b i f t =
       let r = both (allowed w e) (allAllowed (step w e) es) t in
-      let one = one-step g (w .volume) (w .past) (w .power) b i e (λ c. not-true (harms w e) (and-left (not (harms w e)) (unharmed (step w e) es) (f c))) (r .0) in
-      let rest = all-steps es (withTag g (one .0)) (step w e) (stepLog w b e) (one .2) (λ c. and-right (not (harms w e)) (unharmed (step w e) es) (f c)) (r .1) in
+      let one = one-step g (w .volume) (w .past) (w .power) b i e
+      (λ c. not-true (harms w e) (and-left (not (harms w e)) (unharmed (step w e) es) (f c))) (r .0) in
+      let rest = all-steps es (withTag g (one .0)) (step w e) (stepLog w b e) (one .2)
+      (λ c. and-right (not (harms w e)) (unharmed (step w e) es) (f c)) (r .1) in
       (rest .0, turned e es (g .tag) (one .0) (rest .0) (one .1) (rest .1), rest .2)
     where
       apart : (e : Event) (es : List Event) → startsIn (e ∷ es) ≡ false → (startsIn (e ∷ []) ≡ false) × (startsIn es ≡ false)
@@ -138,7 +159,8 @@ module _ (C : Type 0) where
       apart (crashIn c l) es z = let q = or-neither (isStartCarry c) (startsIn es) z in (rw (q .0) refl, q .1)
       apart (damage at xs) es z = (refl, z)
 
-      turned : (e : Event) (es : List Event) (a b c : ℕ) → (startsIn (e ∷ []) ≡ false → a ≢ carryTag → b ≡ a) → (startsIn es ≡ false → b ≢ carryTag → c ≡ b)
+      turned : (e : Event) (es : List Event) (a b c : ℕ) → (startsIn (e ∷ []) ≡ false → a ≢ carryTag → b ≡ a)
+          → (startsIn es ≡ false → b ≢ carryTag → c ≡ b)
           → startsIn (e ∷ es) ≡ false → a ≢ carryTag → c ≡ a
       turned e es a b c f h z ne =
           let q = apart e es z in

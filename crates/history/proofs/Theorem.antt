@@ -34,7 +34,7 @@ use Rattle.history.proofs.Memory.{frame-same}
 use Rattle.history.proofs.Context.{Ctx, geo, sized, few, body-size, durable-last}
 use Rattle.history.proofs.Loads.{Loaded, loads, loads-above, never-broken, below-only, load-image}
 use Rattle.history.proofs.Inspection.{inspect-blank, inspect-durable, inspect-granted, inspect-exact, inspect-below}
-use Rattle.history.proofs.Disk.{first, first-is}
+use Rattle.history.proofs.LogScan.{first, first-is}
 use Rattle.history.proofs.Views.{Unserved}
 use Rattle.history.proofs.Reached.{present, tied, live}
 
@@ -49,10 +49,12 @@ module _ (h : History) (legal : Legal h) (p : ℕ) (lo : 1 ≤ p) (hi : p ≤ h 
   ShowsOf = (inspection h p buffer ≡ 0) × (shown h p buffer ≡ bytesOf 4 (lastOf p (durableOf h)) ++ bodyOf p (durableOf h))
 
   shows-blank : lastOf p (durableOf h) ≡ 0 → inspection h p buffer ≡ 7
-  shows-blank = let i = tied h legal in inspect-blank (present h) (reached h .volume) (durableOf h) (i .holds) (i .ns) (i .noted) p lo hi buffer size
+  shows-blank = let i = tied h legal in
+      inspect-blank (present h) (reached h .volume) (durableOf h) (i .holds) (i .ns) (i .noted) p lo hi buffer size
 
   shows-durable : lastOf p (durableOf h) ≢ 0 → ShowsOf ⊎ (inspection h p buffer ≡ 23)
-  shows-durable = let i = tied h legal in inspect-durable (present h) (reached h .volume) (durableOf h) (i .holds) (i .ns) (i .noted) p lo hi buffer size
+  shows-durable = let i = tied h legal in
+      inspect-durable (present h) (reached h .volume) (durableOf h) (i .holds) (i .ns) (i .noted) p lo hi buffer size
 
   shows-granted : lastOf p (durableOf h) ≢ 0 → (Gone h → Proviso h p) → ShowsOf
   shows-granted nz f = let i = tied h legal in
@@ -69,15 +71,18 @@ module _ (h : History) (legal : Legal h) (p : ℕ) (lo : 1 ≤ p) (hi : p ≤ h 
   ]
 
   -- 23, exactly; the run starts at number suc f
-  pub shows-exact : lastPlace p (durableOf h) ≢ 0 → (f : ℕ) → firstHeld (geometryOf (reached h .volume)) (reached h .volume) (length (durableOf h)) ≡ suc f
+  pub shows-exact : lastPlace p (durableOf h) ≢ 0
+      → (f : ℕ) → firstHeld (geometryOf (reached h .volume)) (reached h .volume) (length (durableOf h)) ≡ suc f
       → (inspection h p buffer ≡ 23)
-      ↔ Unserved (geometryOf (reached h .volume)) (reached h .volume) (durableOf h) (entryOf (indexOf (geometryOf (reached h .volume)) (reached h .volume)) p) p f
+      ↔ Unserved (geometryOf (reached h .volume)) (reached h .volume) (durableOf h)
+      (entryOf (indexOf (geometryOf (reached h .volume)) (reached h .volume)) p) p f
   shows-exact nz f e =
       let i = tied h legal in
       let fi : suc f ≡ suc (first (present h) (reached h .volume) (durableOf h) (i .holds) (i .ns) (i .noted)) =
       sym (rw made-geo at e) ∙ first-is (present h) (reached h .volume) (durableOf h) (i .holds) (i .ns) (i .noted) in
       let q : f ≡ first (present h) (reached h .volume) (durableOf h) (i .holds) (i .ns) (i .noted) = omega arith in
-      rw (made-geo, q) (inspect-exact (present h) (reached h .volume) (durableOf h) (i .holds) (i .ns) (i .noted) p lo hi buffer size (λ z. nz (last-is p (durableOf h) ∙ z)))
+      rw (made-geo, q) (inspect-exact (present h) (reached h .volume) (durableOf h) (i .holds) (i .ns) (i .noted) p lo hi buffer size
+      (λ z. nz (last-is p (durableOf h) ∙ z)))
 
   inspects : Inspects h p buffer
   inspects =
@@ -90,7 +95,8 @@ module _ (h : History) (legal : Legal h) (p : ℕ) (lo : 1 ≤ p) (hi : p ≤ h 
 
 -- ---- one history: Load
 
-module _ {C : Type 0} {g : Geometry} {v m : List ℕ} {past : List StoredItem} {s : State} {k w : List Logged} (x : Ctx C g v m past s k w) (p f : ℕ) where
+module _ {C : Type 0} {g : Geometry} {v m : List ℕ} {past : List StoredItem} {s : State} {k w : List Logged}
+    (x : Ctx C g v m past s k w) (p f : ℕ) where
   pub load-refusal : refusalOf (loadOf v m s p f .answer) ≡ firstOf (loadRows v m s p f)
   unfolding loadOf
   load-refusal = byCases (eqb (firstOf (loadRows v m s p f)) 0) (λ t. rw t (sym (eqb-true (firstOf (loadRows v m s p f)) 0 t))) (λ t. rw t)
@@ -106,7 +112,8 @@ module _ {C : Type 0} {g : Geometry} {v m : List ℕ} {past : List StoredItem} {
         ∙ (rw (same-last, x .al .log .split) (replay-append p k w (lastOf p k) (last-le p k (length k))) ∙ sym (replay-last p k (length k)))
 
   pub loaded-bytes : firstOf (loadRows v m s p f) ≡ 0
-      → (lastOf p k ≢ 0) × (frameBytes (loadOf v m s p f .memory) f ≡ frameImage p (lastOf p k) (bodyOf p k)) × (lastOf p (k ++ w) ≡ lastOf p k) × (bodyOf p (k ++ w) ≡ bodyOf p k)
+      → (lastOf p k ≢ 0) × (frameBytes (loadOf v m s p f .memory) f ≡ frameImage p (lastOf p k) (bodyOf p k))
+      × (lastOf p (k ++ w) ≡ lastOf p k) × (bodyOf p (k ++ w) ≡ bodyOf p k)
   unfolding loadOf
   loaded-bytes e =
       let l = loads x p f e in
@@ -115,7 +122,8 @@ module _ {C : Type 0} {g : Geometry} {v m : List ℕ} {past : List StoredItem} {
       let nm : lastOf p (x .all) ≤ topNumber = omega (arith, few x, last-le p (x .all) (length (x .all))) in
       let sz = frame-size g p (lastOf p (x .all)) (bodyOf p (x .all)) pg nm (body-size x p) in (
         λ z. l .some (same-last l ∙ z),
-        rw (e, geo x, im) (frame-same (x .al .F) m (x .al .memory) f (frameImage p (lastOf p (x .all)) (bodyOf p (x .all))) (l .frame-low) (l .frame-high) sz
+        rw (e, geo x, im) (frame-same (x .al .F) m (x .al .memory) f (frameImage p (lastOf p (x .all)) (bodyOf p (x .all)))
+            (l .frame-low) (l .frame-high) sz
             ∙ rw (same-last l, same-body l)),
         rw (← (x .al .log .split)) (same-last l),
         rw (← (x .al .log .split)) (same-body l),
@@ -128,7 +136,12 @@ loads-is h legal m s e p f =
       unbroken = λ z. never-broken x p f (sym (load-refusal x p f) ∙ z);
       below = λ z. rw (tied h legal .holds .vol .geo) (below-only x p f (sym (load-refusal x p f) ∙ z));
       loaded = λ z.
-          rw (last-is p (durableOf h), replay-is p (durableOf h), last-is p (durableOf h ++ logOf h .pending), replay-is p (durableOf h ++ logOf h .pending))
+          rw (
+            last-is p (durableOf h),
+            replay-is p (durableOf h),
+            last-is p (durableOf h ++ logOf h .pending),
+            replay-is p (durableOf h ++ logOf h .pending),
+          )
           (loaded-bytes x p f (sym (load-refusal x p f) ∙ z));
     }
 
@@ -156,12 +169,15 @@ no-longer P k l fair same = go (length l) refl
         let hit : lastOf p l ≡ suc n = rw e (last-hit p l n refl) in
         omega (arith, last-le p k (length k), same p (f .low) (f .high))
 
-module _ (h k : History) (lh : Legal h) (lk : Legal k) (same : h .pages ≡ k .pages) (sh : Safe h) (sk : Safe k) (x y : List ℕ) (sx : length x ≡ 256) (sy : length y ≡ 256) where
+module _ (h k : History) (lh : Legal h) (lk : Legal k) (same : h .pages ≡ k .pages) (sh : Safe h) (sk : Safe k) (x y : List ℕ)
+    (sx : length x ≡ 256) (sy : length y ≡ 256) where
   -- each page with a durable change is shown
-  shows-h : (p : ℕ) → 1 ≤ p → p ≤ h .pages → lastOf p (durableOf h) ≢ 0 → (inspection h p x ≡ 0) × (shown h p x ≡ bytesOf 4 (lastOf p (durableOf h)) ++ bodyOf p (durableOf h))
+  shows-h : (p : ℕ) → 1 ≤ p → p ≤ h .pages → lastOf p (durableOf h) ≢ 0
+      → (inspection h p x ≡ 0) × (shown h p x ≡ bytesOf 4 (lastOf p (durableOf h)) ++ bodyOf p (durableOf h))
   shows-h p lo hi nz = shows-granted h lh p lo hi x sx nz (λ g. sh g p lo hi)
 
-  shows-k : (p : ℕ) → 1 ≤ p → p ≤ k .pages → lastOf p (durableOf k) ≢ 0 → (inspection k p y ≡ 0) × (shown k p y ≡ bytesOf 4 (lastOf p (durableOf k)) ++ bodyOf p (durableOf k))
+  shows-k : (p : ℕ) → 1 ≤ p → p ≤ k .pages → lastOf p (durableOf k) ≢ 0
+      → (inspection k p y ≡ 0) × (shown k p y ≡ bytesOf 4 (lastOf p (durableOf k)) ++ bodyOf p (durableOf k))
   shows-k p lo hi nz = shows-granted k lk p lo hi y sy nz (λ g. sk g p lo hi)
 
   -- answers that agree have the same number
@@ -170,13 +186,19 @@ module _ (h k : History) (lh : Legal h) (lk : Legal k) (same : h .pages ≡ k .p
   same-number p lo hi (inr a) =
       let nh : lastOf p (durableOf h) ≢ 0 = λ z. omega (arith, shows-blank h lh p lo hi x sx z, a .0) in
       let nk : lastOf p (durableOf k) ≢ 0 = λ z. omega (arith, shows-blank k lk p lo (omega arith) y sy z, a .1) in
-      same-four (lastOf p (durableOf h)) (lastOf p (durableOf k)) (bodyOf p (durableOf h)) (bodyOf p (durableOf k)) (number-bound h lh p) (number-bound k lk p)
+      same-four (lastOf p (durableOf h)) (lastOf p (durableOf k)) (bodyOf p (durableOf h)) (bodyOf p (durableOf k))
+      (number-bound h lh p) (number-bound k lk p)
       (sym (shows-h p lo hi nh .1) ∙ (a .2 ∙ shows-k p lo (omega arith) nk .1))
     where
       number-bound : (h : History) → Legal h → (p : ℕ) → lastOf p (durableOf h) ≤ topNumber
       number-bound h l p =
           let i = tied h l in
-          omega (arith, last-le p (durableOf h) (length (durableOf h)), i .holds .room, most-high (present h) (volume-sized (present h) (reached h .volume) (i .holds .vol)))
+          omega (
+            arith,
+            last-le p (durableOf h) (length (durableOf h)),
+            i .holds .room,
+            most-high (present h) (volume-sized (present h) (reached h .volume) (i .holds .vol)),
+          )
 
   -- equal lists agree
   agree : durableOf h ≡ durableOf k → (p : ℕ) → 1 ≤ p → p ≤ h .pages → Agree h k x y p
@@ -188,10 +210,12 @@ module _ (h k : History) (lh : Legal h) (lk : Legal k) (same : h .pages ≡ k .p
         inr (a .0, b .0, a .1 ∙ (rw e (sym (b .1))))
   ]
 
-  alike : (l : List Logged) → Begins (durableOf h) l → Begins (durableOf k) l → ((p : ℕ) → 1 ≤ p → p ≤ h .pages → Agree h k x y p) ↔ (length (durableOf h) ≡ length (durableOf k))
+  alike : (l : List Logged) → Begins (durableOf h) l → Begins (durableOf k) l → ((p : ℕ) → 1 ≤ p → p ≤ h .pages → Agree h k x y p)
+      ↔ (length (durableOf h) ≡ length (durableOf k))
   alike l b c = (
     λ f.
-        let nums : (p : ℕ) → 1 ≤ p → p ≤ h .pages → lastOf p (durableOf h) ≡ lastOf p (durableOf k) = λ p lo hi. same-number p lo hi (f p lo hi) in
+        let nums : (p : ℕ) → 1 ≤ p → p ≤ h .pages → lastOf p (durableOf h) ≡ lastOf p (durableOf k) =
+        λ p lo hi. same-number p lo hi (f p lo hi) in
         omega (
           arith,
           no-longer (h .pages) (durableOf h) (durableOf k) (rw same (tied k lk .holds .fair)) nums,

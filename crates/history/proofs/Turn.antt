@@ -1,4 +1,5 @@
--- A heading stored where there is no ring: the invariant holds under the new tag, if the images that the store relies on are valid as before.
+-- A heading stored where there is no ring: the invariant holds under the new tag, if the images that the store relies on are valid as
+-- before.
 use mathlib.Core.Path.{_≡_, sym, ap, _∙_, subst}
 use mathlib.Core.Logic.{_≢_, _⊎_}
 use mathlib.Core.Bool.{Bool, true, false}
@@ -31,12 +32,14 @@ use Rattle.history.proofs.Inv.{Image, Past, past-cons, PendingOk, Alive
 pub record SameImages (g : Geometry) (tag : ℕ) (v : List ℕ) (ns : List Note) : Type 0 where
   pub own : (p : ℕ) → 1 ≤ p → p ≤ g .pages → validImage (withTag g tag) p (item g v (pageAt p)) ≡ validImage g p (item g v (pageAt p))
   pub copy : (p : ℕ) → 1 ≤ p → p ≤ g .pages → markAt p ns (length ns) .slot ≢ 0
-      → validImage (withTag g tag) p (item g v (slotAt (markAt p ns (length ns) .slot))) ≡ validImage g p (item g v (slotAt (markAt p ns (length ns) .slot)))
+      → validImage (withTag g tag) p (item g v (slotAt (markAt p ns (length ns) .slot)))
+      ≡ validImage g p (item g v (slotAt (markAt p ns (length ns) .slot)))
 
 -- and so is the one of a pending backup note
 abbrev pub SamePending : Geometry → ℕ → List ℕ → PendingNote → Type 0
 SamePending g tag v Absent = Unit {0}
-SamePending g tag v (Present y) = isWritten y ≡ false → validImage (withTag g tag) (y .page) (item g v (slotAt (y .slot))) ≡ validImage g (y .page) (item g v (slotAt (y .slot)))
+SamePending g tag v (Present y) = isWritten y ≡ false
+    → validImage (withTag g tag) (y .page) (item g v (slotAt (y .slot))) ≡ validImage g (y .page) (item g v (slotAt (y .slot)))
 
 module _ {C : Type 0} (g : Geometry) (v : List ℕ) (k : List Logged) (h : Holds g v k) (ns : List Note) (o : Noted C g v k ns) (tag : ℕ)
     (plain : ring g ≡ false) (known : (tag ≡ carryTag) ⊎ (tag ≡ tagOf Second)) (same : SameImages g tag v ns) where
@@ -51,7 +54,10 @@ module _ {C : Type 0} (g : Geometry) (v : List ℕ) (k : List Logged) (h : Holds
 
   turn-volume : Volume (withTag g tag) (storeHeading v tag)
   turn-volume =
-      record { geo = geometry-heading v (h .vol .ok) tag ∙ ap (λ (y : Geometry). withTag y tag) (h .vol .geo); ok = valid-heading v (h .vol .ok) tag known }
+      record {
+        geo = geometry-heading v (h .vol .ok) tag ∙ ap (λ (y : Geometry). withTag y tag) (h .vol .geo);
+        ok = valid-heading v (h .vol .ok) tag known;
+      }
 
   pub turn-item : (at : Place) → In g at → item (withTag g tag) (storeHeading v tag) at ≡ item g v at
   turn-item at i = item-tag g tag v′ at ∙ item-heading v (h .vol .ok) tag g at i
@@ -63,18 +69,21 @@ module _ {C : Type 0} (g : Geometry) (v : List ℕ) (k : List Logged) (h : Holds
   more-notes = notes-rise g plain (sz .l-high) (sz .n-high) tag
 
   -- an image that is valid now was
-  turn-faithful : (p : ℕ) (at : Place) → In g at → validImage (withTag g tag) p (item g v at) ≡ validImage g p (item g v at) → Faithful g p k (item g v at)
+  turn-faithful : (p : ℕ) (at : Place) → In g at → validImage (withTag g tag) p (item g v at) ≡ validImage g p (item g v at)
+      → Faithful g p k (item g v at)
       → Faithful (withTag g tag) p k (item (withTag g tag) (storeHeading v tag) at)
   turn-faithful p at i e f = rw (turn-item at i) (λ t. f (sym e ∙ t))
 
-  turn-copy : (p slot n : ℕ) → In g (slotAt slot) → validImage (withTag g tag) p (item g v (slotAt slot)) ≡ validImage g p (item g v (slotAt slot)) → Copy g v p slot n
+  turn-copy : (p slot n : ℕ) → In g (slotAt slot)
+      → validImage (withTag g tag) p (item g v (slotAt slot)) ≡ validImage g p (item g v (slotAt slot)) → Copy g v p slot n
       → Copy (withTag g tag) (storeHeading v tag) p slot n
   turn-copy p slot n i e f = rw (turn-item (slotAt slot) i) (e ∙ f .0, f .1)
 
   slot-high : (p : ℕ) → markAt p ns (length ns) .slot ≤ g .slots
   slot-high p = mark-ok (g .pages) (g .slots) k ns (o .fit) p (length ns) (omega arith) .slots
 
-  turn-tail : (place : ℕ → Place) (c n N : ℕ) → ((i : ℕ) → 1 ≤ i → i ≤ N → In g (place i)) → Tail g v place c n N → Tail (withTag g tag) (storeHeading v tag) place c n N
+  turn-tail : (place : ℕ → Place) (c n N : ℕ) → ((i : ℕ) → 1 ≤ i → i ≤ N → In g (place i)) → Tail g v place c n N
+      → Tail (withTag g tag) (storeHeading v tag) place c n N
   turn-tail place c n N inside t =
       record {
         gap = λ b. rw (turn-item (place (suc n)) (inside (suc n) (omega arith) b)) (t .gap b);
@@ -107,7 +116,8 @@ module _ {C : Type 0} (g : Geometry) (v : List ℕ) (k : List Logged) (h : Holds
   turn-notes : NoteRun (withTag g tag) (storeHeading v tag) ns
   turn-notes =
       run-plain (noteRing g′) (g .notes) (length ns) (NoteStands g′ v′ ns) (NoteTorn g′ v′) (Later ns)
-      (run-keep false (g .notes) (length ns) (NoteStands g v ns) (NoteTorn g v) (Later ns) (NoteStands g′ v′ ns) (NoteTorn g′ v′) (Later ns) (λ i a s. s)
+      (run-keep false (g .notes) (length ns) (NoteStands g v ns) (NoteTorn g v) (Later ns) (NoteStands g′ v′ ns)
+      (NoteTorn g′ v′) (Later ns) (λ i a s. s)
       (subst (λ (r : Bool). Run r (g .notes) (length ns) (NoteStands g v ns) (NoteTorn g v) (Later ns)) plain (o .notes))
       (λ i a b w. note-same i (omega arith) ∙ w) (λ i a b t. rw (note-same i (omega arith)) t))
 
@@ -119,11 +129,14 @@ module _ {C : Type 0} (g : Geometry) (v : List ℕ) (k : List Logged) (h : Holds
         notes = turn-notes;
         tail = turn-tail noteAt 12 (length ns) (g .notes) (λ i a b. (a, b)) (o .tail);
         fit = o .fit;
-        backups = λ p lo hi z. turn-faithful p (slotAt (markAt p ns (length ns) .slot)) (omega arith, slot-high p) (same .copy p lo hi z) (o .backups p lo hi z);
-        copies = λ c p lo hi z. turn-copy p (markAt p ns (length ns) .slot) (markAt p ns (length ns) .backup) (omega arith, slot-high p) (same .copy p lo hi z) (o .copies c p lo hi z);
+        backups = λ p lo hi z. turn-faithful p (slotAt (markAt p ns (length ns) .slot)) (omega arith, slot-high p)
+            (same .copy p lo hi z) (o .backups p lo hi z);
+        copies = λ c p lo hi z. turn-copy p (markAt p ns (length ns) .slot) (markAt p ns (length ns) .backup) (omega arith, slot-high p)
+            (same .copy p lo hi z) (o .copies c p lo hi z);
       }
 
-  turn-pending : (y : PendingNote) → SamePending g tag v y → PendingOk C g v k ns y → PendingOk C (withTag g tag) (storeHeading v tag) k ns y
+  turn-pending : (y : PendingNote) → SamePending g tag v y → PendingOk C g v k ns y
+      → PendingOk C (withTag g tag) (storeHeading v tag) k ns y
   turn-pending Absent e t = tt
   turn-pending (Present y) e t = (
     t .0,
@@ -133,7 +146,8 @@ module _ {C : Type 0} (g : Geometry) (v : List ℕ) (k : List Logged) (h : Holds
     (λ c z. let bk = t .0 .backed z in turn-copy (y .page) (y .slot) (y .lsn) (bk .low, bk .high) (e z) (t .4 c z)),
   )
 
-  pub turn-alive : (m : List ℕ) (s : State) (w all : List Logged) → SamePending g tag v (s .note) → Alive C g v m s k w all ns → Alive C (withTag g tag) (storeHeading v tag) m s k w all ns
+  pub turn-alive : (m : List ℕ) (s : State) (w all : List Logged) → SamePending g tag v (s .note) → Alive C g v m s k w all ns
+      → Alive C (withTag g tag) (storeHeading v tag) m s k w all ns
   turn-alive m s w all e a =
       record {
         F = a .F;
@@ -155,7 +169,8 @@ module _ {C : Type 0} (g : Geometry) (v : List ℕ) (k : List Logged) (h : Holds
       }
 
 -- what calls stored does not depend on the tag
-pub turn-past : (g : Geometry) (k : List Logged) (past : List StoredItem) (tag : ℕ) → Past g k past → Past (withTag g tag) k (newHeading tag ∷ past)
+pub turn-past : (g : Geometry) (k : List Logged) (past : List StoredItem) (tag : ℕ) → Past g k past
+    → Past (withTag g tag) k (newHeading tag ∷ past)
 turn-past g k past tag f = past-cons (withTag g tag) k past (newHeading tag) tt (λ at xs i e. moved xs (f at xs (same at i) e))
   where
     same : (at : Place) → isImage (withTag g tag) at ≡ true → isImage g at ≡ true

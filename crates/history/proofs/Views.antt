@@ -25,18 +25,21 @@ use Rattle.history.proofs.Entries.{note, Mark, markAt, markOf, lastBy, 
 use Rattle.history.proofs.Records.{ReplayOf, Faithful}
 use Rattle.history.proofs.Walk.{walk-unbroken, rebuilt-is, walk-stands, walk-stopped, walk-lost}
 use Rattle.history.proofs.Sections.{Sized, volume-sized, most-high}
-use Rattle.history.proofs.Disk.{Holds, Noted, first, first-is, started, not-gone}
+use Rattle.history.proofs.Disk.{Holds, Noted}
+use Rattle.history.proofs.LogScan.{first, first-is, started, not-gone}
 
--- the exact condition of 23, for a run that starts at number suc f: the page has a lost record, suc z the last; its noted backup does not stand;
--- its own image does not stand at or above that record; and the run holds no format of it
+-- the exact condition of 23, for a run that starts at number suc f: the page has a lost record, suc z the last; its noted backup does not
+-- stand; its own image does not stand at or above that record; and the run holds no format of it
 abbrev pub Unserved : Geometry → List ℕ → List Logged → Entry → ℕ → ℕ → Type 0
 Unserved g v k e p f =
     (z : ℕ) × (lastAt p k f ≡ suc z)
-    × ((not (eqb (e .slot) 0) && (validImage g p (item g v (slotAt (e .slot))) && eqb (imageLsn (item g v (slotAt (e .slot)))) (e .backup))) ≡ false)
+    × ((not (eqb (e .slot) 0)
+    && (validImage g p (item g v (slotAt (e .slot))) && eqb (imageLsn (item g v (slotAt (e .slot)))) (e .backup))) ≡ false)
     × ((validImage g p (item g v (pageAt p)) && leb (suc z) (imageLsn (item g v (pageAt p)))) ≡ false)
     × ((i : ℕ) → f ≤ i → i < length k → at k i .page ≡ p → eqb (kindOf (at k i .change)) 1 ≡ false)
 
-module _ {C : Type 0} (g : Geometry) (v : List ℕ) (k : List Logged) (h : Holds g v k) (ns : List Note) (o : Noted C g v k ns) (a j p : ℕ) (lo : 1 ≤ p) (hi : p ≤ g .pages)
+module _ {C : Type 0} (g : Geometry) (v : List ℕ) (k : List Logged) (h : Holds g v k) (ns : List Note) (o : Noted C g v k ns) (a j p : ℕ)
+    (lo : 1 ≤ p) (hi : p ≤ g .pages)
     (b : j < length k) (e : at k j .page ≡ p) where
   abbrev mark : Mark
   mark = markAt p ns (length ns)
@@ -64,16 +67,20 @@ module _ {C : Type 0} (g : Geometry) (v : List ℕ) (k : List Logged) (h : Holds
       (λ t. absurd (ne (rw t)))
       (λ t. o .backups p lo hi (eqb-false (markAt p ns (length ns) .slot) 0 t))
 
-  pub view-unbroken : isBroken (walkOf g p (viewOf g v (firstHeld g v (length k)) (entryFrom a (suc j) (markAt p ns (length ns))) p) .stop) ≡ false
+  pub view-unbroken : isBroken
+      (walkOf g p (viewOf g v (firstHeld g v (length k)) (entryFrom a (suc j) (markAt p ns (length ns))) p) .stop) ≡ false
   unfolding view f
   view-unbroken =
-      walk-unbroken g (g .pages) (sz .p-high) k (h .fair) few p view f starts (λ i c d. started g v k h ns o .held i c d) (h .images p lo hi) copy-ok j b e refl
+      walk-unbroken g (g .pages) (sz .p-high) k (h .fair) few p view f starts (λ i c d. started g v k h ns o .held i c d)
+      (h .images p lo hi) copy-ok j b e refl
 
-  pub view-body : isBelow (walkOf g p (viewOf g v (firstHeld g v (length k)) (entryFrom a (suc j) (markAt p ns (length ns))) p) .stop) ≡ false
+  pub view-body : isBelow
+      (walkOf g p (viewOf g v (firstHeld g v (length k)) (entryFrom a (suc j) (markAt p ns (length ns))) p) .stop) ≡ false
       → rebuiltBody g p (viewOf g v (firstHeld g v (length k)) (entryFrom a (suc j) (markAt p ns (length ns))) p) ≡ replayAt p k (suc j)
   unfolding view f
   view-body z =
-      rebuilt-is g (g .pages) (sz .p-high) k (h .fair) few p view f starts (λ i c d. started g v k h ns o .held i c d) (h .images p lo hi) copy-ok j b e refl z
+      rebuilt-is g (g .pages) (sz .p-high) k (h .fair) few p view f starts (λ i c d. started g v k h ns o .held i c d)
+      (h .images p lo hi) copy-ok j b e refl z
 
   -- a start at x
   stands : (x : ℕ) → (x ≢ 0 → (ownStart g p view ≡ x) ⊎ (backupStart g p view ≡ x)) → ((i : ℕ) → x ≡ suc i → at k i .page ≡ p)
@@ -81,10 +88,12 @@ module _ {C : Type 0} (g : Geometry) (v : List ℕ) (k : List Logged) (h : Holds
       → isBelow (walkOf g p (viewOf g v (firstHeld g v (length k)) (entryFrom a (suc j) (markAt p ns (length ns))) p) .stop) ≡ false
   unfolding view f
   stands x hit page-of lost le =
-      walk-stands g (g .pages) (sz .p-high) k (h .fair) few p view f starts (λ i c d. started g v k h ns o .held i c d) (h .images p lo hi) copy-ok j b e refl x hit page-of lost le
+      walk-stands g (g .pages) (sz .p-high) k (h .fair) few p view f starts (λ i c d. started g v k h ns o .held i c d)
+      (h .images p lo hi) copy-ok j b e refl x hit page-of lost le
 
   -- record 1 has not left: nothing is below the run
-  pub view-whole : gone g v ≡ false → isBelow (walkOf g p (viewOf g v (firstHeld g v (length k)) (entryFrom a (suc j) (markAt p ns (length ns))) p) .stop) ≡ false
+  pub view-whole : gone g v ≡ false
+      → isBelow (walkOf g p (viewOf g v (firstHeld g v (length k)) (entryFrom a (suc j) (markAt p ns (length ns))) p) .stop) ≡ false
   unfolding f
   view-whole t =
       let z : first g v k h ns o ≡ 0 = not-gone g v k h ns o t (omega arith) in
@@ -131,11 +140,13 @@ module _ {C : Type 0} (g : Geometry) (v : List ℕ) (k : List Logged) (h : Holds
       let q : markAt p ns (length ns) .backup ≡ 0 = no-backup (eqb-true (markAt p ns (length ns) .slot) 0 z) in
       stands 0 (λ n. absurd (n refl)) (λ i q. absurd (omega arith)) (λ i c d u. omega (arith, lost-below i c d u)) (omega arith)
 
-  by-copy : eqb (markAt p ns (length ns) .slot) 0 ≡ false → lastOf p k ≡ suc j → validImage g p copy ≡ true → imageLsn copy ≡ markAt p ns (length ns) .backup → Served
+  by-copy : eqb (markAt p ns (length ns) .slot) 0 ≡ false → lastOf p k ≡ suc j → validImage g p copy ≡ true
+      → imageLsn copy ≡ markAt p ns (length ns) .backup → Served
   unfolding view
   by-copy z last t q =
       let im = image-at copy (o .backups p lo hi (eqb-false (markAt p ns (length ns) .slot) 0 z)) t last in
-      stands (markAt p ns (length ns) .backup) (λ n. inr (rw (z, t, eq-eqb (imageLsn copy) (markAt p ns (length ns) .backup) q))) (λ i u. im .0 i (q ∙ u))
+      stands (markAt p ns (length ns) .backup) (λ n. inr (rw (z, t, eq-eqb (imageLsn copy) (markAt p ns (length ns) .backup) q)))
+      (λ i u. im .0 i (q ∙ u))
       lost-below (omega (arith, im .1))
 
   by-own : lastOf p k ≡ suc j → validImage g p own ≡ true → markAt p ns (length ns) .backup ≤ imageLsn own → Served
@@ -153,9 +164,11 @@ module _ {C : Type 0} (g : Geometry) (v : List ℕ) (k : List Logged) (h : Holds
       let t′ : (A || B) ≡ true = rw z at t in
       ⊎-elim
       (λ y. by-copy z last (and-left (validImage g p copy) (eqb (imageLsn copy) (markAt p ns (length ns) .backup)) y)
-      (eqb-true (imageLsn copy) (markAt p ns (length ns) .backup) (and-right (validImage g p copy) (eqb (imageLsn copy) (markAt p ns (length ns) .backup)) y)))
+      (eqb-true (imageLsn copy) (markAt p ns (length ns) .backup)
+      (and-right (validImage g p copy) (eqb (imageLsn copy) (markAt p ns (length ns) .backup)) y)))
       (λ y. by-own last (and-left (validImage g p own) (leb (markAt p ns (length ns) .backup) (imageLsn own)) y)
-      (leb-true (markAt p ns (length ns) .backup) (imageLsn own) (and-right (validImage g p own) (leb (markAt p ns (length ns) .backup) (imageLsn own)) y)))
+      (leb-true (markAt p ns (length ns) .backup) (imageLsn own)
+      (and-right (validImage g p own) (leb (markAt p ns (length ns) .backup) (imageLsn own)) y)))
       (or-cases A B t′))
 
   -- ---- the exact form of 23
@@ -163,7 +176,8 @@ module _ {C : Type 0} (g : Geometry) (v : List ℕ) (k : List Logged) (h : Holds
   abbrev pub Unrepaired : Type 0
   Unrepaired = isBelow (walkOf g p (viewOf g v (firstHeld g v (length k)) (entryFrom a (suc j) (markAt p ns (length ns))) p) .stop) ≡ true
 
-  copy-fails : (not (eqb (markAt p ns (length ns) .slot) 0) && (validImage g p copy && eqb (imageLsn copy) (markAt p ns (length ns) .backup))) ≡ false → backupStart g p view ≡ 0
+  copy-fails : (not (eqb (markAt p ns (length ns) .slot) 0)
+      && (validImage g p copy && eqb (imageLsn copy) (markAt p ns (length ns) .backup))) ≡ false → backupStart g p view ≡ 0
   unfolding view
   copy-fails t = byCases (eqb (markAt p ns (length ns) .slot) 0)
       (λ z. rw z (same (validImage g p copy && eqb (imageLsn copy) 0)))
@@ -176,7 +190,8 @@ module _ {C : Type 0} (g : Geometry) (v : List ℕ) (k : List Logged) (h : Holds
   own-fails : (z : ℕ) → (validImage g p own && leb (suc z) (imageLsn own)) ≡ false → ownStart g p view ≤ z
   unfolding view
   own-fails z t = byCases (validImage g p own)
-      (λ y. let u : leb (suc z) (imageLsn own) ≡ false = rw y at t in rw y (let lt : imageLsn own < suc z = leb-false (suc z) (imageLsn own) u in omega arith))
+      (λ y. let u : leb (suc z) (imageLsn own) ≡ false = rw y at t in
+      rw y (let lt : imageLsn own < suc z = leb-false (suc z) (imageLsn own) u in omega arith))
       (λ y. rw y (omega arith))
 
   pub exact-below : lastOf p k ≡ suc j → Unserved g v k (entryFrom a (suc j) (markAt p ns (length ns))) p (first g v k h ns o) → Unrepaired
@@ -184,7 +199,8 @@ module _ {C : Type 0} (g : Geometry) (v : List ℕ) (k : List Logged) (h : Holds
   exact-below last u =
       let st = started g v k h ns o in
       let le : lastAt p k (first g v k h ns o) ≤ lastOf p k = last-mono p k (length k) (first g v k h ns o) (st .inside (omega arith)) in
-      walk-lost g (g .pages) (sz .p-high) k (h .fair) few p view f starts (λ i c d. st .held i c d) (h .images p lo hi) copy-ok j b e refl (u .0) (u .1)
+      walk-lost g (g .pages) (sz .p-high) k (h .fair) few p view f starts (λ i c d. st .held i c d)
+      (h .images p lo hi) copy-ok j b e refl (u .0) (u .1)
       (own-fails (u .0) (u .3)) (copy-fails (u .2)) (u .4) (omega (arith, u .1))
 
   pub below-exact : lastOf p k ≡ suc j → Unrepaired → Unserved g v k (entryFrom a (suc j) (markAt p ns (length ns))) p (first g v k h ns o)
@@ -195,26 +211,33 @@ module _ {C : Type 0} (g : Geometry) (v : List ℕ) (k : List Logged) (h : Holds
       never s = true-not-false t s
 
       go : (n : ℕ) → lastAt p k f ≡ n → Unserved g v k (entryFrom a (suc j) (markAt p ns (length ns))) p (first g v k h ns o)
-      go zero q = absurd (never (stands 0 (λ n. absurd (n refl)) (λ i y. absurd (omega arith)) (λ i c d y. omega (arith, last-ge p k f i d y)) (omega arith)))
+      go zero q = absurd (never
+          (stands 0 (λ n. absurd (n refl)) (λ i y. absurd (omega arith)) (λ i c d y. omega (arith, last-ge p k f i d y)) (omega arith)))
       go (suc z) q = (
         z,
         q,
-        byCases (not (eqb (markAt p ns (length ns) .slot) 0) && (validImage g p copy && eqb (imageLsn copy) (markAt p ns (length ns) .backup)))
+        byCases (not (eqb (markAt p ns (length ns) .slot) 0)
+            && (validImage g p copy && eqb (imageLsn copy) (markAt p ns (length ns) .backup)))
             (λ y.
-            let y₁ = not-true (eqb (markAt p ns (length ns) .slot) 0) (and-left (not (eqb (markAt p ns (length ns) .slot) 0)) (validImage g p copy && eqb (imageLsn copy) (markAt p ns (length ns) .backup)) y) in
-            let y₂ = and-right (not (eqb (markAt p ns (length ns) .slot) 0)) (validImage g p copy && eqb (imageLsn copy) (markAt p ns (length ns) .backup)) y in
+            let y₁ = not-true (eqb (markAt p ns (length ns) .slot) 0) (and-left (not (eqb (markAt p ns (length ns) .slot) 0))
+            (validImage g p copy && eqb (imageLsn copy) (markAt p ns (length ns) .backup)) y) in
+            let y₂ = and-right (not (eqb (markAt p ns (length ns) .slot) 0))
+            (validImage g p copy && eqb (imageLsn copy) (markAt p ns (length ns) .backup)) y in
             absurd (never (by-copy y₁ last (and-left (validImage g p copy) (eqb (imageLsn copy) (markAt p ns (length ns) .backup)) y₂)
-            (eqb-true (imageLsn copy) (markAt p ns (length ns) .backup) (and-right (validImage g p copy) (eqb (imageLsn copy) (markAt p ns (length ns) .backup)) y₂)))))
+            (eqb-true (imageLsn copy) (markAt p ns (length ns) .backup)
+            (and-right (validImage g p copy) (eqb (imageLsn copy) (markAt p ns (length ns) .backup)) y₂)))))
             (λ y. y),
         byCases (validImage g p own && leb (suc z) (imageLsn own))
             (λ y.
             let y₁ = and-left (validImage g p own) (leb (suc z) (imageLsn own)) y in
-            let up : suc z ≤ imageLsn own = leb-true (suc z) (imageLsn own) (and-right (validImage g p own) (leb (suc z) (imageLsn own)) y) in
+            let up : suc z ≤ imageLsn own =
+            leb-true (suc z) (imageLsn own) (and-right (validImage g p own) (leb (suc z) (imageLsn own)) y) in
             let im = image-at own (h .images p lo hi) y₁ last in
             absurd (never (stands (imageLsn own) (λ n. inl (rw y₁)) (im .0) (λ i c d u. omega (arith, last-ge p k f i d u)) (im .1))))
             (λ y. y),
         λ i c d u. byCases (eqb (kindOf (at k i .change)) 1)
-            (λ y. absurd (never (walk-stopped g (g .pages) (sz .p-high) k (h .fair) few p view f starts (λ i c d. started g v k h ns o .held i c d) (h .images p lo hi) copy-ok j b e refl
+            (λ y. absurd (never (walk-stopped g (g .pages) (sz .p-high) k (h .fair) few p view f starts
+            (λ i c d. started g v k h ns o .held i c d) (h .images p lo hi) copy-ok j b e refl
             i c u y (omega (arith, last-ge p k (length k) i d u)))))
             (λ y. y),
       )

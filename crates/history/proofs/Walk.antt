@@ -28,7 +28,8 @@ pub record Serves (w : View) (p : ℕ) (l : List Logged) (n : ℕ) (k : Walk) : 
   pub body-is : isBelow (k .stop) ≡ false → replayChain (w .log) (k .chain) (startBody (k .stop) w) ≡ replayAt p l n
 
 module _ (g : Geometry) (P : ℕ) (P64 : P ≤ 64) (l : List Logged) (fair : AllFair P l) (few : length l ≤ topNumber) (p : ℕ) (w : View)
-    (f : ℕ) (first-is : w .first ≡ suc f) (held : (i : ℕ) → i < length l → f ≤ i → w .log (suc i) ≡ recOf l i) (own : Faithful g p l (w .own)) (copy : w .backup ≢ 0 → Faithful g p l (w .copy)) where
+    (f : ℕ) (first-is : w .first ≡ suc f) (held : (i : ℕ) → i < length l → f ≤ i → w .log (suc i) ≡ recOf l i)
+    (own : Faithful g p l (w .own)) (copy : w .backup ≢ 0 → Faithful g p l (w .copy)) where
   -- where the walk stops at the own image, that is the replay
   own-serves : (n : ℕ) → ownStart g p w ≡ suc n → imageBody (w .own) ≡ replayAt p l (suc n)
   own-serves n e = byCases (validImage g p (w .own))
@@ -44,7 +45,8 @@ module _ (g : Geometry) (P : ℕ) (P64 : P ≤ 64) (l : List Logged) (fair : All
       (λ t.
       let q : w .backup ≡ suc n = rw t at e in
       let f = copy (λ z. omega arith) (and-left (validImage g p (w .copy)) (eqb (imageLsn (w .copy)) (w .backup)) t) in
-      let q′ : imageLsn (w .copy) ≡ w .backup = eqb-true (imageLsn (w .copy)) (w .backup) (and-right (validImage g p (w .copy)) (eqb (imageLsn (w .copy)) (w .backup)) t) in
+      let q′ : imageLsn (w .copy) ≡ w .backup =
+      eqb-true (imageLsn (w .copy)) (w .backup) (and-right (validImage g p (w .copy)) (eqb (imageLsn (w .copy)) (w .backup)) t) in
       let s : suc (f .place) ≡ suc n = sym (f .lsn-is) ∙ (q′ ∙ q) in
       f .body-is ∙ ap (replayAt p l) s)
       (λ t. absurd (let z : 0 ≡ suc n = rw t at e in omega arith))
@@ -70,7 +72,8 @@ module _ (g : Geometry) (P : ℕ) (P64 : P ≤ 64) (l : List Logged) (fair : All
 
   -- a record that is read, given the walks from lower numbers
   chained : (steps m : ℕ) → m < length l → f ≤ m → at l m .page ≡ p
-      → ((k : ℕ) → k < m → at l k .page ≡ p → Serves w p l (suc k) (walkFrom steps (w .log) (w .first) p (ownStart g p w) (backupStart g p w) (suc k)))
+      → ((k : ℕ) → k < m → at l k .page ≡ p
+      → Serves w p l (suc k) (walkFrom steps (w .log) (w .first) p (ownStart g p w) (backupStart g p w) (suc k)))
       → Serves w p l (suc m)
       (cond (isFormat (recordOf (recOf l m))) (stopAt Format (suc m ∷ []))
       (behind (suc m ∷ []) (walkFrom steps (w .log) (w .first) p (ownStart g p w) (backupStart g p w) (recordOf (recOf l m) .prev))))
@@ -79,12 +82,14 @@ module _ (g : Geometry) (P : ℕ) (P64 : P ≤ 64) (l : List Logged) (fair : All
       rw (rec m b e .fields, e) (byCases (eqb (kindOf (at l m .change)) 1)
       (λ t. rw t (record {
         unbroken = refl;
-        body-is = λ z. rw (held m b a, rec m b e .applied zeroBody, replay-hit p l m e) (format-apply (at l m .change) (at l m .bytes) zeroBody (replayAt p l m) t);
+        body-is = λ z. rw (held m b a, rec m b e .applied zeroBody, replay-hit p l m e)
+            (format-apply (at l m .change) (at l m .bytes) zeroBody (replayAt p l m) t);
       }))
       (λ t. rw t (go t (lastAt p l m) refl)))
     where
       go : eqb (kindOf (at l m .change)) 1 ≡ false → (n : ℕ) → lastAt p l m ≡ n
-          → Serves w p l (suc m) (behind (suc m ∷ []) (walkFrom steps (w .log) (w .first) p (ownStart g p w) (backupStart g p w) (lastAt p l m)))
+          → Serves w p l (suc m)
+          (behind (suc m ∷ []) (walkFrom steps (w .log) (w .first) p (ownStart g p w) (backupStart g p w) (lastAt p l m)))
       go t zero q =
           let z : lastAt (at l m .page) l m ≡ 0 = rw e q in
           let f : eqb (kindOf (at l m .change)) 1 ≡ true = fair m b .first z in
@@ -119,7 +124,8 @@ module _ (g : Geometry) (P : ℕ) (P64 : P ≤ 64) (l : List Logged) (fair : All
       (lost : (i : ℕ) → i < length l → i < f → at l i .page ≡ p → suc i ≤ x) where
     misses : (m : ℕ) → eqb (ownStart g p w) (suc m) ≡ false → eqb (backupStart g p w) (suc m) ≡ false → x ≢ suc m
     misses m t u e =
-        ⊎-elim (λ q. eqb-false (ownStart g p w) (suc m) t (q ∙ e)) (λ q. eqb-false (backupStart g p w) (suc m) u (q ∙ e)) (hit (λ z. omega arith))
+        ⊎-elim (λ q. eqb-false (ownStart g p w) (suc m) t (q ∙ e)) (λ q. eqb-false (backupStart g p w) (suc m) u (q ∙ e))
+        (hit (λ z. omega arith))
 
     -- the page's last change before m is not below x
     reaches : (m k : ℕ) → lastAt p l m ≡ suc k → x ≤ m → x ≤ suc k
@@ -130,10 +136,13 @@ module _ (g : Geometry) (P : ℕ) (P64 : P ≤ 64) (l : List Logged) (fair : All
         go (suc j) e = let ge : suc j ≤ lastAt p l m = last-ge p l m j (omega arith) (page-of j e) in omega arith
 
     chain-granted : (steps m : ℕ) → m < length l → at l m .page ≡ p → x ≤ m
-        → ((k : ℕ) → k < m → at l k .page ≡ p → x ≤ suc k → isBelow (walkFrom steps (w .log) (w .first) p (ownStart g p w) (backupStart g p w) (suc k) .stop) ≡ false)
+        → ((k : ℕ) → k < m → at l k .page ≡ p → x ≤ suc k
+        → isBelow (walkFrom steps (w .log) (w .first) p (ownStart g p w) (backupStart g p w) (suc k) .stop) ≡ false)
         → isBelow (cond (isFormat (recordOf (recOf l m))) (stopAt Format (suc m ∷ []))
-        (behind (suc m ∷ []) (walkFrom steps (w .log) (w .first) p (ownStart g p w) (backupStart g p w) (recordOf (recOf l m) .prev))) .stop) ≡ false
-    chain-granted steps m b e c ih = rw (rec m b e .fields, e) (byCases (eqb (kindOf (at l m .change)) 1) (λ t. rw t refl) (λ t. rw t (go t (lastAt p l m) refl)))
+        (behind (suc m ∷ [])
+        (walkFrom steps (w .log) (w .first) p (ownStart g p w) (backupStart g p w) (recordOf (recOf l m) .prev))) .stop) ≡ false
+    chain-granted steps m b e c ih =
+        rw (rec m b e .fields, e) (byCases (eqb (kindOf (at l m .change)) 1) (λ t. rw t refl) (λ t. rw t (go t (lastAt p l m) refl)))
       where
         go : eqb (kindOf (at l m .change)) 1 ≡ false → (n : ℕ) → lastAt p l m ≡ n
             → isBelow (walkFrom steps (w .log) (w .first) p (ownStart g p w) (backupStart g p w) (lastAt p l m) .stop) ≡ false
@@ -166,10 +175,13 @@ module _ (g : Geometry) (P : ℕ) (P64 : P ≤ 64) (l : List Logged) (fair : All
   -- a format in the run stops the walk there, or earlier
   module _ (i₀ : ℕ) (in-run : f ≤ i₀) (of-page : at l i₀ .page ≡ p) (format : eqb (kindOf (at l i₀ .change)) 1 ≡ true) where
     format-chain : (steps m : ℕ) → m < length l → at l m .page ≡ p → i₀ ≤ m
-        → ((k : ℕ) → k < m → at l k .page ≡ p → i₀ ≤ k → isBelow (walkFrom steps (w .log) (w .first) p (ownStart g p w) (backupStart g p w) (suc k) .stop) ≡ false)
+        → ((k : ℕ) → k < m → at l k .page ≡ p → i₀ ≤ k
+        → isBelow (walkFrom steps (w .log) (w .first) p (ownStart g p w) (backupStart g p w) (suc k) .stop) ≡ false)
         → isBelow (cond (isFormat (recordOf (recOf l m))) (stopAt Format (suc m ∷ []))
-        (behind (suc m ∷ []) (walkFrom steps (w .log) (w .first) p (ownStart g p w) (backupStart g p w) (recordOf (recOf l m) .prev))) .stop) ≡ false
-    format-chain steps m b e c ih = rw (rec m b e .fields, e) (byCases (eqb (kindOf (at l m .change)) 1) (λ t. rw t refl) (λ t. rw t (go t (lastAt p l m) refl)))
+        (behind (suc m ∷ [])
+        (walkFrom steps (w .log) (w .first) p (ownStart g p w) (backupStart g p w) (recordOf (recOf l m) .prev))) .stop) ≡ false
+    format-chain steps m b e c ih =
+        rw (rec m b e .fields, e) (byCases (eqb (kindOf (at l m .change)) 1) (λ t. rw t refl) (λ t. rw t (go t (lastAt p l m) refl)))
       where
         go : eqb (kindOf (at l m .change)) 1 ≡ false → (n : ℕ) → lastAt p l m ≡ n
             → isBelow (walkFrom steps (w .log) (w .first) p (ownStart g p w) (backupStart g p w) (lastAt p l m) .stop) ≡ false
@@ -195,9 +207,11 @@ module _ (g : Geometry) (P : ℕ) (P64 : P ≤ 64) (l : List Logged) (fair : All
   module _ (z : ℕ) (last-lost : lastAt p l f ≡ suc z) (own-low : ownStart g p w ≤ z) (no-copy : backupStart g p w ≡ 0)
       (plain : (i : ℕ) → f ≤ i → i < length l → at l i .page ≡ p → eqb (kindOf (at l i .change)) 1 ≡ false) where
     below-chain : (steps m : ℕ) → m < length l → at l m .page ≡ p → f ≤ m
-        → ((k : ℕ) → k < m → at l k .page ≡ p → z ≤ k → isBelow (walkFrom steps (w .log) (w .first) p (ownStart g p w) (backupStart g p w) (suc k) .stop) ≡ true)
+        → ((k : ℕ) → k < m → at l k .page ≡ p → z ≤ k
+        → isBelow (walkFrom steps (w .log) (w .first) p (ownStart g p w) (backupStart g p w) (suc k) .stop) ≡ true)
         → isBelow (cond (isFormat (recordOf (recOf l m))) (stopAt Format (suc m ∷ []))
-        (behind (suc m ∷ []) (walkFrom steps (w .log) (w .first) p (ownStart g p w) (backupStart g p w) (recordOf (recOf l m) .prev))) .stop) ≡ true
+        (behind (suc m ∷ [])
+        (walkFrom steps (w .log) (w .first) p (ownStart g p w) (backupStart g p w) (recordOf (recOf l m) .prev))) .stop) ≡ true
     below-chain steps m b e c ih =
         let ge : lastAt p l f ≤ lastAt p l m = last-mono p l m f c in
         let s : lastAt p l m ≡ suc (lastAt p l m - 1) = omega arith in
@@ -209,7 +223,8 @@ module _ (g : Geometry) (P : ℕ) (P64 : P ≤ 64) (l : List Logged) (fair : All
     unfolding walkFrom
     walk-below zero m a b e h = absurd (omega arith)
     walk-below (suc steps) m a b e h =
-        rw (ne-eqb (ownStart g p w) (suc m) (λ y. omega arith), ne-eqb (backupStart g p w) (suc m) (λ y. omega arith)) (byCases (ltb (suc m) (w .first))
+        rw (ne-eqb (ownStart g p w) (suc m) (λ y. omega arith), ne-eqb (backupStart g p w) (suc m) (λ y. omega arith))
+        (byCases (ltb (suc m) (w .first))
         (λ y. rw y refl)
         (λ y.
         let le : w .first ≤ suc m = ltb-false (suc m) (w .first) y in
@@ -221,7 +236,8 @@ module _ (g : Geometry) (P : ℕ) (P64 : P ≤ 64) (l : List Logged) (fair : All
     walked : Serves w p l (suc m) (walkOf g p w)
     unfolding walkOf
     walked =
-        subst (λ (n : ℕ). Serves w p l (suc m) (walkFrom n (w .log) (w .first) p (ownStart g p w) (backupStart g p w) n)) (sym d) (walk-serves (suc m) m (omega arith) b e)
+        subst (λ (n : ℕ). Serves w p l (suc m) (walkFrom n (w .log) (w .first) p (ownStart g p w) (backupStart g p w) n)) (sym d)
+        (walk-serves (suc m) m (omega arith) b e)
 
     pub walk-unbroken : isBroken (walkOf g p w .stop) ≡ false
     walk-unbroken = walked .unbroken
@@ -237,13 +253,17 @@ module _ (g : Geometry) (P : ℕ) (P64 : P ≤ 64) (l : List Logged) (fair : All
         subst (λ (n : ℕ). isBelow (walkFrom n (w .log) (w .first) p (ownStart g p w) (backupStart g p w) n .stop) ≡ false) (sym d)
         (walk-granted x hit page-of lost (suc m) m (omega arith) b e h)
 
-    pub walk-stopped : (i : ℕ) → f ≤ i → at l i .page ≡ p → eqb (kindOf (at l i .change)) 1 ≡ true → i ≤ m → isBelow (walkOf g p w .stop) ≡ false
+    pub walk-stopped : (i : ℕ) → f ≤ i → at l i .page ≡ p → eqb (kindOf (at l i .change)) 1 ≡ true → i ≤ m
+        → isBelow (walkOf g p w .stop) ≡ false
     unfolding walkOf
     walk-stopped i a c t h =
-        subst (λ (n : ℕ). isBelow (walkFrom n (w .log) (w .first) p (ownStart g p w) (backupStart g p w) n .stop) ≡ false) (sym d) (walk-format i a c t (suc m) m (omega arith) b e h)
+        subst (λ (n : ℕ). isBelow (walkFrom n (w .log) (w .first) p (ownStart g p w) (backupStart g p w) n .stop) ≡ false) (sym d)
+        (walk-format i a c t (suc m) m (omega arith) b e h)
 
     pub walk-lost : (z : ℕ) → lastAt p l f ≡ suc z → ownStart g p w ≤ z → backupStart g p w ≡ 0
-        → ((i : ℕ) → f ≤ i → i < length l → at l i .page ≡ p → eqb (kindOf (at l i .change)) 1 ≡ false) → z ≤ m → isBelow (walkOf g p w .stop) ≡ true
+        → ((i : ℕ) → f ≤ i → i < length l → at l i .page ≡ p → eqb (kindOf (at l i .change)) 1 ≡ false) → z ≤ m
+        → isBelow (walkOf g p w .stop) ≡ true
     unfolding walkOf
     walk-lost z y o c t h =
-        subst (λ (n : ℕ). isBelow (walkFrom n (w .log) (w .first) p (ownStart g p w) (backupStart g p w) n .stop) ≡ true) (sym d) (walk-below z y o c t (suc m) m (omega arith) b e h)
+        subst (λ (n : ℕ). isBelow (walkFrom n (w .log) (w .first) p (ownStart g p w) (backupStart g p w) n .stop) ≡ true) (sym d)
+        (walk-below z y o c t (suc m) m (omega arith) b e h)

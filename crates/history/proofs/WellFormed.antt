@@ -36,7 +36,8 @@ layout-ok P B l ns n y f = byCases (isWritten y)
     (λ t. or-left (eqb (y .kind) 2) (and-both t (eq-eqb (y .slot) 0 (f .written t .0))))
     (λ t. or-right (eqb (y .kind) 1 && eqb (y .slot) 0) (eq-eqb (y .kind) 2 (f .backed t .kind-is)))
 
-module _ {C : Type 0} {g : Geometry} {v m : List ℕ} {past : List StoredItem} {s : State} {k w : List Logged} (x : Ctx C g v m past s k w) where
+module _ {C : Type 0} {g : Geometry} {v m : List ℕ} {past : List StoredItem} {s : State} {k w : List Logged}
+    (x : Ctx C g v m past s k w) where
   note-fits : (y : PendingNote) → PendingOk C g v k (x .ns) y → pendingNoteFits g (s .notes) (s .durable) y ≡ true
   unfolding pendingNoteFits
   note-fits Absent t = refl
@@ -48,7 +49,8 @@ module _ {C : Type 0} {g : Geometry} {v m : List ℕ} {past : List StoredItem} {
       (and-both (eq-eqb (y .number) (s .notes + 1) (omega (arith, f .number-is, x .al .notes-is)))
       (and-both (within-holds (g .pages) (y .page) (f .low) (f .high))
       (and-both
-      (byCases (isWritten y) (λ z. or-left (within (g .slots) (y .slot)) z) (λ z. or-right (isWritten y) (within-holds (g .slots) (y .slot) (f .backed z .low) (f .backed z .high))))
+      (byCases (isWritten y) (λ z. or-left (within (g .slots) (y .slot)) z)
+      (λ z. or-right (isWritten y) (within-holds (g .slots) (y .slot) (f .backed z .low) (f .backed z .high))))
       (le-leb (y .lsn) (s .durable) (omega (arith, f .below, x .al .log .durable-is))))))))
 
   -- ---- frames
@@ -72,30 +74,36 @@ module _ {C : Type 0} {g : Geometry} {v m : List ℕ} {past : List StoredItem} {
       apart j c nz d = rw (ne-eqb (frameRow s j .page) (frameRow s i .page) (λ e.
           let q : j ≡ i = x .al .frames .once j i (omega arith) c (λ z. nz (sym e ∙ z)) e in omega arith))
 
-      filled : 1 ≤ frameRow s i .page → frameRow s i .page ≤ g .pages → 1 ≤ lastOf (frameRow s i .page) (x .all) → not (blank s (frameRow s i .page)) ≡ true
-      filled lo hi some = rw (ne-eqb (entryOf (s .index) (frameRow s i .page) .last) 0 (λ z. omega (arith, last-entry x (frameRow s i .page) lo hi)))
+      filled : 1 ≤ frameRow s i .page → frameRow s i .page ≤ g .pages → 1 ≤ lastOf (frameRow s i .page) (x .all)
+          → not (blank s (frameRow s i .page)) ≡ true
+      filled lo hi some =
+          rw (ne-eqb (entryOf (s .index) (frameRow s i .page) .last) 0 (λ z. omega (arith, last-entry x (frameRow s i .page) lo hi)))
 
   -- ---- the index
 
-  row-is : (i : ℕ) → i < 64 → entryRow (s .index) i ≡ entryFrom (lastOf (suc i) (x .all)) (lastAt (suc i) (x .all) (length k)) (markAt (suc i) (x .ns) (length (x .ns)))
+  row-is : (i : ℕ) → i < 64 → entryRow (s .index) i ≡ entryFrom (lastOf (suc i) (x .all)) (lastAt (suc i) (x .all) (length k))
+      (markAt (suc i) (x .ns) (length (x .ns)))
   row-is i b =
       let e : i ≡ suc i - 1 = omega arith in
       ap (λ (j : ℕ). getD (s .index) j emptyEntry) e ∙ x .al .index .entry (suc i) (omega arith) b
 
-  entry-fits : (p : ℕ) → 1 ≤ p → p ≤ g .pages → entryFits g s p (entryFrom (lastOf p (x .all)) (lastAt p (x .all) (length k)) (markAt p (x .ns) (length (x .ns)))) ≡ true
+  entry-fits : (p : ℕ) → 1 ≤ p → p ≤ g .pages
+      → entryFits g s p (entryFrom (lastOf p (x .all)) (lastAt p (x .all) (length k)) (markAt p (x .ns) (length (x .ns)))) ≡ true
   unfolding entryFits
   entry-fits p lo hi =
       let o = mark-ok (g .pages) (g .slots) k (x .ns) (x .no .fit) p (length (x .ns)) (omega arith) in
       let d : lastAt p (x .all) (length k) ≡ lastOf p k = durable-last x p lo hi in
       and-both (le-leb (lastOf p (x .all)) (lastNumber s) (omega (arith, sum x, last-le p (x .all) (length (x .all)))))
-      (and-both (le-leb (lastAt p (x .all) (length k)) (lastOf p (x .all)) (last-mono p (x .all) (length (x .all)) (length k) (omega (arith, len x))))
+      (and-both (le-leb (lastAt p (x .all) (length k)) (lastOf p (x .all))
+      (last-mono p (x .all) (length (x .all)) (length k) (omega (arith, len x))))
       (and-both (le-leb (lastAt p (x .all) (length k)) (s .durable) (omega (arith, x .al .log .durable-is, last-le p (x .all) (length k))))
       (and-both (le-leb (markAt p (x .ns) (length (x .ns)) .written) (lastAt p (x .all) (length k)) (omega (arith, o .wrote)))
       (and-both (le-leb (markAt p (x .ns) (length (x .ns)) .backup) (lastAt p (x .all) (length k)) (omega (arith, o .backs)))
       (and-both (le-leb (markAt p (x .ns) (length (x .ns)) .slot) (g .slots) (o .slots))
       (byCases (held s p)
       (λ t. or-left (eqb (lastOf p (x .all)) (lastAt p (x .all) (length k))) t)
-      (λ t. or-right (held s p) (eq-eqb (lastOf p (x .all)) (lastAt p (x .all) (length k)) (x .al .frames .away p lo hi (nowhere x p t))))))))))
+      (λ t. or-right (held s p)
+      (eq-eqb (lastOf p (x .all)) (lastAt p (x .all) (length k)) (x .al .frames .away p lo hi (nowhere x p t))))))))))
 
   page-fits : (i : ℕ) → i < 64 → pageFits g s i ≡ true
   unfolding pageFits

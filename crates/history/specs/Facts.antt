@@ -72,7 +72,8 @@ pub record StoredImage (h : History) (x : List ℕ) : Type 0 where
 -- a page's own image: where it is valid it is a replay, and no newer than the page's last durable change; so its class
 -- is never Ahead
 pub record OwnImage (h : History) (p : ℕ) : Type 0 where
-  pub is-replay : validImage (headingOf h) p (item (headingOf h) (volumeOf h) (pageAt p)) ≡ true → IsReplay p (durableOf h) (item (headingOf h) (volumeOf h) (pageAt p))
+  pub is-replay : validImage (headingOf h) p (item (headingOf h) (volumeOf h) (pageAt p)) ≡ true
+      → IsReplay p (durableOf h) (item (headingOf h) (volumeOf h) (pageAt p))
   pub not-above : validImage (headingOf h) p (item (headingOf h) (volumeOf h) (pageAt p)) ≡ true
       → imageLsn (item (headingOf h) (volumeOf h) (pageAt p)) ≤ entryOf (indexOf (headingOf h) (volumeOf h)) p .durable
 
@@ -82,8 +83,10 @@ pub record OwnImage (h : History) (p : ℕ) : Type 0 where
 pub record IndexEntry (h : History) (p : ℕ) : Type 0 where
   pub durable : entryOf (indexOf (headingOf h) (volumeOf h)) p .durable ≡ lastPlace p (durableOf h)
   pub backup : entryOf (indexOf (headingOf h) (volumeOf h)) p .slot ≢ 0
-      → validImage (headingOf h) p (item (headingOf h) (volumeOf h) (slotAt (entryOf (indexOf (headingOf h) (volumeOf h)) p .slot))) ≡ true
-      → IsReplay p (durableOf h) (item (headingOf h) (volumeOf h) (slotAt (entryOf (indexOf (headingOf h) (volumeOf h)) p .slot)))
+      → validImage (headingOf h) p
+      (item (headingOf h) (volumeOf h) (slotAt (entryOf (indexOf (headingOf h) (volumeOf h)) p .slot))) ≡ true
+      → IsReplay p (durableOf h)
+      (item (headingOf h) (volumeOf h) (slotAt (entryOf (indexOf (headingOf h) (volumeOf h)) p .slot)))
 
 -- the live state says of page p what the volume says
 pub record SameEntry (h : History) (s : State) (p : ℕ) : Type 0 where
@@ -105,20 +108,25 @@ pub record Counts (h : History) (s : State) : Type 0 where
 pub record LivePage (h : History) (m : List ℕ) (s : State) (p : ℕ) : Type 0 where
   pub last : entryOf (s .index) p .last ≡ lastPlace p (durableOf h ++ logOf h .pending)
   pub frame : held s p ≡ true
-      → frameBytes m (holder s p) ≡ frameImage p (lastPlace p (durableOf h ++ logOf h .pending)) (replay p (durableOf h ++ logOf h .pending))
+      → frameBytes m (holder s p)
+      ≡ frameImage p (lastPlace p (durableOf h ++ logOf h .pending)) (replay p (durableOf h ++ logOf h .pending))
 
 -- ---- a page that leaves its frame (document 02, §5)
 
 -- Release, of a page in a frame: it goes exactly if all the page's changes are durable, and is 10 otherwise; then the
 -- page is in no frame
 pub record Releases (h : History) (m : List ℕ) (s : State) (p : ℕ) : Type 0 where
-  pub free : lastPlace p (durableOf h ++ logOf h .pending) ≡ lastPlace p (durableOf h) → refusalOf (releaseOf (volumeOf h) m s p .answer) ≡ 0
-  pub blocked : lastPlace p (durableOf h ++ logOf h .pending) ≢ lastPlace p (durableOf h) → refusalOf (releaseOf (volumeOf h) m s p .answer) ≡ 10
-  pub gone : refusalOf (releaseOf (volumeOf h) m s p .answer) ≡ 0 → held (releaseOf (volumeOf h) m s p .state) p ≡ false
+  pub free : lastPlace p (durableOf h ++ logOf h .pending) ≡ lastPlace p (durableOf h)
+      → refusalOf (releaseOf (volumeOf h) m s p .answer) ≡ 0
+  pub blocked : lastPlace p (durableOf h ++ logOf h .pending) ≢ lastPlace p (durableOf h)
+      → refusalOf (releaseOf (volumeOf h) m s p .answer) ≡ 10
+  pub gone : refusalOf (releaseOf (volumeOf h) m s p .answer) ≡ 0
+      → held (releaseOf (volumeOf h) m s p .state) p ≡ false
 
 -- the refusal of a Load of page p into frame f, in the machine that the call leaves
 abbrev pub reload : History → List ℕ → State → Call → ℕ → ℕ → Outcome
-reload h m s c p f = loadOf (volumeOf h) (outcomeOf c (volumeOf h) m s .memory) (outcomeOf c (volumeOf h) m s .state) p f
+reload h m s c p f =
+    loadOf (volumeOf h) (outcomeOf c (volumeOf h) m s .memory) (outcomeOf c (volumeOf h) m s .state) p f
 
 -- "A user who opens that page must see the same text either way". A call took page p out of its frame: Release, or a
 -- Load or a Begin into that frame. The volume is as it was, and so is every inspection. A Load of the page into any
@@ -126,8 +134,10 @@ reload h m s c p f = loadOf (volumeOf h) (outcomeOf c (volumeOf h) m s .memory) 
 -- 23 only where record 1 has left and the page's proviso fails.
 pub record LetGo (h : History) (m : List ℕ) (s : State) (c : Call) (p : ℕ) : Type 0 where
   pub volume : volumeAfter (volumeOf h) (outcomeOf c (volumeOf h) m s .stored) ≡ volumeOf h
-  pub text : (f : ℕ) → refusalOf (reload h m s c p f .answer) ≡ 0 → frameBytes (reload h m s c p f .memory) f ≡ frameBytes m (holder s p)
-  pub opens : (f : ℕ) → 1 ≤ f → f ≤ frameCount (length (outcomeOf c (volumeOf h) m s .memory)) → frameBlocked (outcomeOf c (volumeOf h) m s .state) f ≡ false
+  pub text : (f : ℕ) → refusalOf (reload h m s c p f .answer) ≡ 0
+      → frameBytes (reload h m s c p f .memory) f ≡ frameBytes m (holder s p)
+  pub opens : (f : ℕ) → 1 ≤ f → f ≤ frameCount (length (outcomeOf c (volumeOf h) m s .memory))
+      → frameBlocked (outcomeOf c (volumeOf h) m s .state) f ≡ false
       → (Gone h → Proviso h p) → refusalOf (reload h m s c p f .answer) ≡ 0
   pub below : (f : ℕ) → refusalOf (reload h m s c p f .answer) ≡ 23 → Gone h × (Proviso h p → ⊥)
 
@@ -136,23 +146,33 @@ pub record LetGo (h : History) (m : List ℕ) (s : State) (c : Call) (p : ℕ) :
 pub record Facts : Type 0 where
   pub sound : (h : History) → Legal h → (m : List ℕ) (s : State) → reached h .power ≡ on m s → Sound h m s
   -- but for the calls that carry a volume over, whose 1 is of the heading: `Carry.OnlyHeading`
-  pub calls : (h : History) → Legal h → (m : List ℕ) (s : State) → reached h .power ≡ on m s → (c : Call) → carries c ≡ false
+  pub calls : (h : History) → Legal h → (m : List ℕ) (s : State) → reached h .power ≡ on m s
+      → (c : Call) → carries c ≡ false
       → Ordinary (refusalOf (outcomeOf c (volumeOf h) m s .answer))
   pub restarts : (h : History) → Legal h → (m : List ℕ) → Restarts h m
   pub answers : (h : History) → Legal h → (p : ℕ) (buffer : List ℕ) → Answers h p buffer
-  pub stored : (h : History) → Legal h → (at : Place) (x : List ℕ) → isImage (headingOf h) at ≡ true → storedBefore at x (reached h .past) ≡ true → StoredImage h x
+  pub stored : (h : History) → Legal h → (at : Place) (x : List ℕ) → isImage (headingOf h) at ≡ true
+      → storedBefore at x (reached h .past) ≡ true → StoredImage h x
   pub own : (h : History) → Legal h → (p : ℕ) → 1 ≤ p → p ≤ h .pages → OwnImage h p
   pub noted : (h : History) → Legal h → (p : ℕ) → 1 ≤ p → p ≤ h .pages → IndexEntry h p
-  pub entries : (h : History) → Legal h → (m : List ℕ) (s : State) → reached h .power ≡ on m s → (p : ℕ) → 1 ≤ p → p ≤ h .pages → SameEntry h s p
+  pub entries : (h : History) → Legal h → (m : List ℕ) (s : State) → reached h .power ≡ on m s
+      → (p : ℕ) → 1 ≤ p → p ≤ h .pages → SameEntry h s p
   pub counts : (h : History) → Legal h → (m : List ℕ) (s : State) → reached h .power ≡ on m s → Counts h s
-  pub live : (h : History) → Legal h → (m : List ℕ) (s : State) → reached h .power ≡ on m s → (p : ℕ) → 1 ≤ p → p ≤ h .pages → LivePage h m s p
-  pub releases : (h : History) → Legal h → (m : List ℕ) (s : State) → reached h .power ≡ on m s → (p : ℕ) → 1 ≤ p → p ≤ h .pages → held s p ≡ true → Releases h m s p
-  pub letsGo : (h : History) → Legal h → (m : List ℕ) (s : State) → reached h .power ≡ on m s → (c : Call) (p : ℕ) → 1 ≤ p → p ≤ h .pages
+  pub live : (h : History) → Legal h → (m : List ℕ) (s : State) → reached h .power ≡ on m s
+      → (p : ℕ) → 1 ≤ p → p ≤ h .pages → LivePage h m s p
+  pub releases : (h : History) → Legal h → (m : List ℕ) (s : State) → reached h .power ≡ on m s
+      → (p : ℕ) → 1 ≤ p → p ≤ h .pages → held s p ≡ true → Releases h m s p
+  pub letsGo : (h : History) → Legal h → (m : List ℕ) (s : State) → reached h .power ≡ on m s
+      → (c : Call) (p : ℕ) → 1 ≤ p → p ≤ h .pages
       → held s p ≡ true → held (outcomeOf c (volumeOf h) m s .state) p ≡ false → LetGo h m s c p
   -- no two pages share a slot
-  pub slots : (h : History) → Legal h → (p q : ℕ) → 1 ≤ p → p ≤ h .pages → 1 ≤ q → q ≤ h .pages → entryOf (indexOf (headingOf h) (volumeOf h)) p .slot ≢ 0
-      → entryOf (indexOf (headingOf h) (volumeOf h)) p .slot ≡ entryOf (indexOf (headingOf h) (volumeOf h)) q .slot → p ≡ q
+  pub slots : (h : History) → Legal h → (p q : ℕ) → 1 ≤ p → p ≤ h .pages → 1 ≤ q → q ≤ h .pages
+      → entryOf (indexOf (headingOf h) (volumeOf h)) p .slot ≢ 0
+      → entryOf (indexOf (headingOf h) (volumeOf h)) p .slot ≡ entryOf (indexOf (headingOf h) (volumeOf h)) q .slot
+      → p ≡ q
   -- a page with a durable change is never refused 7
-  pub loads : (h : History) → Legal h → (m : List ℕ) (s : State) → reached h .power ≡ on m s → (p f : ℕ) → lastPlace p (durableOf h) ≢ 0
+  pub loads : (h : History) → Legal h → (m : List ℕ) (s : State) → reached h .power ≡ on m s
+      → (p f : ℕ) → lastPlace p (durableOf h) ≢ 0
       → refusalOf (loadOf (volumeOf h) m s p f .answer) ≢ 7
-  pub inspects : (h : History) → Legal h → (p : ℕ) (buffer : List ℕ) → lastPlace p (durableOf h) ≢ 0 → inspection h p buffer ≢ 7
+  pub inspects : (h : History) → Legal h → (p : ℕ) (buffer : List ℕ) → lastPlace p (durableOf h) ≢ 0
+      → inspection h p buffer ≢ 7

@@ -21,7 +21,8 @@ use Rattle.history.proofs.Theorem.{demand2}
 use Rattle.history.proofs.Lost.{undamaged-safe}
 
 abbrev pub ringHistory : History
-ringHistory = record { heading = Second; found = replicate (lengthFor 1 1 2 2) 0xDD; pages = 1; slots = 1; records = 2; notes = 2; events = turned }
+ringHistory =
+    record { heading = Second; found = replicate (lengthFor 1 1 2 2) 0xDD; pages = 1; slots = 1; records = 2; notes = 2; events = turned }
 
 holds : (b : Bool) → T b → b ≡ true
 holds true t = refl

@@ -1,5 +1,5 @@
--- The archive of a volume that restarts and whose record 1 is there: as long as was told, taken by the reader, and cut into the same sections.
--- The proof of `ArchiveClaim`.
+-- The archive of a volume that restarts and whose record 1 is there: as long as was told, taken by the reader, and cut into the same
+-- sections. The proof of `ArchiveClaim`.
 use mathlib.Core.Path.{_≡_, refl, sym, ap, _∙_, subst}
 use mathlib.Core.Logic.{_≢_}
 use mathlib.Core.Bool.{Bool, true, false, _&&_, cond, not}
@@ -94,14 +94,16 @@ module _ (v : List ℕ) (h : Whole v) where
 
   module _ (p : ℕ) (low : 1 ≤ p) where
     -- record c + 1, of page p, may follow
-    follows : (c : ℕ) → c < n → logRecord g v (1 + c) .page ≡ p → inSection p (firstLsn (down g v p 1 c)) (item g v (logSlot g (1 + c))) ≡ true
+    follows : (c : ℕ) → c < n → logRecord g v (1 + c) .page ≡ p
+        → inSection p (firstLsn (down g v p 1 c)) (item g v (logSlot g (1 + c))) ≡ true
     follows c b q =
         let f = ok c b in
         let e = logRecord g v (1 + c) in
         let w = newest g v 1 (omega arith) (valid-facts v (h .volume) .p-high) n ok c p (omega (arith, b)) low in
         let l : linked 1 (firstLsn (down g v p 1 c)) e ≡ true = rw (q, w .last-is) at (f .links) in
         let rises : firstLsn (down g v p 1 c) < e .lsn = omega (arith, w .high, w .last-is, f .lsn-is) in
-        and-both (f .sealed-is) (and-both (f .layout) (and-both (eq-eqb (e .page) p q) (and-both l (lt-ltb (firstLsn (down g v p 1 c)) (e .lsn) rises))))
+        and-both (f .sealed-is)
+        (and-both (f .layout) (and-both (eq-eqb (e .page) p q) (and-both l (lt-ltb (firstLsn (down g v p 1 c)) (e .lsn) rises))))
 
     section : (c : ℕ) → c ≤ n → Section g v p c
     unfolding pageRecords down firstLsn lastNumberIn validSection
@@ -116,12 +118,15 @@ module _ (v : List ℕ) (h : Whole v) where
         let e : xs ++ cond (eqb (logRecord g v (1 + c) .page) p) (r ∷ []) [] ≡ xs ++ (r ∷ []) =
         ap (λ (l : List (List ℕ)). xs ++ l) (when-true (r ∷ []) [] t) in
         let d : cond (eqb (logRecord g v (1 + c) .page) p) (r ∷ ds) ds ≡ r ∷ ds = when-true (r ∷ ds) ds t in
-        let in-place : inSection p (lastNumberIn 0 xs) r ≡ true = subst (λ (i : ℕ). inSection p i r ≡ true) (sym (k .last)) (follows c b (eqb-true _ p t)) in
+        let in-place : inSection p (lastNumberIn 0 xs) r ≡ true =
+        subst (λ (i : ℕ). inSection p i r ≡ true) (sym (k .last)) (follows c b (eqb-true _ p t)) in
         record {
           valid = ap (λ (l : List (List ℕ)). validSection p 0 l) e ∙ valid-snoc p 0 xs r (k .valid) in-place;
           last = ap (λ (l : List (List ℕ)). lastNumberIn 0 l) e ∙ last-snoc 0 xs r ∙ sym (ap firstLsn d);
-          size = subst (λ (l : List (List ℕ)). (i : ℕ) → i < length l → length (getD l i []) ≡ 64) (sym e) (size-snoc xs r (k .size) (long c));
-          few = subst (λ (l : List (List ℕ)). length l ≤ suc c) (sym e) (subst (λ (i : ℕ). i ≤ suc c) (sym (length-append xs (r ∷ []))) (omega (arith, k .few)));
+          size = subst (λ (l : List (List ℕ)). (i : ℕ) → i < length l → length (getD l i []) ≡ 64) (sym e)
+              (size-snoc xs r (k .size) (long c));
+          few = subst (λ (l : List (List ℕ)). length l ≤ suc c) (sym e)
+              (subst (λ (i : ℕ). i ≤ suc c) (sym (length-append xs (r ∷ []))) (omega (arith, k .few)));
         })
         (λ t.
         let e : xs ++ cond (eqb (logRecord g v (1 + c) .page) p) (r ∷ []) [] ≡ xs =
@@ -150,7 +155,8 @@ unfolding tabulate
 tabulate-length zero f = refl
 tabulate-length (suc n) f = ap suc (tabulate-length n (λ i. f (suc i)))
 
-tabulate-laid : (n : ℕ) (f : ℕ → List (List ℕ)) → ((i : ℕ) → Laid (f i)) → (i : ℕ) → i < length (tabulate n f) → Laid (getD (tabulate n f) i [])
+tabulate-laid : (n : ℕ) (f : ℕ → List (List ℕ)) → ((i : ℕ) → Laid (f i)) → (i : ℕ) → i < length (tabulate n f)
+    → Laid (getD (tabulate n f) i [])
 unfolding tabulate
 tabulate-laid zero f h i l = absurd (omega (arith, l))
 tabulate-laid (suc n) f h zero l = h 0
@@ -234,7 +240,8 @@ counted v h (suc c) b =
     ∙ ap (λ (t : Bool). length (pageRecords g v (suc i) 1 c) + cond t 1 0) (ap (λ (k : ℕ). eqb k (suc i)) (sym m) ∙ eqb·suc-suc (q - 1) i))
     ∙ sum-one (g .pages) (q - 1) (λ i. length (pageRecords g v (suc i) 1 c)) (omega (arith, f .high, f .low)) ∙ ap suc ih
 
-archive-long : (n : ℕ) (f : ℕ → List (List ℕ)) → ((i : ℕ) → Laid (f i)) → length (archiveBytes (tabulate n f)) ≡ 4 * n + 64 * sum n (λ i. length (f i))
+archive-long : (n : ℕ) (f : ℕ → List (List ℕ)) → ((i : ℕ) → Laid (f i))
+    → length (archiveBytes (tabulate n f)) ≡ 4 * n + 64 * sum n (λ i. length (f i))
 unfolding archiveBytes tabulate sum
 archive-long zero f h = refl
 archive-long (suc n) f h =
@@ -248,13 +255,15 @@ long-as-told v h =
     let n = durableCount g v in
     archive-long (g .pages) (λ i. heldRecords v (suc i)) (λ i. laid v h (suc i) (omega arith))
     ∙ ap (λ (k : ℕ). 4 * g .pages + 64 * k)
-    (sum-same (g .pages) (λ i. length (heldRecords v (suc i))) (λ i. length (pageRecords g v (suc i) 1 n)) (λ i. ap length (held-is v h (suc i))) ∙ counted v h n (omega arith))
+    (sum-same (g .pages) (λ i. length (heldRecords v (suc i))) (λ i. length (pageRecords g v (suc i) 1 n))
+    (λ i. ap length (held-is v h (suc i))) ∙ counted v h n (omega arith))
 
 -- ---- the calls
 
 -- a call that fills a buffer: refused by its table, with the buffer as it was
 module _ (rows : List Row) (numbered : Numbered rows) (buffer done : List ℕ) where
-  filled-table : ByTable rows (refusalOf (filledBy rows buffer done .answer)) × (refusalOf (filledBy rows buffer done .answer) ≢ 0 → filledBy rows buffer done .buffer ≡ buffer)
+  filled-table : ByTable rows (refusalOf (filledBy rows buffer done .answer))
+      × (refusalOf (filledBy rows buffer done .answer) ≢ 0 → filledBy rows buffer done .buffer ≡ buffer)
   filled-table = byCases (eqb (firstOf rows) 0)
       (λ t. let e : firstOf rows ≡ 0 = eqb-true _ _ t in rw t (by-table rows numbered 0 (sym e), λ z. absurd (z refl)))
       (λ t. rw t (by-table rows numbered (firstOf rows) refl, λ z. refl))

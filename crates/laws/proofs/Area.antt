@@ -26,7 +26,8 @@ use Rattle.model.specs.declared.answer.Answer.the-variants.{Done}
 -- ---- the length of an image
 
 -- a change of these numbers keeps the body's length
-apply-long : (k n o f : ℕ) (xs body : List ℕ) → Fits k n o → n ≤ length xs → length body ≡ 244 → length (applyChange (changeOf k n o f) xs body) ≡ 244
+apply-long : (k n o f : ℕ) (xs body : List ℕ) → Fits k n o → n ≤ length xs → length body ≡ 244
+    → length (applyChange (changeOf k n o f) xs body) ≡ 244
 unfolding changeOf applyChange
 apply-long k n o f xs body h b e =
     let r = h .room in
@@ -40,7 +41,8 @@ unfolding recordLayout applyRecord
 record-long r body h l e =
     let x = recordOf r in
     let f = fits-facts (x .kind) (x .length) (x .offset) (x .fill)
-    (all-at (changeFits (x .kind) (x .length) (x .offset) (x .fill) ∷ eqb (byteAt r 15) 0 ∷ allZero (part r (16 + x .length) (44 - x .length)) ∷ []) 0 h) in
+    (all-at (changeFits (x .kind) (x .length) (x .offset) (x .fill) ∷ eqb (byteAt r 15) 0
+    ∷ allZero (part r (16 + x .length) (44 - x .length)) ∷ []) 0 h) in
     let n : length (payloadOf r) ≡ 44 = part-length r 16 44 (omega arith) in
     apply-long (x .kind) (x .length) (x .offset) (x .fill) (payloadOf r) body f (omega (arith, f .length)) e
 
@@ -48,19 +50,22 @@ record-long r body h l e =
 abbrev pub Sized : List (List ℕ) → Type 0
 Sized rs = (i : ℕ) → i < length rs → length (getD rs i []) ≡ 64
 
-replay-long : (p last : ℕ) (rs : List (List ℕ)) (body : List ℕ) → validSection p last rs ≡ true → Sized rs → length body ≡ 244 → length (replayRecords rs body) ≡ 244
+replay-long : (p last : ℕ) (rs : List (List ℕ)) (body : List ℕ) → validSection p last rs ≡ true → Sized rs → length body ≡ 244
+    → length (replayRecords rs body) ≡ 244
 unfolding validSection replayRecords
 replay-long p last [] body h s e = e
 replay-long p last (r ∷ rs) body h s e =
     let x = recordOf r in
     let t = and-left (inSection p last r) (validSection p (x .lsn) rs) h in
     let l = all-at (sealed 60 r ∷ recordLayout r ∷ eqb (x .page) p ∷ linked 1 last x ∷ ltb last (x .lsn) ∷ []) 1 t in
-    replay-long p (x .lsn) rs (applyRecord r body) (and-right (inSection p last r) (validSection p (x .lsn) rs) h) (λ i b. s (suc i) (omega arith)) (record-long r body l (s 0 (omega arith)) e)
+    replay-long p (x .lsn) rs (applyRecord r body) (and-right (inSection p last r) (validSection p (x .lsn) rs) h)
+    (λ i b. s (suc i) (omega arith)) (record-long r body l (s 0 (omega arith)) e)
 
 section-long : (p : ℕ) (rs : List (List ℕ)) → validSection p 0 rs ≡ true → Sized rs → length (sectionImage p rs) ≡ 256
 section-long p [] h s = length-replicate {A = ℕ} 256 0
 section-long p (r ∷ rs) h s =
-    frameImage-length p (lastNumberIn 0 (r ∷ rs)) (replayRecords (r ∷ rs) zeroBody) (replay-long p 0 (r ∷ rs) zeroBody h s (length-replicate {A = ℕ} 244 0))
+    frameImage-length p (lastNumberIn 0 (r ∷ rs)) (replayRecords (r ∷ rs) zeroBody)
+    (replay-long p 0 (r ∷ rs) zeroBody h s (length-replicate {A = ℕ} 244 0))
 
 records-sized : (n : ℕ) (a : List ℕ) → 64 * n ≤ length a → Sized (recordsFrom n a)
 unfolding recordsFrom
@@ -95,13 +100,15 @@ area-at q (rs ∷ ss) h (suc i) b =
     rw (m, s) (part-behind (sectionImage q rs) (areaFrom (suc q) ss) (256 * i) e
     ∙ area-at (suc q) ss (λ j c. let t : q + suc j ≡ suc q + j = omega arith in rw t at (h (suc j) (omega arith))) i (omega arith))
 
-parted-long : (k p : ℕ) (a : List ℕ) → validFrom k p a ≡ true → (i : ℕ) → i < k → length (sectionImage (p + i) (getD (partedFrom k a) i [])) ≡ 256
+parted-long : (k p : ℕ) (a : List ℕ) → validFrom k p a ≡ true → (i : ℕ) → i < k
+    → length (sectionImage (p + i) (getD (partedFrom k a) i [])) ≡ 256
 unfolding partedFrom
 parted-long zero p a h i b = absurd (omega arith)
 parted-long (suc k) p a h zero b =
     let z : p + 0 ≡ p = omega arith in
     let f = fits-left a (here-fits k p a h) in
-    rw z (section-long p (frontSection a) (here-valid k p a h) (records-sized (le 4 a) (drop 4 a) (simp length-drop (omega (arith, f .0, f .1)))))
+    rw z (section-long p (frontSection a) (here-valid k p a h)
+    (records-sized (le 4 a) (drop 4 a) (simp length-drop (omega (arith, f .0, f .1)))))
 parted-long (suc k) p a h (suc i) b =
     let s : p + suc i ≡ suc p + i = omega arith in
     rw s (parted-long k (suc p) (pastSection a) (rest-valid k p a h) i (omega arith))
@@ -138,4 +145,5 @@ module _ (k : ℕ) (a area : List ℕ) (size : length area ≡ 256 * k) where
       let r = read-valid e in
       let m : 1 + (p - 1) ≡ p = omega arith in
       let n = parted-length k a in
-      rw (r .1) (rw m at (area-at 1 (partedFrom k a) (λ i b. parted-long k 1 a (r .0) i (omega (arith, n, b))) (p - 1) (omega (arith, n, low, high))))
+      rw (r .1) (rw m at (area-at 1 (partedFrom k a) (λ i b. parted-long k 1 a (r .0) i (omega (arith, n, b))) (p - 1)
+      (omega (arith, n, low, high))))

@@ -66,11 +66,13 @@ exchange false true m = refl
 exchange true false m = refl
 exchange false false m = refl
 
-noted-split : (g : Geometry) (b : ℕ) (x : List ℕ) (p : ℕ) (es : List Entry) → validAsNoted g b x p es ≡ (imageSealed g x && namedNoted b x p es)
+noted-split : (g : Geometry) (b : ℕ) (x : List ℕ) (p : ℕ) (es : List Entry)
+    → validAsNoted g b x p es ≡ (imageSealed g x && namedNoted b x p es)
 unfolding validAsNoted namedNoted
 noted-split g b x p [] = byCases (imageSealed g x) (λ t. rw t) (λ t. rw t)
 noted-split g b x p (e ∷ es) =
-    rw (valid-split g (suc p) x, noted-split g b x (suc p) es) (through (eqb (e .slot) b) (imageSealed g x) (named (suc p) x) (namedNoted b x (suc p) es))
+    rw (valid-split g (suc p) x, noted-split g b x (suc p) es)
+    (through (eqb (e .slot) b) (imageSealed g x) (named (suc p) x) (namedNoted b x (suc p) es))
 
 pub passes-split : (g : Geometry) (index : List Entry) (at : Place) (x : List ℕ) → isImage g at ≡ true
     → passesAt g index at x ≡ (imageSealed g x && placed (g .pages) index at x)
@@ -91,7 +93,8 @@ pub sealed-bytes : (g : Geometry) (x : List ℕ) → imageSealed (byBytes g) x �
 sealed-bytes g x = by-bytes (byBytes g) x refl
 
 pub sealed-either : (g : Geometry) (x : List ℕ) → g .tag ≡ carryTag → imageSealed g x ≡ (wordsHold x || bytesHold x)
-sealed-either g x e = by-either g x (λ z. eqb-false carryTag (tagOf First) refl (sym e ∙ z)) (λ z. eqb-false carryTag (tagOf Second) refl (sym e ∙ z))
+sealed-either g x e =
+    by-either g x (λ z. eqb-false carryTag (tagOf First) refl (sym e ∙ z)) (λ z. eqb-false carryTag (tagOf Second) refl (sym e ∙ z))
 
 only-cases : (w b pl : Bool) → ((w && pl) && not (b && pl)) ≡ (w && (not b && pl))
 only-cases true true true = refl
@@ -105,7 +108,12 @@ pub only-old : (g : Geometry) (index : List Entry) (at : Place) (x : List ℕ) �
     → onlyOld g index at x ≡ (wordsHold x && (not (bytesHold x) && placed (g .pages) index at x))
 unfolding onlyOld
 only-old g index at x i =
-    rw (passes-split (byWords g) index at x (image-tag (tagOf First) at i), passes-split (byBytes g) index at x (image-tag (tagOf Second) at i), sealed-words g x, sealed-bytes g x)
+    rw (
+      passes-split (byWords g) index at x (image-tag (tagOf First) at i),
+      passes-split (byBytes g) index at x (image-tag (tagOf Second) at i),
+      sealed-words g x,
+      sealed-bytes g x,
+    )
     (only-cases (wordsHold x) (bytesHold x) (placed (g .pages) index at x))
   where
     image-tag : (tag : ℕ) (at : Place) → isImage g at ≡ true → isImage (withTag g tag) at ≡ true
@@ -118,7 +126,8 @@ only-old g index at x i =
 
 module _ (g : Geometry) (x : List ℕ) (size : length x ≡ 256) (ne : (g .tag ≡ tagOf First → ⊥)) where
   pub restamp-bytes : bytesHold (sealImage g x) ≡ true
-  restamp-bytes = rw (bytes-set g x ne) (sum-holds byteSum 252 (take 252 x) (length-take-le 252 x (omega arith)) (omega (arith, byteSum-most (take 252 x))))
+  restamp-bytes = rw (bytes-set g x ne)
+      (sum-holds byteSum 252 (take 252 x) (length-take-le 252 x (omega arith)) (omega (arith, byteSum-most (take 252 x))))
 
   pub restamp-front : take 252 (sealImage g x) ≡ take 252 x
   restamp-front = take-with (imageSum g) 252 (take 252 x) (length-take-le 252 x (omega arith))
@@ -156,7 +165,8 @@ image-in g i b = elim (decLt i (g .pages)) [
     not-below i n z = byCases (ltb i n) (λ t. absurd (z (ltb-true i n t))) (λ t. t)
 
 -- an image that names a page to which the index gives the slot is one for it
-pub named-noted : (b : ℕ) (x : List ℕ) (index : List Entry) (n i : ℕ) → i < length index → getD index i emptyEntry .slot ≡ b → named (suc (n + i)) x ≡ true
+pub named-noted : (b : ℕ) (x : List ℕ) (index : List Entry) (n i : ℕ) → i < length index → getD index i emptyEntry .slot ≡ b
+    → named (suc (n + i)) x ≡ true
     → namedNoted b x n index ≡ true
 unfolding namedNoted
 named-noted b x [] n i c e t = absurd (omega arith)
@@ -169,7 +179,8 @@ named-noted b x (y ∷ index) n (suc i) c e t =
     or-right (eqb (y .slot) b && named (suc n) x) (named-noted b x index (suc n) i (omega arith) e (rw q at t))
 
 -- and so is one that names any page in range, in a slot outside the index
-pub named-outside : (pages : ℕ) (index : List Entry) (b q : ℕ) (x : List ℕ) → slotUsed b index ≡ false → 1 ≤ q → q ≤ pages → named q x ≡ true
+pub named-outside : (pages : ℕ) (index : List Entry) (b q : ℕ) (x : List ℕ) → slotUsed b index ≡ false → 1 ≤ q
+    → q ≤ pages → named q x ≡ true
     → placed pages index (slotAt b) x ≡ true
 named-outside pages index b q x u lo hi t =
     let e : imagePage x ≡ q = eqb-true (imagePage x) q (and-left (eqb (imagePage x) q) (eqb (field 2 2 x) 0) t) in
@@ -185,11 +196,13 @@ start-alike false true false h = refl
 start-alike false false n h = refl
 
 -- under the first heading, and while the volume is carried over, where it is not valid by bytes alone
-pub alike-started : (g : Geometry) (p : ℕ) (x : List ℕ) → g .tag ≡ tagOf First → onlyNew g p x ≡ false → validImage (withTag g carryTag) p x ≡ validImage g p x
+pub alike-started : (g : Geometry) (p : ℕ) (x : List ℕ) → g .tag ≡ tagOf First → onlyNew g p x ≡ false
+    → validImage (withTag g carryTag) p x ≡ validImage g p x
 alike-started g p x e h =
     let h′ : ((bytesHold x && named p x) && not (wordsHold x && named p x)) ≡ false =
     rw (valid-split (byBytes g) p x, valid-split (byWords g) p x, sealed-bytes g x, sealed-words g x) at h in
-    rw (valid-split (withTag g carryTag) p x, valid-split g p x, sealed-either (withTag g carryTag) x refl, by-words g x e) (start-alike (wordsHold x) (bytesHold x) (named p x) h′)
+    rw (valid-split (withTag g carryTag) p x, valid-split g p x, sealed-either (withTag g carryTag) x refl, by-words g x e)
+    (start-alike (wordsHold x) (bytesHold x) (named p x) h′)
 
 finish-alike : (w b n pl : Bool) → (n ≡ true → pl ≡ true) → (w && (not b && pl)) ≡ false → (b && n) ≡ ((w || b) && n)
 finish-alike true true n pl f h = refl
@@ -199,7 +212,8 @@ finish-alike false b n pl f h = refl
 
 -- while it is carried over, and under the second heading, where it does not pass the old sum alone
 pub alike-finished : (g : Geometry) (index : List Entry) (at : Place) (p : ℕ) (x : List ℕ) → g .tag ≡ carryTag → isImage g at ≡ true
-    → (named p x ≡ true → placed (g .pages) index at x ≡ true) → onlyOld g index at x ≡ false → validImage (withTag g (tagOf Second)) p x ≡ validImage g p x
+    → (named p x ≡ true → placed (g .pages) index at x ≡ true) → onlyOld g index at x ≡ false
+    → validImage (withTag g (tagOf Second)) p x ≡ validImage g p x
 alike-finished g index at p x e i f h =
     rw (valid-split (byBytes g) p x, valid-split g p x, sealed-bytes g x, sealed-either g x e)
     (finish-alike (wordsHold x) (bytesHold x) (named p x) (placed (g .pages) index at x) f (sym (only-old g index at x i) ∙ h))

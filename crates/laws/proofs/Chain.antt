@@ -1,5 +1,5 @@
--- At most L records are read by a walk, on any volume and any well-formed state: the numbers fall strictly within the run, and the run is no
--- longer than the ring. (The code's array of 1,024 numbers serves.)
+-- At most L records are read by a walk, on any volume and any well-formed state: the numbers fall strictly within the run, and the run is
+-- no longer than the ring. (The code's array of 1,024 numbers serves.)
 use mathlib.Core.Path.{_≡_, refl}
 use mathlib.Core.Bool.{Bool, true, false, cond}
 use mathlib.Core.List.{List, [], _∷_}
@@ -21,9 +21,11 @@ pub chain-falls : (p n : ℕ) (r : List ℕ) → chainRecord p n r ≡ true → 
 unfolding chainRecord
 chain-falls p n r h =
     let e = recordOf r in
-    ltb-true (e .prev) n (all-at (sealed 60 r ∷ eqb (e .lsn) n ∷ eqb (e .page) p ∷ recordLayout r ∷ ltb (e .prev) n ∷ firstIsFormat e ∷ []) 4 h)
+    ltb-true (e .prev) n
+    (all-at (sealed 60 r ∷ eqb (e .lsn) n ∷ eqb (e .page) p ∷ recordLayout r ∷ ltb (e .prev) n ∷ firstIsFormat e ∷ []) 4 h)
 
-pub chain-few : (steps : ℕ) (log : ℕ → List ℕ) (first p own backup n : ℕ) → length (walkFrom steps log first p own backup n .chain) ≤ suc n - first
+pub chain-few : (steps : ℕ) (log : ℕ → List ℕ) (first p own backup n : ℕ)
+    → length (walkFrom steps log first p own backup n .chain) ≤ suc n - first
 unfolding walkFrom
 chain-few zero log first p own backup n = omega arith
 chain-few (suc steps) log first p own backup n =
@@ -47,7 +49,8 @@ run-few g v n h = byCases (ring g)
     (λ t. rw t (byCases (sealed 60 (item g v (logSlot g (suc (n - g .records))))) (λ u. rw u (omega arith)) (λ u. rw u (omega arith))))
     (λ t. let e : n ≤ g .records = rw t at h in rw t (omega arith))
 
-pub walk-few : (g : Geometry) (v : List ℕ) (n p : ℕ) (w : View) → n ≤ most g → w .durable ≤ n → w .first ≡ firstHeld g v n → length (walkOf g p w .chain) ≤ g .records
+pub walk-few : (g : Geometry) (v : List ℕ) (n p : ℕ) (w : View) → n ≤ most g → w .durable ≤ n → w .first ≡ firstHeld g v n
+    → length (walkOf g p w .chain) ≤ g .records
 unfolding walkOf
 walk-few g v n p w h d e =
     omega (arith, chain-few (w .durable) (w .log) (w .first) p (ownStart g p w) (backupStart g p w) (w .durable), run-few g v n h)

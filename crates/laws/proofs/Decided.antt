@@ -45,7 +45,13 @@ decides : (rs : List Row) → firstOf rs ≢ 0 → Decides rs (firstOf rs)
 decides [] h = absurd (h refl)
 decides (r ∷ rs) h =
     byCases (r .0)
-    (λ t. record { at = 0; within = omega arith; holds = t; number = sym (when-true (r .1) (firstOf rs) t); first = λ i l. absurd (not-suc-le-zero l) })
+    (λ t. record {
+      at = 0;
+      within = omega arith;
+      holds = t;
+      number = sym (when-true (r .1) (firstOf rs) t);
+      first = λ i l. absurd (not-suc-le-zero l);
+    })
     (λ f.
     let e : firstOf (r ∷ rs) ≡ firstOf rs = when-false (r .1) (firstOf rs) f in
     subst (λ (k : ℕ). Decides (r ∷ rs) k) (sym e) (later r rs (firstOf rs) f (decides rs (λ z. h (e ∙ z)))))
@@ -55,7 +61,8 @@ gives : (rs : List Row) (n k : ℕ) → k < length rs → getD rs k (false, 0) .
     → ((i : ℕ) → i < k → getD rs i (false, 0) .0 ≡ false) → firstOf rs ≡ n
 gives [] n k l h e f = absurd (not-suc-le-zero l)
 gives (r ∷ rs) n zero l h e f = when-true _ _ h ∙ e
-gives (r ∷ rs) n (suc k) l h e f = when-false _ _ (f 0 (omega arith)) ∙ gives rs n k (le-of-suc-le-suc l) h e (λ i q. f (suc i) (omega arith))
+gives (r ∷ rs) n (suc k) l h e f =
+    when-false _ _ (f 0 (omega arith)) ∙ gives rs n k (le-of-suc-le-suc l) h e (λ i q. f (suc i) (omega arith))
 
 numbered-at : (rs : List Row) → Numbered rs → (k : ℕ) → k < length rs → getD rs k (false, 0) .1 ≢ 0
 numbered-at [] h k l = absurd (not-suc-le-zero l)
@@ -135,7 +142,8 @@ pub keeps-by : (rows : List Row) (v m : List ℕ) (s : State) (done : Outcome) �
     → (firstOf rows ≡ 0 → StoresItem v (done .stored)) → KeepsBy rows v m s (decided rows m s done)
 unfolding volumeAfter
 keeps-by rows v m s done h a one =
-    let same : refusalOf (decided rows m s done .answer) ≢ 0 → decided rows m s done ≡ unchanged (Refused (firstOf rows)) m s = refused-is rows m s done a in
+    let same : refusalOf (decided rows m s done .answer) ≢ 0 → decided rows m s done ≡ unchanged (Refused (firstOf rows)) m s =
+    refused-is rows m s done a in
     record {
       table = by-table rows h (refusalOf (decided rows m s done .answer)) (number-is rows m s done a);
       state = λ r. ap (λ (o : Outcome). o .state) (same r);

@@ -49,7 +49,8 @@ load-keeps v m s page frame =
     (eqb-false 1 0 refl, (eqb-false 2 0 refl, (eqb-false 2 0 refl, (eqb-false 3 0 refl, (eqb-false 4 0 refl, (eqb-false 7 0 refl, (eqb-false 9 0 refl, (eqb-false 10 0 refl, (eqb-false 19 0 refl, (eqb-false 23 0 refl, tt)))))))))) in
     keeps-by _ v m s _ own refl (λ _. tt)
 
-change-keeps : (v m : List ℕ) (s : State) (page : ℕ) (c : Change) (payload : List ℕ) → KeepsBy (changeRows v m s page c) v m s (changeCall v m s page c payload)
+change-keeps : (v m : List ℕ) (s : State) (page : ℕ) (c : Change) (payload : List ℕ)
+    → KeepsBy (changeRows v m s page c) v m s (changeCall v m s page c payload)
 unfolding changeCall changeRows
 change-keeps v m s page c payload =
     let own : Numbered (changeRows v m s page c) =
@@ -59,8 +60,10 @@ change-keeps v m s page c payload =
 release-keeps : (v m : List ℕ) (s : State) (page : ℕ) → KeepsBy (releaseRows v m s page) v m s (releaseOf v m s page)
 unfolding releaseOf releaseRows
 release-keeps v m s page =
-    let own : Numbered (releaseRows v m s page) =
-    (eqb-false 1 0 refl, (eqb-false 2 0 refl, (eqb-false 2 0 refl, (eqb-false 3 0 refl, (eqb-false 8 0 refl, (eqb-false 10 0 refl, tt)))))) in
+    let own : Numbered (releaseRows v m s page) = (
+      eqb-false 1 0 refl,
+      (eqb-false 2 0 refl, (eqb-false 2 0 refl, (eqb-false 3 0 refl, (eqb-false 8 0 refl, (eqb-false 10 0 refl, tt))))),
+    ) in
     keeps-by _ v m s _ own refl (λ _. tt)
 
 -- ---- the calls that store an item
@@ -76,7 +79,8 @@ force-keeps v m s =
     either (eqb (s .pending) 0) _ _ (λ o. StoresItem v (o .stored)) (λ _. tt)
     (λ f.
     let ne : s .pending ≢ 0 = eqb-false _ _ f in
-    stored-within v (r .volume) (logSlot (geometryOf v) (s .durable + 1)) (pendingBytes m (s .durable + 1)) (omega arith, mod-lt (s .durable + 1 - 1) (valid-facts v (r .volume) .l-low))
+    stored-within v (r .volume) (logSlot (geometryOf v) (s .durable + 1)) (pendingBytes m (s .durable + 1))
+    (omega arith, mod-lt (s .durable + 1 - 1) (valid-facts v (r .volume) .l-low))
     (pending-length m (r .memory) (s .durable + 1))))
 
 -- page p's frame, as Write and Backup store it
@@ -92,9 +96,10 @@ unfolding writeOf writeRows
 write-keeps v m s page a =
     let g = geometryOf v in
     let d = pageDirty s page in
-    let rest : List Row = (not (within (g .pages) page), 3) ∷ (not (held s page), 8) ∷ (d && notePending (s .note), 13) ∷ (d && notesFull g v s, 14)
-    ∷ (d && notDurable m s page, 15) ∷ [] in
-    let own : Numbered rest = (eqb-false 3 0 refl, (eqb-false 8 0 refl, (eqb-false 13 0 refl, (eqb-false 14 0 refl, (eqb-false 15 0 refl, tt))))) in
+    let rest : List Row = (not (within (g .pages) page), 3) ∷ (not (held s page), 8) ∷ (d && notePending (s .note), 13)
+    ∷ (d && notesFull g v s, 14) ∷ (d && notDurable m s page, 15) ∷ [] in
+    let own : Numbered rest =
+    (eqb-false 3 0 refl, (eqb-false 8 0 refl, (eqb-false 13 0 refl, (eqb-false 14 0 refl, (eqb-false 15 0 refl, tt))))) in
     keeps-by _ v m s _ (numbered-state v m s rest own)
     (either (pageDirty s page) _ _ (λ o. refusalOf (o .answer) ≡ 0) (λ _. refl) (λ _. refl))
     (λ h.
@@ -102,17 +107,24 @@ write-keeps v m s page a =
     let none = none-at rest own (r .rest) in
     let w = within-bounds (g .pages) page (not-false _ (none 0)) in
     either (pageDirty s page) _ _ (λ o. StoresItem v (o .stored))
-    (λ _. stored-within v (r .volume) (pageAt page) (sealImage g (frameBytes m (holder s page))) w (image-length v m s rest r a page (w .0) (not-false _ (none 1))))
+    (λ _. stored-within v (r .volume) (pageAt page) (sealImage g (frameBytes m (holder s page))) w
+    (image-length v m s rest r a page (w .0) (not-false _ (none 1))))
     (λ _. tt))
 
 backup-keeps : (v m : List ℕ) (s : State) (page slot : ℕ) → Arrays s → KeepsBy (backupRows v m s page slot) v m s (backupOf v m s page slot)
 unfolding backupOf backupRows
 backup-keeps v m s page slot a =
     let g = geometryOf v in
-    let rest : List Row = (not (within (g .pages) page), 3) ∷ (not (within (g .slots) slot), 5) ∷ (not (held s page), 8) ∷ (notePending (s .note), 13)
+    let rest : List Row = (not (within (g .pages) page), 3) ∷ (not (within (g .slots) slot), 5) ∷ (not (held s page), 8)
+    ∷ (notePending (s .note), 13)
     ∷ (notesFull g v s, 14) ∷ (notDurable m s page, 15) ∷ (slotUsed slot (s .index), 16) ∷ [] in
-    let own : Numbered rest =
-    (eqb-false 3 0 refl, (eqb-false 5 0 refl, (eqb-false 8 0 refl, (eqb-false 13 0 refl, (eqb-false 14 0 refl, (eqb-false 15 0 refl, (eqb-false 16 0 refl, tt))))))) in
+    let own : Numbered rest = (
+      eqb-false 3 0 refl,
+      (
+        eqb-false 5 0 refl,
+        (eqb-false 8 0 refl, (eqb-false 13 0 refl, (eqb-false 14 0 refl, (eqb-false 15 0 refl, (eqb-false 16 0 refl, tt))))),
+      ),
+    ) in
     keeps-by _ v m s _ (numbered-state v m s rest own) refl
     (λ h.
     let r = ready v m s rest h in
@@ -126,12 +138,14 @@ note-stored-accepts : (v m : List ℕ) (s : State) (n : PendingNote) → refusal
 note-stored-accepts v m s Absent = refl
 note-stored-accepts v m s (Present n) = refl
 
-note-stored-one : (v m : List ℕ) (s : State) → validVolume v ≡ true → (n : PendingNote) → pendingNoteFits (geometryOf v) (s .notes) (s .durable) n ≡ true
+note-stored-one : (v m : List ℕ) (s : State) → validVolume v ≡ true
+    → (n : PendingNote) → pendingNoteFits (geometryOf v) (s .notes) (s .durable) n ≡ true
     → StoresItem v (noteStored v m s n .stored)
 note-stored-one v m s ok Absent h = tt
 note-stored-one v m s ok (Present n) h =
     let f = formed-note (geometryOf v) (s .notes) (s .durable) n h in
-    stored-within v ok (noteSlot (geometryOf v) (s .notes + 1)) (noteBytes n) (omega arith, mod-lt (s .notes + 1 - 1) (f .slots)) (note-length n)
+    stored-within v ok (noteSlot (geometryOf v) (s .notes + 1)) (noteBytes n)
+    (omega arith, mod-lt (s .notes + 1 - 1) (f .slots)) (note-length n)
 
 note-keeps : (v m : List ℕ) (s : State) → KeepsBy (noteRows v m s) v m s (noteCall v m s)
 unfolding noteCall noteRows
@@ -174,7 +188,14 @@ restamp-keeps v m s =
 -- ---- the whole
 
 keeps : {c : Call} {v m : List ℕ} {s : State} → KeepsBy (rowsOf c v m s) v m s (outcomeOf c v m s) → Keeps c v m s
-keeps {c} {v} {m} {s} k = record { table = k .table; state = k .state; memory = k .memory; volume = k .volume; stored = k .stored; oneItem = at-most-one v _ (k .stored) }
+keeps {c} {v} {m} {s} k = record {
+  table = k .table;
+  state = k .state;
+  memory = k .memory;
+  volume = k .volume;
+  stored = k .stored;
+  oneItem = at-most-one v _ (k .stored);
+}
 
 pub call-keeps : (c : Call) (v m : List ℕ) (s : State) → Arrays s → KeepsBy (rowsOf c v m s) v m s (outcomeOf c v m s)
 call-keeps (begin page frame fill) v m s a = begin-keeps v m s page frame fill
@@ -189,7 +210,8 @@ call-keeps startCarry v m s a = start-keeps v m s
 call-keeps restamp v m s a = restamp-keeps v m s
 call-keeps finishCarry v m s a = finish-keeps v m s
 
-make-keeps : (h : Heading) (v : List ℕ) (p b l n : ℕ) → ByTable (makeRows v p b l n) (refusalOf (makeOf h v p b l n .answer)) × (refusalOf (makeOf h v p b l n .answer) ≢ 0 → makeOf h v p b l n .volume ≡ v)
+make-keeps : (h : Heading) (v : List ℕ) (p b l n : ℕ) → ByTable (makeRows v p b l n) (refusalOf (makeOf h v p b l n .answer))
+    × (refusalOf (makeOf h v p b l n .answer) ≢ 0 → makeOf h v p b l n .volume ≡ v)
 unfolding makeOf makeRows
 make-keeps h v p b l n =
     let rows : List Row = (not (validCounts p b l n && eqb (length v) (lengthFor p b l n)), 1) ∷ [] in
@@ -211,8 +233,10 @@ restart-keeps v m =
 
 numbered-inspect : (v : List ℕ) (page size : ℕ) → Numbered (inspectRows v page size)
 unfolding inspectRows
-numbered-inspect v page size =
-    (eqb-false 1 0 refl, (eqb-false 2 0 refl, (eqb-false 3 0 refl, (eqb-false 17 0 refl, (eqb-false 18 0 refl, (eqb-false 7 0 refl, (eqb-false 23 0 refl, tt)))))))
+numbered-inspect v page size = (
+  eqb-false 1 0 refl,
+  (eqb-false 2 0 refl, (eqb-false 3 0 refl, (eqb-false 17 0 refl, (eqb-false 18 0 refl, (eqb-false 7 0 refl, (eqb-false 23 0 refl, tt)))))),
+)
 
 inspect-keeps : (v : List ℕ) (page : ℕ) (buffer : List ℕ)
     → ByTable (inspectRows v page (length buffer)) (refusalOf (inspectOf v page buffer .answer))
@@ -220,8 +244,10 @@ inspect-keeps : (v : List ℕ) (page : ℕ) (buffer : List ℕ)
 unfolding inspectOf
 inspect-keeps v page buffer =
     let no = firstOf (inspectRows v page (length buffer)) in
-    let e : refusalOf (inspectOf v page buffer .answer) ≡ no = byCases (eqb no 0) (λ t. rw t (sym (eqb-true _ _ t))) (λ t. rw t) in
-    (by-table (inspectRows v page (length buffer)) (numbered-inspect v page (length buffer)) _ e, λ h. ap (λ (o : Inspected). o .buffer) (when-false _ _ (ne-eqb no 0 (λ z. h (e ∙ z)))))
+    let e : refusalOf (inspectOf v page buffer .answer) ≡ no = byCases (eqb no 0) (λ t. rw t (sym (eqb-true _ _ t))) (λ t. rw t) in (
+      by-table (inspectRows v page (length buffer)) (numbered-inspect v page (length buffer)) _ e,
+      λ h. ap (λ (o : Inspected). o .buffer) (when-false _ _ (ne-eqb no 0 (λ z. h (e ∙ z)))),
+    )
 
 pub demand1 : Demand1
 demand1 = record { calls = λ c v m s a. keeps (call-keeps c v m s a); make = make-keeps; restart = restart-keeps; inspect = inspect-keeps }

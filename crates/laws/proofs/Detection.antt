@@ -1,5 +1,5 @@
--- The byte sum detects every change within one word: two lists of bytes that differ in two adjacent bytes alone have different sums. No bound on
--- the list is needed: from the end on, equal values give equal sums (`tail-cancels`), and before the word both sums are the same.
+-- The byte sum detects every change within one word: two lists of bytes that differ in two adjacent bytes alone have different sums. No
+-- bound on the list is needed: from the end on, equal values give equal sums (`tail-cancels`), and before the word both sums are the same.
 use mathlib.Core.Path.{_≡_, refl, sym, ap, _∙_}
 use mathlib.Core.Bool.{Bool, true, false, _&&_, _||_, not, cond, and-false}
 use mathlib.Core.List.{List, [], _∷_, _++_}
@@ -47,7 +47,8 @@ cancel-known : (c c′ s t : ℕ) → s < 65535 → t < 65535 → c ≡ c′ →
 cancel-known c c′ s t hs ht q e = omega arith
 
 -- equal values over the same bytes come from equal sums
-tail-cancels : (r : List ℕ) (a b a′ b′ : ℕ) → a < 65535 → b < 65535 → a′ < 65535 → b′ < 65535 → byteSumFrom a b r ≡ byteSumFrom a′ b′ r → (a ≡ a′) × (b ≡ b′)
+tail-cancels : (r : List ℕ) (a b a′ b′ : ℕ) → a < 65535 → b < 65535 → a′ < 65535 → b′ < 65535
+    → byteSumFrom a b r ≡ byteSumFrom a′ b′ r → (a ≡ a′) × (b ≡ b′)
 unfolding byteSumFrom
 tail-cancels [] a b a′ b′ ha hb ha′ hb′ e = (omega arith, omega arith)
 tail-cancels (x ∷ r) a b a′ b′ ha hb ha′ hb′ e =
@@ -65,7 +66,8 @@ pair a b x y u w r hx hy hu hw e =
     let A′ : ℕ = (a + u) % 65535 in
     let B : ℕ = (b + A) % 65535 in
     let B′ : ℕ = (b + A′) % 65535 in
-    let s = tail-cancels r ((A + y) % 65535) ((B + (A + y) % 65535) % 65535) ((A′ + w) % 65535) ((B′ + (A′ + w) % 65535) % 65535) (m _) (m _) (m _) (m _) e in
+    let s = tail-cancels r ((A + y) % 65535) ((B + (A + y) % 65535) % 65535) ((A′ + w) % 65535) ((B′ + (A′ + w) % 65535) % 65535)
+    (m _) (m _) (m _) (m _) e in
     let eB : B ≡ B′ = cancel-same ((A + y) % 65535) ((A′ + w) % 65535) B B′ (m _) (m _) (s .0) (s .1) in
     let eA : A ≡ A′ = cancel b A A′ (m _) (m _) eB in
     let ex : x ≡ u = cancel a x u (omega arith) (omega arith) eA in
@@ -87,7 +89,8 @@ module _ (x : List ℕ) (at : ℕ) (fits : at + 2 ≤ length x) where
   word-same =
       let h₁ : at < length x = omega arith in
       let h₂ : suc at < length x = omega arith in
-      let e : drop at x ≡ byteAt x at ∷ (byteAt x (at + 1) ∷ drop (at + 2) x) = rw (add-one, add-two) (drop-cons x at 0 h₁ ∙ ap (λ (l : List ℕ). byteAt x at ∷ l) (drop-cons x (suc at) 0 h₂)) in
+      let e : drop at x ≡ byteAt x at ∷ (byteAt x (at + 1) ∷ drop (at + 2) x) =
+      rw (add-one, add-two) (drop-cons x at 0 h₁ ∙ ap (λ (l : List ℕ). byteAt x at ∷ l) (drop-cons x (suc at) 0 h₂)) in
       ap (λ (l : List ℕ). take at x ++ l) (sym e) ∙ take-append-drop at x
 
   module _ (n : ℕ) (ahead : at + 2 ≤ n) where
@@ -101,7 +104,8 @@ module _ (x : List ℕ) (at : ℕ) (fits : at + 2 ≤ length x) where
 
     -- the check stands behind it
     word-check : (u w : ℕ) → field 4 n (withWord x at u w) ≡ field 4 n x
-    word-check u w = field-of-part 4 n (withWord x at u w) ∙ ap (le 4) (part-after x at (u ∷ w ∷ []) fits n 4 ahead) ∙ sym (field-of-part 4 n x)
+    word-check u w = field-of-part 4 n (withWord x at u w) ∙ ap (le 4) (part-after x at (u ∷ w ∷ []) fits n 4 ahead)
+        ∙ sym (field-of-part 4 n x)
 
     -- equal sums of the bytes ahead of the check are those of equal words
     word-is : (u w : ℕ) → byteAt x at < 256 → byteAt x (at + 1) < 256 → u < 256 → w < 256
@@ -110,10 +114,12 @@ module _ (x : List ℕ) (at : ℕ) (fits : at + 2 ≤ length x) where
         let x₀ = byteAt x at in
         let x₁ = byteAt x (at + 1) in
         let f = ap (take n) (sym word-same) ∙ word-front x₀ x₁ in
-        let s = anywhere (take at x) 1 0 x₀ x₁ u w (take (n - (at + 2)) (drop (at + 2) x)) hx hy hu hw (sym (ap byteSum f) ∙ e ∙ ap byteSum (word-front u w)) in
+        let s = anywhere (take at x) 1 0 x₀ x₁ u w (take (n - (at + 2)) (drop (at + 2) x)) hx hy hu hw
+        (sym (ap byteSum f) ∙ e ∙ ap byteSum (word-front u w)) in
         ap (λ (k : ℕ). withWord x at k w) (sym (s .0)) ∙ ap (λ (k : ℕ). withWord x at x₀ k) (sym (s .1)) ∙ word-same
 
-item-detects : (n : ℕ) (x : List ℕ) (at u w : ℕ) → WordError n x at u w → sumHolds byteSum n x ≡ true → sumHolds byteSum n (withWord x at u w) ≡ false
+item-detects : (n : ℕ) (x : List ℕ) (at u w : ℕ) → WordError n x at u w → sumHolds byteSum n x ≡ true
+    → sumHolds byteSum n (withWord x at u w) ≡ false
 unfolding sumHolds
 item-detects n x at u w d right =
     let fits : at + 2 ≤ length x = omega (arith, d .size, d .ahead) in
@@ -169,11 +175,13 @@ erased-field zero m h = let e : m ≡ suc (suc (suc (suc (m - 4)))) = omega arit
 erased-field (suc n) zero h = absurd (omega arith)
 erased-field (suc n) (suc m) h = erased-field n m (omega arith)
 
-erased-fails : (sum : List ℕ → ℕ) → ((xs : List ℕ) → sum xs < 4294901760) → (n m : ℕ) → n + 4 ≤ m → sumHolds sum n (replicate m 0xFF) ≡ false
+erased-fails : (sum : List ℕ → ℕ) → ((xs : List ℕ) → sum xs < 4294901760) → (n m : ℕ) → n + 4 ≤ m
+    → sumHolds sum n (replicate m 0xFF) ≡ false
 unfolding sumHolds
 erased-fails sum most n m h =
     let xs : List ℕ = take n (replicate m 0xFF) in
-    ne-eqb (sum xs) (field 4 n (replicate m 0xFF)) (λ (q : sum xs ≡ field 4 n (replicate m 0xFF)). too-high (sum xs) (q ∙ erased-field n m h) (most xs))
+    ne-eqb (sum xs) (field 4 n (replicate m 0xFF))
+    (λ (q : sum xs ≡ field 4 n (replicate m 0xFF)). too-high (sum xs) (q ∙ erased-field n m h) (most xs))
   where
     too-high : (k : ℕ) → k ≡ 4294967295 → k < 4294901760 → ⊥
     too-high k e l = omega arith
@@ -187,5 +195,6 @@ detection =
       class = image-class;
       damages = image-damages;
       erased = λ n m h. (erased-fails checksum checksum-most n m h, erased-fails byteSum byteSum-most n m h);
-      erasedImage = λ g. neither-sum g (replicate 256 0xFF) (erased-fails checksum checksum-most 252 256 (lit≤ tt)) (erased-fails byteSum byteSum-most 252 256 (lit≤ tt));
+      erasedImage = λ g. neither-sum g (replicate 256 0xFF) (erased-fails checksum checksum-most 252 256 (lit≤ tt))
+          (erased-fails byteSum byteSum-most 252 256 (lit≤ tt));
     }

@@ -26,7 +26,8 @@ part-behind l r m k w at e h =
     let a : k ≤ length (zeros m) = rw length-replicate (omega arith) in
     let b : w ≤ length (zeros (m - k)) = rw length-replicate (omega arith) in
     ap (λ (n : ℕ). take w (drop n (l ++ (zeros m ++ r)))) e
-    ∙ ap (take w) (drop-append-add l (zeros m ++ r) k ∙ drop-append-le k (zeros m) r a ∙ ap (λ (z : List ℕ). z ++ r) (drop-zeros k m (omega arith)))
+    ∙ ap (take w) (drop-append-add l (zeros m ++ r) k ∙ drop-append-le k (zeros m) r a
+    ∙ ap (λ (z : List ℕ). z ++ r) (drop-zeros k m (omega arith)))
     ∙ take-append-le w (zeros (m - k)) r b ∙ take-zeros w (m - k) (omega arith)
 
 -- it starts with a known magic
@@ -141,7 +142,8 @@ module _ (h : Heading) (p b l n : ℕ) where
     pages-is = field-back 4 p (magic h) _ 4 refl (omega (arith, bounds .p-high))
 
     slots-is : field 4 (slotCountAt p) (emptyVolume h p b l n) ≡ b
-    slots-is = ap (field 4 (slotCountAt p)) at-slot-count ∙ field-back 4 b before-slot-count slots-on (slotCountAt p) len-slot-count (omega (arith, bounds .b-high))
+    slots-is = ap (field 4 (slotCountAt p)) at-slot-count
+        ∙ field-back 4 b before-slot-count slots-on (slotCountAt p) len-slot-count (omega (arith, bounds .b-high))
 
     records-is : field 4 (recordCountAt p b) (emptyVolume h p b l n) ≡ l
     records-is =
@@ -167,17 +169,20 @@ module _ (h : Heading) (p b l n : ℕ) where
 
     notes-is′ : notesOf (emptyVolume h p b l n) ≡ n
     notes-is′ =
-        ap (λ (k : ℕ). field 4 (noteCountAt k (slotsOf (emptyVolume h p b l n)) (recordsOf (emptyVolume h p b l n))) (emptyVolume h p b l n)) pages-is
+        ap (λ (k : ℕ). field 4 (noteCountAt k (slotsOf (emptyVolume h p b l n)) (recordsOf (emptyVolume h p b l n)))
+        (emptyVolume h p b l n)) pages-is
         ∙ ap (λ (k : ℕ). field 4 (noteCountAt p k (recordsOf (emptyVolume h p b l n))) (emptyVolume h p b l n)) slots-is′
         ∙ ap (λ (k : ℕ). field 4 (noteCountAt p b k) (emptyVolume h p b l n)) records-is′ ∙ notes-is
 
     -- the geometry is what Make was given
-    pub empty-geometry : _≡_ {A = Geometry} (geometryOf (emptyVolume h p b l n)) (record { tag = tagOf h; pages = p; slots = b; records = l; notes = n })
+    pub empty-geometry : _≡_ {A = Geometry} (geometryOf (emptyVolume h p b l n))
+        (record { tag = tagOf h; pages = p; slots = b; records = l; notes = n })
     unfolding geometryOf
     empty-geometry = λ i. record { tag = tag-is i; pages = pages-is i; slots = slots-is′ i; records = records-is′ i; notes = notes-is′ i }
 
     four : (t : ℕ → ℕ → ℕ → ℕ → Bool)
-        → t (pagesOf (emptyVolume h p b l n)) (slotsOf (emptyVolume h p b l n)) (recordsOf (emptyVolume h p b l n)) (notesOf (emptyVolume h p b l n)) ≡ t p b l n
+        → t (pagesOf (emptyVolume h p b l n)) (slotsOf (emptyVolume h p b l n)) (recordsOf (emptyVolume h p b l n))
+        (notesOf (emptyVolume h p b l n)) ≡ t p b l n
     four t =
         let e₁ = pages-is in
         let e₂ = slots-is′ in
@@ -200,13 +205,18 @@ module _ (h : Heading) (p b l n : ℕ) where
         )
 
   -- every item of it is zero
-  pub empty-item : (g : Geometry) → g .pages ≡ p → g .slots ≡ b → g .records ≡ l → g .notes ≡ n → (at : Place) → In g at → item g (emptyVolume h p b l n) at ≡ zeros (width at)
+  pub empty-item : (g : Geometry) → g .pages ≡ p → g .slots ≡ b → g .records ≡ l → g .notes ≡ n
+      → (at : Place) → In g at → item g (emptyVolume h p b l n) at ≡ zeros (width at)
   unfolding item pages-on slots-on records-on notes-on
   empty-item g ep eb el en (pageAt i) k =
-      ap (λ (z : List ℕ). part z (start g (pageAt i)) 256) at-pages ∙ part-behind before-pages _ (256 * p) (256 * (i - 1)) 256 _ (omega (arith, len-pages)) (omega arith)
+      ap (λ (z : List ℕ). part z (start g (pageAt i)) 256) at-pages
+      ∙ part-behind before-pages _ (256 * p) (256 * (i - 1)) 256 _ (omega (arith, len-pages)) (omega arith)
   empty-item g ep eb el en (slotAt i) k =
-      ap (λ (z : List ℕ). part z (start g (slotAt i)) 256) at-slots ∙ part-behind before-slots _ (256 * b) (256 * (i - 1)) 256 _ (omega (arith, len-slots)) (omega arith)
+      ap (λ (z : List ℕ). part z (start g (slotAt i)) 256) at-slots
+      ∙ part-behind before-slots _ (256 * b) (256 * (i - 1)) 256 _ (omega (arith, len-slots)) (omega arith)
   empty-item g ep eb el en (recordAt i) k =
-      ap (λ (z : List ℕ). part z (start g (recordAt i)) 64) at-records ∙ part-behind before-records _ (64 * l) (64 * (i - 1)) 64 _ (omega (arith, len-records)) (omega arith)
+      ap (λ (z : List ℕ). part z (start g (recordAt i)) 64) at-records
+      ∙ part-behind before-records _ (64 * l) (64 * (i - 1)) 64 _ (omega (arith, len-records)) (omega arith)
   empty-item g ep eb el en (noteAt i) k =
-      ap (λ (z : List ℕ). part z (start g (noteAt i)) 16) at-notes ∙ part-behind before-notes _ (16 * n) (16 * (i - 1)) 16 _ (omega (arith, len-notes)) (omega arith)
+      ap (λ (z : List ℕ). part z (start g (noteAt i)) 16) at-notes
+      ∙ part-behind before-notes _ (16 * n) (16 * (i - 1)) 16 _ (omega (arith, len-notes)) (omega arith)

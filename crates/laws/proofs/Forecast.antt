@@ -1,4 +1,5 @@
--- The figures of the forecast are those of inspection, on any volume: the proof of `ForecastClaim`. What is seen of an image is shown in `Scans`.
+-- The figures of the forecast are those of inspection, on any volume: the proof of `ForecastClaim`. What is seen of an image is shown in
+-- `Scans`.
 use mathlib.Core.Path.{_≡_, refl, sym, _∙_}
 use mathlib.Core.Logic.{_⊎_, inl, inr, ⊎-elim, _≢_}
 use mathlib.Core.Bool.{Bool, true, false, _&&_, cond, not}
@@ -65,13 +66,19 @@ scanned v h =
     let none = none-at (scanRows v) (omega arith) h in
     record { volume = not-false _ (none 0); log = not-false _ (none 1); notes = not-false _ (none 2) }
 
-pub row-is : (v : List ℕ) → Restarts v → (p : ℕ) → within (geometryOf v .pages) p ≡ true → forecastRow v p ≡ figureOf (walkOf (geometryOf v) p (pageView v p))
+pub row-is : (v : List ℕ) → Restarts v → (p : ℕ) → within (geometryOf v .pages) p ≡ true
+    → forecastRow v p ≡ figureOf (walkOf (geometryOf v) p (pageView v p))
 unfolding forecastOf
 row-is v h p t =
     let b = within-bounds (geometryOf v .pages) p t in
     let high : geometryOf v .pages ≤ 64 = valid-facts v (scanned v h .volume) .p-high in
     let e : suc (p - 1) ≡ p = omega (arith, b .0) in
-    rw (h, tabulate-at 64 (p - 1) (λ i. forecastAt v i) (counted 0) (omega (arith, b .0, b .1)), lt-ltb (p - 1) (geometryOf v .pages) (omega (arith, b .0, b .1)), e)
+    rw (
+      h,
+      tabulate-at 64 (p - 1) (λ i. forecastAt v i) (counted 0) (omega (arith, b .0, b .1)),
+      lt-ltb (p - 1) (geometryOf v .pages) (omega (arith, b .0, b .1)),
+      e,
+    )
 
 pub past : (v : List ℕ) (p : ℕ) → geometryOf v .pages < p → forecastRow v p ≡ counted 0
 unfolding forecastOf
@@ -88,14 +95,16 @@ module _ (v : List ℕ) (p : ℕ) where
   abbrev pub number : List ℕ → ℕ
   number buffer = firstOf (inspectRows v p (length buffer))
 
-  pub answer-is : (buffer : List ℕ) → inspectOf v p buffer .answer ≡ cond (eqb (number buffer) 0) (Repaired (repairOf (geometryOf v) p (pageView v p))) (Refused (number buffer))
+  pub answer-is : (buffer : List ℕ) → inspectOf v p buffer .answer
+      ≡ cond (eqb (number buffer) 0) (Repaired (repairOf (geometryOf v) p (pageView v p))) (Refused (number buffer))
   unfolding inspectOf
   answer-is buffer = byCases (eqb (number buffer) 0) (λ t. rw t) (λ t. rw t)
 
   refused-is : (buffer : List ℕ) (n : ℕ) → inspectOf v p buffer .answer ≡ Refused n → number buffer ≡ n
   refused-is buffer n e = by (eqb (number buffer) 0) (sym (answer-is buffer) ∙ e)
     where
-      by : (t : Bool) → cond t (Repaired (repairOf (geometryOf v) p (pageView v p))) (Refused (number buffer)) ≡ Refused n → number buffer ≡ n
+      by : (t : Bool) → cond t (Repaired (repairOf (geometryOf v) p (pageView v p))) (Refused (number buffer)) ≡ Refused n
+          → number buffer ≡ n
       by true q = let z : _≡_ {A = ℕ} 0 1 = cc in absurd (omega arith)
       by false q = cc
 
@@ -110,7 +119,8 @@ reach false false false false true rest n h n1 n2 n3 n17 n18 = absurd (n18 (sym 
 reach false false false false false rest n h n1 n2 n3 n17 n18 = (refl, refl, refl, refl, refl, h)
 
 -- of the rows that a scan gives, the same
-scan-number : (a b c d e : Bool) (rest n : ℕ) → cond a 1 (cond b 2 (cond c 3 (cond d 17 (cond e 18 rest)))) ≡ n → rest ≢ 1 → rest ≢ 17 → rest ≢ 18
+scan-number : (a b c d e : Bool) (rest n : ℕ) → cond a 1 (cond b 2 (cond c 3 (cond d 17 (cond e 18 rest)))) ≡ n
+    → rest ≢ 1 → rest ≢ 17 → rest ≢ 18
     → (n ≡ 1) ⊎ ((n ≡ 17) ⊎ (n ≡ 18)) → cond a 1 (cond d 17 (cond e 18 0)) ≡ n
 scan-number true b c d e rest n h r1 r17 r18 k = h
 scan-number false true c d e rest n h r1 r17 r18 k = absurd (⊎-elim (λ x. omega arith) (⊎-elim (λ x. omega arith) (λ x. omega arith)) k)
@@ -130,7 +140,8 @@ module _ (v : List ℕ) (p : ℕ) (buffer : List ℕ) where
   unfolding inspectRows
   reached n e n1 n2 n3 n17 n18 =
       let g = geometryOf v in
-      let q = reach (not (validVolume v)) (not (eqb (length buffer) 256)) (not (within (g .pages) p)) (not (validLog g v)) (not (validNotes g v)) tail n e n1 n2 n3 n17 n18 in (
+      let q = reach (not (validVolume v)) (not (eqb (length buffer) 256)) (not (within (g .pages) p)) (not (validLog g v))
+      (not (validNotes g v)) tail n e n1 n2 n3 n17 n18 in (
         record { restarts = rw (q .0, q .3, q .4); page = not-false _ (q .2); size = eqb-true _ _ (not-false _ (q .1)) },
         q .5,
       )
@@ -149,7 +160,8 @@ module _ (v : List ℕ) (p : ℕ) (buffer : List ℕ) where
       let w = pageView v p in
       let k = walkOf (geometryOf v) p w in
       rw (answer-is v p buffer, asked a) (byCases (eqb (w .durable) 0)
-      (λ t. rw t (sym (no-steps (w .durable) (w .log) (w .first) p (ownStart (geometryOf v) p w) (backupStart (geometryOf v) p w) (eqb-true (w .durable) 0 t))))
+      (λ t. rw t (sym (no-steps (w .durable) (w .log) (w .first) p (ownStart (geometryOf v) p w) (backupStart (geometryOf v) p w)
+      (eqb-true (w .durable) 0 t))))
       (λ t. rw t (byCases (isBelow (k .stop)) (λ u. rw u) (λ u. rw u))))
 
   pub exact : Asked v p buffer → forecastRow v p ≡ figureIn (inspectOf v p buffer .answer)
@@ -164,8 +176,10 @@ module _ (v : List ℕ) (p : ℕ) (buffer : List ℕ) where
   unfolding inspectRows
   alike n e k =
       let g = geometryOf v in
-      scan-number (not (validVolume v)) (not (eqb (length buffer) 256)) (not (within (g .pages) p)) (not (validLog g v)) (not (validNotes g v)) tail n (refused-is v p buffer n e)
-      (tail-not 1 (λ x. omega arith) (λ x. omega arith) (λ x. omega arith)) (tail-not 17 (λ x. omega arith) (λ x. omega arith) (λ x. omega arith))
+      scan-number (not (validVolume v)) (not (eqb (length buffer) 256)) (not (within (g .pages) p)) (not (validLog g v))
+      (not (validNotes g v)) tail n (refused-is v p buffer n e)
+      (tail-not 1 (λ x. omega arith) (λ x. omega arith) (λ x. omega arith))
+      (tail-not 17 (λ x. omega arith) (λ x. omega arith) (λ x. omega arith))
       (tail-not 18 (λ x. omega arith) (λ x. omega arith) (λ x. omega arith)) k
 
 -- ---- the table

@@ -30,7 +30,8 @@ module _ (g : Geometry) (plain : ring g ≡ false) (l-high : g .records ≤ 1024
   pub notes-rise : mostNotes g ≤ mostNotes (withTag g tag)
   notes-rise = rw plain (rises (ring (withTag g tag)) (g .notes) (omega arith))
 
-  note-tag : (notes durable : ℕ) (y : PendingNote) → pendingNoteFits g notes durable y ≡ true → pendingNoteFits (withTag g tag) notes durable y ≡ true
+  note-tag : (notes durable : ℕ) (y : PendingNote) → pendingNoteFits g notes durable y ≡ true
+      → pendingNoteFits (withTag g tag) notes durable y ≡ true
   unfolding pendingNoteFits
   note-tag notes durable Absent h = refl
   note-tag notes durable (Present n) h =
@@ -39,8 +40,10 @@ module _ (g : Geometry) (plain : ring g ≡ false) (l-high : g .records ≤ 1024
       let f = formed-note g notes durable n h in
       all-holds
       (ltb notes (mostNotes (withTag g tag)) ∷ ltb 0 (g .notes) ∷ noteLayout n ∷ eqb (n .number) (notes + 1) ∷ within (g .pages) (n .page)
-      ∷ (isWritten n || within (g .slots) (n .slot)) ∷ leb (n .lsn) durable ∷ [])
-      (lt-ltb notes (mostNotes (withTag g tag)) (omega (arith, f .room, notes-rise)), (all-at tests 1 h, (all-at tests 2 h, (all-at tests 3 h, (all-at tests 4 h, (all-at tests 5 h, (all-at tests 6 h, tt)))))))
+      ∷ (isWritten n || within (g .slots) (n .slot)) ∷ leb (n .lsn) durable ∷ []) (
+        lt-ltb notes (mostNotes (withTag g tag)) (omega (arith, f .room, notes-rise)),
+        (all-at tests 1 h, (all-at tests 2 h, (all-at tests 3 h, (all-at tests 4 h, (all-at tests 5 h, (all-at tests 6 h, tt)))))),
+      )
 
   frame-tag : (frames : ℕ) (s : State) (i : ℕ) → frameFits (withTag g tag) frames s i ≡ frameFits g frames s i
   unfolding frameFits

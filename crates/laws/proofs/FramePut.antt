@@ -46,7 +46,8 @@ pub record Put (g : Geometry) (frames : ℕ) (s s′ : State) (j p : ℕ) (t : B
   pub idle : p ≡ 0 → t ≡ false
   pub leaves : frameRow s j .page ≢ 0 → frameRow s j .page ≢ p → Durable s (frameRow s j .page)
 
-module _ (g : Geometry) (frames : ℕ) (s : State) (a : Arrays s) (w : Formed g frames s) (p64 : g .pages ≤ 64) (s′ : State) (j p : ℕ) (t : Bool) (u : Put g frames s s′ j p t) where
+module _ (g : Geometry) (frames : ℕ) (s : State) (a : Arrays s) (w : Formed g frames s) (p64 : g .pages ≤ 64) (s′ : State) (j p : ℕ)
+    (t : Bool) (u : Put g frames s s′ j p t) where
   new : Frame
   new = record { page = p; dirty = t }
 
@@ -89,14 +90,16 @@ module _ (g : Geometry) (frames : ℕ) (s : State) (a : Arrays s) (w : Formed g 
       zero-page q = elim (ℕ-discrete p 0) [ yes z ↦ z | no nz ↦ absurd (u .own nz .alone i l ne (sym q)) ]
 
       some-other : frameRow s i .page ≢ 0 → entryOf (s′ .index) (frameRow s i .page) .last ≢ 0
-      some-other nz z = row i l .some nz (sym (ap (λ (e : Entry). e .last) (u .entries (frameRow s i .page) (omega arith) (λ q. nz (q ∙ zero-page (sym q))))) ∙ z)
+      some-other nz z = row i l .some nz
+          (sym (ap (λ (e : Entry). e .last) (u .entries (frameRow s i .page) (omega arith) (λ q. nz (q ∙ zero-page (sym q))))) ∙ z)
 
   row-new : RowFits g frames s′ j
   unfolding new
   row-new =
       record {
         high = rw same high;
-        once = λ nz k b q. u .own (rw same at nz) .alone k (omega (arith, u .place)) (λ e. omega arith) (rw (other k (λ e. omega arith), same) at q);
+        once = λ nz k b q. u .own (rw same at nz) .alone k (omega (arith, u .place)) (λ e. omega arith)
+            (rw (other k (λ e. omega arith), same) at q);
         some = λ nz. rw same (u .own (rw same at nz) .some);
         idle = λ z. rw same (u .idle (rw same at z));
         inside = λ nz. u .own (rw same at nz) .inside;
@@ -106,7 +109,8 @@ module _ (g : Geometry) (frames : ℕ) (s : State) (a : Arrays s) (w : Formed g 
       high = elim (ℕ-discrete p 0) [ yes z ↦ omega arith | no nz ↦ u .own nz .high ]
 
   table : (i : ℕ) → i < 16 → frameFits g frames s′ i ≡ true
-  table i l = fits-row g frames s′ i (elim (ℕ-discrete i j) [ yes e ↦ subst (RowFits g frames s′) (sym e) row-new | no e ↦ row-other i l e ])
+  table i l =
+      fits-row g frames s′ i (elim (ℕ-discrete i j) [ yes e ↦ subst (RowFits g frames s′) (sym e) row-new | no e ↦ row-other i l e ])
 
   -- ---- the entries
 
@@ -161,5 +165,7 @@ module _ (g : Geometry) (frames : ℕ) (s : State) (a : Arrays s) (w : Formed g 
       past : g .pages ≤ i → suc i ≢ p
       past b e = let nz : p ≢ 0 = λ z. omega arith in omega (arith, u .own nz .high)
 
-  pub put-formed : s′ .durable + s′ .pending ≤ most g → s′ .pending ≤ 16 → s′ .notes ≤ mostNotes g → pendingNoteFits g (s′ .notes) (s′ .durable) (s′ .note) ≡ true → wellFormed g frames s′ ≡ true
-  put-formed room few notes fit = forms g frames s′ (record { room = room; few = few; notes = notes; note = fit; table = table; pages = page })
+  pub put-formed : s′ .durable + s′ .pending ≤ most g → s′ .pending ≤ 16 → s′ .notes ≤ mostNotes g
+      → pendingNoteFits g (s′ .notes) (s′ .durable) (s′ .note) ≡ true → wellFormed g frames s′ ≡ true
+  put-formed room few notes fit =
+      forms g frames s′ (record { room = room; few = few; notes = notes; note = fit; table = table; pages = page })

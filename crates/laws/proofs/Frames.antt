@@ -67,10 +67,12 @@ row-fits g frames s i h =
     ∷ (ltb i frames || empty) ∷ [] in
     record {
       high = leb-true _ _ (all-at tests 0 h);
-      once = λ nz j l. eqb-false _ _ (not-true _ (every-at (λ k. not (eqb (frameRow s k .page) (f .page))) i (other-side empty (firstHolder s i) (all-at tests 1 h) (ne-eqb (f .page) 0 nz)) j l));
+      once = λ nz j l. eqb-false _ _ (not-true _ (every-at (λ k. not (eqb (frameRow s k .page) (f .page))) i
+          (other-side empty (firstHolder s i) (all-at tests 1 h) (ne-eqb (f .page) 0 nz)) j l));
       some = λ nz. eqb-false _ _ (not-true _ (other-side empty (not (blank s (f .page))) (all-at tests 2 h) (ne-eqb (f .page) 0 nz)));
       idle = λ z. not-true (f .dirty) (other-side (not empty) (not (f .dirty)) (all-at tests 3 h) (rw (eq-eqb (f .page) 0 z)));
-      inside = λ nz. ⊎-elim (λ t. ltb-true i frames t) (λ t. absurd (nz (eqb-true (f .page) 0 t))) (or-cases (ltb i frames) empty (all-at tests 4 h));
+      inside = λ nz. ⊎-elim (λ t. ltb-true i frames t) (λ t. absurd (nz (eqb-true (f .page) 0 t)))
+          (or-cases (ltb i frames) empty (all-at tests 4 h));
     }
 
 pub fits-row : (g : Geometry) (frames : ℕ) (s : State) (i : ℕ) → RowFits g frames s i → frameFits g frames s i ≡ true
@@ -78,14 +80,17 @@ unfolding frameFits
 fits-row g frames s i r =
     let f = frameRow s i in
     let empty = eqb (f .page) 0 in
-    all-holds (leb (f .page) (g .pages) ∷ (empty || firstHolder s i) ∷ (empty || not (blank s (f .page))) ∷ (not empty || not (f .dirty)) ∷ (ltb i frames || empty) ∷ []) (
+    all-holds (leb (f .page) (g .pages) ∷ (empty || firstHolder s i) ∷ (empty || not (blank s (f .page))) ∷ (not empty || not (f .dirty))
+    ∷ (ltb i frames || empty) ∷ []) (
       le-leb _ _ (r .high),
       (
-        byCases empty (λ t. or-left (firstHolder s i) t) (λ t. or-right empty (every-all (λ j. not (eqb (frameRow s j .page) (f .page))) i (λ j l. rw (ne-eqb _ _ (r .once (eqb-false _ _ t) j l))))),
+        byCases empty (λ t. or-left (firstHolder s i) t) (λ t. or-right empty
+            (every-all (λ j. not (eqb (frameRow s j .page) (f .page))) i (λ j l. rw (ne-eqb _ _ (r .once (eqb-false _ _ t) j l))))),
         (
           byCases empty (λ t. or-left (not (blank s (f .page))) t) (λ t. or-right empty (rw (ne-eqb _ _ (r .some (eqb-false _ _ t))))),
           (
-            byCases empty (λ t. or-right (not empty) (rw (r .idle (eqb-true _ _ t)))) (λ t. or-left {a = not empty} (not (f .dirty)) (rw t)),
+            byCases empty (λ t. or-right (not empty) (rw (r .idle (eqb-true _ _ t))))
+                (λ t. or-left {a = not empty} (not (f .dirty)) (rw t)),
             (byCases empty (λ t. or-right (ltb i frames) t) (λ t. or-left empty (lt-ltb _ _ (r .inside (eqb-false _ _ t)))), tt),
           ),
         ),
@@ -153,14 +158,16 @@ module _ (g : Geometry) (frames : ℕ) (s : State) (w : Formed g frames s) where
   unfolding pageFits
   entry-of h p lo hi =
       let e : suc (p - 1) ≡ p = omega arith in
-      let t : entryFits g s (suc (p - 1)) (entryRow (s .index) (p - 1)) ≡ true = rw (lt-ltb (p - 1) (g .pages) (omega arith)) at (w .pages (p - 1) (omega arith)) in
+      let t : entryFits g s (suc (p - 1)) (entryRow (s .index) (p - 1)) ≡ true =
+      rw (lt-ltb (p - 1) (g .pages) (omega arith)) at (w .pages (p - 1) (omega arith)) in
       entry-fits g s p (entryOf (s .index) p) (rw e at t)
 
   pub entry-past : (i : ℕ) → i < 64 → g .pages ≤ i → entryZero (entryRow (s .index) i) ≡ true
   unfolding pageFits
   entry-past i l h = rw (le-ltb i (g .pages) h) at (w .pages i l)
 
-pub page-fits : (g : Geometry) (s : State) (i : ℕ) → (i < g .pages → EntryFits g s (suc i) (entryRow (s .index) i)) → (g .pages ≤ i → entryZero (entryRow (s .index) i) ≡ true)
+pub page-fits : (g : Geometry) (s : State) (i : ℕ) → (i < g .pages → EntryFits g s (suc i) (entryRow (s .index) i))
+    → (g .pages ≤ i → entryZero (entryRow (s .index) i) ≡ true)
     → pageFits g s i ≡ true
 unfolding pageFits
 page-fits g s i f z = elim (decLt i (g .pages)) [
@@ -173,6 +180,11 @@ page-fits g s i f z = elim (decLt i (g .pages)) [
 pub forms : (g : Geometry) (frames : ℕ) (s : State) → Formed g frames s → wellFormed g frames s ≡ true
 unfolding wellFormed
 forms g frames s f =
-    all-holds (leb (s .durable + s .pending) (most g) ∷ leb (s .pending) 16 ∷ leb (s .notes) (mostNotes g) ∷ pendingNoteFits g (s .notes) (s .durable) (s .note)
-    ∷ every 16 (frameFits g frames s) ∷ every 64 (pageFits g s) ∷ [])
-    (le-leb _ _ (f .room), (le-leb _ _ (f .few), (le-leb _ _ (f .notes), (f .note, (every-all (frameFits g frames s) 16 (f .table), (every-all (pageFits g s) 64 (f .pages), tt))))))
+    all-holds (leb (s .durable + s .pending) (most g) ∷ leb (s .pending) 16 ∷ leb (s .notes) (mostNotes g)
+    ∷ pendingNoteFits g (s .notes) (s .durable) (s .note) ∷ every 16 (frameFits g frames s) ∷ every 64 (pageFits g s) ∷ []) (
+      le-leb _ _ (f .room),
+      (
+        le-leb _ _ (f .few),
+        (le-leb _ _ (f .notes), (f .note, (every-all (frameFits g frames s) 16 (f .table), (every-all (pageFits g s) 64 (f .pages), tt)))),
+      ),
+    )

@@ -39,7 +39,8 @@ abbrev pub Known : List ℕ → Type 0
 Known v = (headed (tagOf First) v ≡ true) ⊎ ((headed (tagOf Second) v ≡ true) ⊎ (headed carryTag v ≡ true))
 
 pub known-cases : (v : List ℕ) → knownMagic v ≡ true → Known v
-known-cases v h = ⊎-elim inl (λ t. inr (or-cases (headed (tagOf Second) v) (headed carryTag v) t)) (or-cases (headed (tagOf First) v) (headed (tagOf Second) v || headed carryTag v) h)
+known-cases v h = ⊎-elim inl (λ t. inr (or-cases (headed (tagOf Second) v) (headed carryTag v) t))
+    (or-cases (headed (tagOf First) v) (headed (tagOf Second) v || headed carryTag v) h)
 
 -- a known heading is that of its tag
 pub tag-headed : (tag : ℕ) (v : List ℕ) → validVolume v ≡ true → geometryOf v .tag ≡ tag → headed tag v ≡ true
@@ -108,7 +109,8 @@ module _ (v : List ℕ) (ok : validVolume v ≡ true) (tag : ℕ) where
   counts-heading : (pagesOf after ≡ pagesOf v) × (slotsOf after ≡ slotsOf v) × (recordsOf after ≡ recordsOf v) × (notesOf after ≡ notesOf v)
   counts-heading =
       same-counts v after (field-heading 4 (omega arith)) (field-heading (slotCountAt (pagesOf v)) (omega arith))
-      (field-heading (recordCountAt (pagesOf v) (slotsOf v)) (omega arith)) (field-heading (noteCountAt (pagesOf v) (slotsOf v) (recordsOf v)) (omega arith))
+      (field-heading (recordCountAt (pagesOf v) (slotsOf v)) (omega arith))
+      (field-heading (noteCountAt (pagesOf v) (slotsOf v) (recordsOf v)) (omega arith))
 
   tag-heading : byteAt (storeHeading v tag) 3 ≡ tag
   unfolding storeHeading
@@ -138,13 +140,15 @@ module _ (v : List ℕ) (ok : validVolume v ≡ true) (tag : ℕ) where
       let z : eqb (length after) (lengthFor (pagesOf after) (slotsOf after) (recordsOf after) (notesOf after)) ≡ true =
       same-four (λ p b l k. eqb (length after) (lengthFor p b l k)) (c .0) (c .1) (c .2) (c .3) ∙ eq-eqb _ _ (heading-length ∙ counted) in
       all-holds (knownMagic after ∷ validCounts (pagesOf after) (slotsOf after) (recordsOf after) (notesOf after)
-      ∷ eqb (length after) (lengthFor (pagesOf after) (slotsOf after) (recordsOf after) (notesOf after)) ∷ []) (magic-known known, (k, (z, tt)))
+      ∷ eqb (length after) (lengthFor (pagesOf after) (slotsOf after) (recordsOf after) (notesOf after)) ∷ [])
+      (magic-known known, (k, (z, tt)))
 
   -- only the tag differs
   front : (i : ℕ) → i < 3 → getD (storeHeading v tag) i 0 ≡ getD v i 0
   unfolding storeHeading
   front i l =
-      let e : getD (splice v 0 (magicOf tag)) i 0 ≡ getD (magicOf tag) i 0 = rw (zero-add i) at (splice-at v 0 (magicOf tag) fits i (omega arith)) in
+      let e : getD (splice v 0 (magicOf tag)) i 0 ≡ getD (magicOf tag) i 0 =
+      rw (zero-add i) at (splice-at v 0 (magicOf tag) fits i (omega arith)) in
       e ∙ (three tag i l ∙ sym (known-front v (valid-facts v ok .heading) i l))
 
   behind : (i : ℕ) → 4 ≤ i → getD (storeHeading v tag) i 0 ≡ getD v i 0
@@ -152,4 +156,5 @@ module _ (v : List ℕ) (ok : validVolume v ≡ true) (tag : ℕ) where
   behind i l = splice-after v 0 (magicOf tag) fits i l
 
   pub differs-in-tag : DiffersInTag v (storeHeading v tag)
-  differs-in-tag = record { size = heading-length; outside = λ i ne. elim (decLt i 3) [ yes y ↦ front i y | no z ↦ behind i (omega arith) ] }
+  differs-in-tag =
+      record { size = heading-length; outside = λ i ne. elim (decLt i 3) [ yes y ↦ front i y | no z ↦ behind i (omega arith) ] }

@@ -76,22 +76,26 @@ module _ (g : Geometry) (p : ℕ) (w : View) where
   pub failed-is : (repairOf g p w .class ≡ Failed) ↔ (validImage g p (w .own) ≡ false)
   unfolding repairOf classOf
   failed-is = (
-    failed-test (validImage g p (w .own)) (eqb (imageLsn (w .own)) (w .durable)) (ltb (w .durable) (imageLsn (w .own))) (ltb (imageLsn (w .own)) (w .written)),
+    failed-test (validImage g p (w .own)) (eqb (imageLsn (w .own)) (w .durable)) (ltb (w .durable) (imageLsn (w .own)))
+        (ltb (imageLsn (w .own)) (w .written)),
     λ t. rw t,
   )
 
   good-untouched : (n : ℕ) → w .durable ≡ suc n → repairOf g p w .class ≡ Good → Untouched (repairOf g p w)
   unfolding repairOf classOf walkOf walkFrom
   good-untouched n d e =
-      let t = good-tests (validImage g p (w .own)) (eqb (imageLsn (w .own)) (w .durable)) (ltb (w .durable) (imageLsn (w .own))) (ltb (imageLsn (w .own)) (w .written)) e in
+      let t = good-tests (validImage g p (w .own)) (eqb (imageLsn (w .own)) (w .durable)) (ltb (w .durable) (imageLsn (w .own)))
+      (ltb (imageLsn (w .own)) (w .written)) e in
       let own : eqb (ownStart g p w) (suc n) ≡ true = rw (t .0) (eq-eqb (imageLsn (w .own)) (suc n) (eqb-true _ _ (t .1) ∙ d)) in
       record { start = rw (d, own); count = rw (d, own) }
 
   untouched-good : (n : ℕ) → w .durable ≡ suc n → Untouched (repairOf g p w) → repairOf g p w .class ≡ Good
   unfolding repairOf classOf walkOf walkFrom
   untouched-good n d u =
-      let a = first-step (eqb (ownStart g p w) (suc n)) (eqb (backupStart g p w) (suc n)) (ltb (suc n) (w .first)) (chainRecord p (suc n) (w .log (suc n))) (isFormat (recordOf (w .log (suc n)))) (suc n)
-      (walkFrom n (w .log) (w .first) p (ownStart g p w) (backupStart g p w) (recordOf (w .log (suc n)) .prev)) (rw d at (u .start)) (rw d at (u .count)) in
+      let a = first-step (eqb (ownStart g p w) (suc n)) (eqb (backupStart g p w) (suc n)) (ltb (suc n) (w .first))
+      (chainRecord p (suc n) (w .log (suc n))) (isFormat (recordOf (w .log (suc n)))) (suc n)
+      (walkFrom n (w .log) (w .first) p (ownStart g p w) (backupStart g p w) (recordOf (w .log (suc n)) .prev))
+      (rw d at (u .start)) (rw d at (u .count)) in
       let o = own-number (validImage g p (w .own)) (imageLsn (w .own)) (suc n) (omega arith) (eqb-true _ _ a) in
       rw (o .0, eq-eqb (imageLsn (w .own)) (w .durable) (o .1 ∙ sym d))
 
@@ -122,11 +126,13 @@ module _ (v m : List ℕ) (s : State) (p f : ℕ) where
   abbrev view : View
   view = viewOf (geometryOf v) v (firstHeld (geometryOf v) v (s .durable)) (entryOf (s .index) p) p
 
-  pub load-repairs : (r : Repair) → loadOf v m s p f .answer ≡ Repaired r → (firstOf (loadRows v m s p f) ≡ 0) × (repairOf (geometryOf v) p view ≡ r)
+  pub load-repairs : (r : Repair) → loadOf v m s p f .answer ≡ Repaired r
+      → (firstOf (loadRows v m s p f) ≡ 0) × (repairOf (geometryOf v) p view ≡ r)
   unfolding loadOf
   load-repairs r e =
       let no = firstOf (loadRows v m s p f) in
-      let q = repaired-by (eqb no 0) (repairOf (geometryOf v) p view) r no (byCases (eqb no 0) (λ t. rw t (rw t at e)) (λ t. rw t (rw t at e))) in
+      let q = repaired-by (eqb no 0) (repairOf (geometryOf v) p view) r no
+      (byCases (eqb no 0) (λ t. rw t (rw t at e)) (λ t. rw t (rw t at e))) in
       (eqb-true _ _ (q .0), q .1)
 
   load-durable : firstOf (loadRows v m s p f) ≡ 0 → 1 ≤ entryOf (s .index) p .durable
@@ -158,7 +164,8 @@ module _ (v : List ℕ) (p : ℕ) (buffer : List ℕ) where
   unfolding inspectOf
   inspect-repairs r e =
       let no = firstOf (inspectRows v p (length buffer)) in
-      let q = repaired-by (eqb no 0) (repairOf (geometryOf v) p seen) r no (byCases (eqb no 0) (λ t. rw t (rw t at e)) (λ t. rw t (rw t at e))) in
+      let q = repaired-by (eqb no 0) (repairOf (geometryOf v) p seen) r no
+      (byCases (eqb no 0) (λ t. rw t (rw t at e)) (λ t. rw t (rw t at e))) in
       (eqb-true _ _ (q .0), q .1)
 
   inspect-durable : firstOf (inspectRows v p (length buffer)) ≡ 0 → 1 ≤ entryOf (indexOf (geometryOf v) v) p .durable

@@ -23,6 +23,7 @@ pub mod Demand1
 pub mod FormedTags
 pub mod Restamped
 pub mod Progress
+pub mod FormedStates
 pub mod StaysFormed
 pub mod Health
 pub mod Detection
@@ -37,4 +38,5 @@ pub mod Mirror
 pub mod Compare
 pub mod Noted
 pub mod Neighbours
+pub mod SameRepair
 pub mod Same

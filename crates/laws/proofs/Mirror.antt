@@ -1,5 +1,5 @@
--- Two logs held against each other, on any volumes: what is common, that the volumes have equal parts in it, and that up to there the records
--- are the same, the previous numbers too. The proof of `MirrorClaim`.
+-- Two logs held against each other, on any volumes: what is common, that the volumes have equal parts in it, and that up to there the
+-- records are the same, the previous numbers too. The proof of `MirrorClaim`.
 use mathlib.Core.Path.{_≡_, refl, sym, ap, _∙_, subst}
 use mathlib.Core.Logic.{_≢_, _⊎_, inl, inr, _↔_}
 use mathlib.Core.Bool.{Bool, true, false, _&&_, _||_, cond, not}
@@ -38,7 +38,8 @@ unfolding sameBytes
 same-bytes [] [] h = refl
 same-bytes [] (y ∷ ys) h = absurd (true-not-false h refl)
 same-bytes (x ∷ xs) [] h = absurd (true-not-false h refl)
-same-bytes (x ∷ xs) (y ∷ ys) h = rw (eqb-true x y (and-left (eqb x y) (sameBytes xs ys) h), same-bytes xs ys (and-right (eqb x y) (sameBytes xs ys) h))
+same-bytes (x ∷ xs) (y ∷ ys) h =
+    rw (eqb-true x y (and-left (eqb x y) (sameBytes xs ys) h), same-bytes xs ys (and-right (eqb x y) (sameBytes xs ys) h))
 
 pub bytes-same : (xs : List ℕ) → sameBytes xs xs ≡ true
 unfolding sameBytes
@@ -102,7 +103,8 @@ common v w =
 common-swap : (most : ℕ) (v w : List ℕ) (k : ℕ) → commonFrom most w v k ≡ commonFrom most v w k
 unfolding commonFrom
 common-swap zero v w k = refl
-common-swap (suc most) v w k = rw (bytes-swap (part (recordIn w (suc k)) 8 52) (part (recordIn v (suc k)) 8 52), common-swap most v w (suc k))
+common-swap (suc most) v w k =
+    rw (bytes-swap (part (recordIn w (suc k)) 8 52) (part (recordIn v (suc k)) 8 52), common-swap most v w (suc k))
 
 common-same : (v w : List ℕ) → commonOf w v ≡ commonOf v w
 common-same v w = rw (smaller-swap (durableIn w) (durableIn v)) (common-swap (smaller (durableIn v) (durableIn w)) v w 0)
@@ -145,9 +147,12 @@ module _ (v w : List ℕ) where
         or-swap (gone (geometryOf w) w) (gone (geometryOf v) v),
       )
 
-  touched-swap : _≡_ {A = ℕ → Bool} (λ i. touchedIn (geometryOf w) w (durableIn w) (commonOf v w) (suc i) || touchedIn (geometryOf v) v (durableIn v) (commonOf v w) (suc i))
-      (λ i. touchedIn (geometryOf v) v (durableIn v) (commonOf v w) (suc i) || touchedIn (geometryOf w) w (durableIn w) (commonOf v w) (suc i))
-  touched-swap = λ k. λ i. or-swap (touchedIn (geometryOf w) w (durableIn w) (commonOf v w) (suc i)) (touchedIn (geometryOf v) v (durableIn v) (commonOf v w) (suc i)) k
+  touched-swap : _≡_ {A = ℕ → Bool} (λ i. touchedIn (geometryOf w) w (durableIn w) (commonOf v w) (suc i)
+      || touchedIn (geometryOf v) v (durableIn v) (commonOf v w) (suc i))
+      (λ i. touchedIn (geometryOf v) v (durableIn v) (commonOf v w) (suc i)
+      || touchedIn (geometryOf w) w (durableIn w) (commonOf v w) (suc i))
+  touched-swap = λ k. λ i. or-swap (touchedIn (geometryOf w) w (durableIn w) (commonOf v w) (suc i))
+      (touchedIn (geometryOf v) v (durableIn v) (commonOf v w) (suc i)) k
 
   pub symmetry : (mirrorOf w v .answer ≡ exchanged (mirrorOf v w .answer)) × (mirrorOf w v .touched ≡ mirrorOf v w .touched)
   unfolding mirrorOf
@@ -176,12 +181,18 @@ module _ (v w : List ℕ) where
   answer-is z = let e : firstOf (mirrorRows v w) ≡ 0 = sym number-is ∙ z in rw e
 
   pub listed-is : mirrorRefusal (mirrorOf v w .answer) ≡ 0 → (p : ℕ) → 1 ≤ p → p ≤ 64
-      → listed v w p ≡ (touchedIn (geometryOf v) v (durableIn v) (commonOf v w) p || touchedIn (geometryOf w) w (durableIn w) (commonOf v w) p)
+      → listed v w p ≡ (touchedIn (geometryOf v) v (durableIn v) (commonOf v w) p
+      || touchedIn (geometryOf w) w (durableIn w) (commonOf v w) p)
   unfolding mirrorOf
   listed-is z p lo hi =
       let e : firstOf (mirrorRows v w) ≡ 0 = sym number-is ∙ z in
       let m : suc (p - 1) ≡ p = omega arith in
-      rw (e, tabulate-at 64 (p - 1) (λ i. touchedIn (geometryOf v) v (durableIn v) (commonOf v w) (suc i) || touchedIn (geometryOf w) w (durableIn w) (commonOf v w) (suc i)) false (omega arith), m)
+      rw (
+        e,
+        tabulate-at 64 (p - 1) (λ i. touchedIn (geometryOf v) v (durableIn v) (commonOf v w) (suc i)
+            || touchedIn (geometryOf w) w (durableIn w) (commonOf v w) (suc i)) false (omega arith),
+        m,
+      )
 
   -- both restart, and record 1 is in both
   pub record Both : Type 0 where
@@ -193,13 +204,17 @@ module _ (v w : List ℕ) where
   unfolding mirrorRows
   both z =
       let rows : List Row = (not (validVolume v && validVolume w), 1) ∷ (not (validLog (geometryOf v) v && validLog (geometryOf w) w), 17)
-      ∷ (not (validNotes (geometryOf v) v && validNotes (geometryOf w) w), 18) ∷ (gone (geometryOf v) v || gone (geometryOf w) w, 24) ∷ [] in
+      ∷ (not (validNotes (geometryOf v) v && validNotes (geometryOf w) w), 18)
+      ∷ (gone (geometryOf v) v || gone (geometryOf w) w, 24) ∷ [] in
       let none = none-at rows (omega arith) (sym number-is ∙ z) in
       let a = not-false _ (none 0) in
       let b = not-false _ (none 1) in
       record {
         volumes = (and-left (validVolume v) (validVolume w) a, and-right (validVolume v) (validVolume w) a);
-        logs = (and-left (validLog (geometryOf v) v) (validLog (geometryOf w) w) b, and-right (validLog (geometryOf v) v) (validLog (geometryOf w) w) b);
+        logs = (
+          and-left (validLog (geometryOf v) v) (validLog (geometryOf w) w) b,
+          and-right (validLog (geometryOf v) v) (validLog (geometryOf w) w) b,
+        );
         here = or-neither (gone (geometryOf v) v) (gone (geometryOf w) w) (none 3);
       }
 
@@ -265,7 +280,8 @@ linked-one last e h = let a = and-left _ (firstIsFormat e) h in
   where
     go : (eqb (e .prev) last ≡ true) ⊎ ((eqb last 0 && within (1 - 1) (e .prev)) ≡ true) → e .prev ≡ last
     go (inl t) = eqb-true (e .prev) last t
-    go (inr t) = let w = within-bounds (1 - 1) (e .prev) (and-right (eqb last 0) (within (1 - 1) (e .prev)) t) in absurd (omega (arith, w .0, w .1))
+    go (inr t) = let w = within-bounds (1 - 1) (e .prev) (and-right (eqb last 0) (within (1 - 1) (e .prev)) t) in
+        absurd (omega (arith, w .0, w .1))
 
 module _ (v w : List ℕ) (z : mirrorRefusal (mirrorOf v w .answer) ≡ 0) where
   fit-v : (i : ℕ) → i < durableIn v → Fit (geometryOf v) v 1 i
@@ -306,8 +322,10 @@ module _ (v w : List ℕ) (z : mirrorRefusal (mirrorOf v w .answer) ≡ 0) where
   whole zero l m = absurd (omega arith)
   whole (suc c) l m =
       let s : 1 + c ≡ suc c = omega arith in
-      let e = change-same (suc c) l m in
-      (record-same (recordIn v (suc c)) (recordIn w (suc c)) e (rw s at (lsn-same c m)) (rw s at (prev-same c m)), payload-same (recordIn v (suc c)) (recordIn w (suc c)) e)
+      let e = change-same (suc c) l m in (
+        record-same (recordIn v (suc c)) (recordIn w (suc c)) e (rw s at (lsn-same c m)) (rw s at (prev-same c m)),
+        payload-same (recordIn v (suc c)) (recordIn w (suc c)) e,
+      )
 
 pub mirror : MirrorClaim
 mirror = record { table = table; refused = refused; symmetry = symmetry; common = common; listed = listed-exact; whole = whole }

@@ -40,14 +40,16 @@ down-is g v p f (suc c) =
 -- the walk over such a list from number n on, and the records that it takes; behind the last record is what lies below the run
 pub walkL : ℕ → ℕ → ℕ → ℕ → List (List ℕ) → Walk
 walkL p own b n [] = step (eqb own n) (eqb b n) true false false n (stopAt Broken [])
-walkL p own b n (r ∷ rs) = step (eqb own n) (eqb b n) false (chainRecord p n r) (isFormat (recordOf r)) n (walkL p own b (recordOf r .prev) rs)
+walkL p own b n (r ∷ rs) =
+    step (eqb own n) (eqb b n) false (chainRecord p n r) (isFormat (recordOf r)) n (walkL p own b (recordOf r .prev) rs)
 
 takeStep : Bool → Bool → Bool → Bool → List ℕ → List (List ℕ) → List (List ℕ)
 takeStep t u c f r rs = cond t [] (cond u [] (cond c (cond f (r ∷ []) (r ∷ rs)) []))
 
 pub takenL : ℕ → ℕ → ℕ → ℕ → List (List ℕ) → List (List ℕ)
 takenL p own b n [] = []
-takenL p own b n (r ∷ rs) = takeStep (eqb own n) (eqb b n) (chainRecord p n r) (isFormat (recordOf r)) r (takenL p own b (recordOf r .prev) rs)
+takenL p own b n (r ∷ rs) =
+    takeStep (eqb own n) (eqb b n) (chainRecord p n r) (isFormat (recordOf r)) r (takenL p own b (recordOf r .prev) rs)
 
 pub replayL : List (List ℕ) → List ℕ → List ℕ
 replayL [] body = body
@@ -81,7 +83,8 @@ none-empty false false n = refl
 
 -- ---- the walk through a run from f on
 
-module _ (g : Geometry) (v : List ℕ) (f : ℕ) (some : 1 ≤ f) (few : g .pages ≤ 64) (most : ℕ) (ok : (i : ℕ) → i < most → Fit g v f i) (p : ℕ) (low : 1 ≤ p) where
+module _ (g : Geometry) (v : List ℕ) (f : ℕ) (some : 1 ≤ f) (few : g .pages ≤ 64) (most : ℕ) (ok : (i : ℕ) → i < most → Fit g v f i)
+    (p : ℕ) (low : 1 ≤ p) where
   abbrev pub log : ℕ → List ℕ
   log n = item g v (logSlot g n)
 
@@ -97,7 +100,8 @@ module _ (g : Geometry) (v : List ℕ) (f : ℕ) (some : 1 ≤ f) (few : g .page
       (λ t. rw t (down-none c (omega arith) (rw t at z)))
 
   -- the record before one that the walk passes
-  meets-prev : (c : ℕ) → c < most → logRecord g v (f + c) .page ≡ p → 1 ≤ logRecord g v (f + c) .prev → Meets c (logRecord g v (f + c) .prev)
+  meets-prev : (c : ℕ) → c < most → logRecord g v (f + c) .page ≡ p → 1 ≤ logRecord g v (f + c) .prev
+      → Meets c (logRecord g v (f + c) .prev)
   meets-prev c h q one =
       let e = logRecord g v (f + c) in
       let w = newest g v f some few most ok c p (omega arith) low in
@@ -123,8 +127,10 @@ module _ (g : Geometry) (v : List ℕ) (f : ℕ) (some : 1 ≤ f) (few : g .page
       let r : List ℕ = item g v (logSlot g (f + c)) in
       let n : ℕ = f + c in
       let up : ltb (f + c) f ≡ false = le-ltb (f + c) f (omega arith) in
-      ap (λ (t : Bool). step (eqb own n) (eqb b n) t (chainRecord p n r) (isFormat (recordOf r)) n (walkFrom z log f p own b (recordOf r .prev))) up
-      ∙ step-same (eqb own n) (eqb b n) false (chainRecord p n r) (isFormat (recordOf r)) n (walkFrom z log f p own b (recordOf r .prev)) (walkL p own b (recordOf r .prev) (down g v p f c))
+      ap (λ (t : Bool). step (eqb own n) (eqb b n) t (chainRecord p n r) (isFormat (recordOf r)) n
+      (walkFrom z log f p own b (recordOf r .prev))) up
+      ∙ step-same (eqb own n) (eqb b n) false (chainRecord p n r) (isFormat (recordOf r)) n (walkFrom z log f p own b (recordOf r .prev))
+      (walkL p own b (recordOf r .prev) (down g v p f c))
       (λ x y. let one = named p n r x y in ih z own b (recordOf r .prev) (omega (arith, chain-falls p n r x)) one (meets-prev c h q one))
 
   pub walk-list : (c : ℕ) → c ≤ most → Listed c
@@ -141,7 +147,8 @@ module _ (g : Geometry) (v : List ℕ) (f : ℕ) (some : 1 ≤ f) (few : g .page
       (λ t. rw t (walk-list c (omega arith) s own b n k one (rw t at m)))
     where
       hit : Listed c → eqb (logRecord g v (f + c) .page) p ≡ true
-          → ((item g v (logSlot g (f + c)) ∷ down g v p f c ≡ []) × (n < f)) ⊎ ((1 ≤ logRecord g v (f + c) .lsn) × (n ≡ logRecord g v (f + c) .lsn))
+          → ((item g v (logSlot g (f + c)) ∷ down g v p f c ≡ []) × (n < f))
+          ⊎ ((1 ≤ logRecord g v (f + c) .lsn) × (n ≡ logRecord g v (f + c) .lsn))
           → walkFrom s log f p own b n ≡ walkL p own b n (item g v (logSlot g (f + c)) ∷ down g v p f c)
       hit ih t (inl x) = let y : suc (length (down g v p f c)) ≡ 0 = ap length (x .0) in absurd (omega arith)
       hit ih t (inr x) =
@@ -162,13 +169,15 @@ module _ (g : Geometry) (v : List ℕ) (f : ℕ) (some : 1 ≤ f) (few : g .page
       (λ t. rw t (replay-list c (omega arith) own b n body one (rw t at m)))
     where
       hit : Replays c → eqb (logRecord g v (f + c) .page) p ≡ true
-          → ((item g v (logSlot g (f + c)) ∷ down g v p f c ≡ []) × (n < f)) ⊎ ((1 ≤ logRecord g v (f + c) .lsn) × (n ≡ logRecord g v (f + c) .lsn))
+          → ((item g v (logSlot g (f + c)) ∷ down g v p f c ≡ []) × (n < f))
+          ⊎ ((1 ≤ logRecord g v (f + c) .lsn) × (n ≡ logRecord g v (f + c) .lsn))
           → replayChain log (walkL p own b n (item g v (logSlot g (f + c)) ∷ down g v p f c) .chain) body
           ≡ replayL (takenL p own b n (item g v (logSlot g (f + c)) ∷ down g v p f c)) body
       hit ih t (inl x) = let y : suc (length (down g v p f c)) ≡ 0 = ap length (x .0) in absurd (omega arith)
       hit ih t (inr x) =
           let r : List ℕ = item g v (logSlot g (f + c)) in
           let e : n ≡ f + c = x .1 ∙ ok c h .lsn-is in
-          replay-step (eqb own n) (eqb b n) (chainRecord p n r) (isFormat (recordOf r)) n (walkL p own b (recordOf r .prev) (down g v p f c)) r
+          replay-step (eqb own n) (eqb b n) (chainRecord p n r) (isFormat (recordOf r)) n
+          (walkL p own b (recordOf r .prev) (down g v p f c)) r
           (takenL p own b (recordOf r .prev) (down g v p f c)) log body (ap log e)
           (λ y z. let one′ = named p n r y z in ih own b (recordOf r .prev) body one′ (meets-prev c h (eqb-true _ p t) one′))

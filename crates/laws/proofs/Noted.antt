@@ -1,5 +1,5 @@
--- What the notes of a volume that restarts leave in the index, on any bytes: a page's newest number stays the log's, and its noted backup is of
--- one of its records, or of one below the run.
+-- What the notes of a volume that restarts leave in the index, on any bytes: a page's newest number stays the log's, and its noted backup
+-- is of one of its records, or of one below the run.
 use mathlib.Core.Path.{_≡_, refl, sym, ap, _∙_}
 use mathlib.Core.Logic.{_≢_, _⊎_, inl, inr, ⊎-elim}
 use mathlib.Core.Bool.{Bool, true, false, cond, not, _&&_, _||_}
@@ -50,7 +50,8 @@ note-fit g v index k h =
       low = w .0;
       high = w .1;
       durable = within-bounds n (e .lsn) (all-at tests 4 h) .1;
-      names = ⊎-elim (λ t. inl (ltb-true (e .lsn) (firstHeld g v n) t)) (λ t. inr (eqb-true _ _ t)) (or-cases (ltb (e .lsn) (firstHeld g v n)) (eqb (logRecord g v (e .lsn) .page) (e .page)) (all-at tests 5 h));
+      names = ⊎-elim (λ t. inl (ltb-true (e .lsn) (firstHeld g v n) t)) (λ t. inr (eqb-true _ _ t))
+          (or-cases (ltb (e .lsn) (firstHeld g v n)) (eqb (logRecord g v (e .lsn) .page) (e .page)) (all-at tests 5 h));
       slot = follows-slot g index e (all-at tests 6 h);
     }
 
@@ -62,7 +63,8 @@ notes-fit g v h i b =
     let f = firstNote g v k in
     let index = indexOf g v in
     let t : every (suc k - f) (λ i. noteFits g v (noteIndex g v f i) (f + i)) ≡ true =
-    and-left _ (endsAt (g .notes) k f (sealed 12 (item g v (noteAt (suc k)))) && (restZero 16 (g .notes) v (start g (noteAt 1)) k && every 64 (λ i. leb (entryRow index i .written) (entryRow index i .last)))) h in
+    and-left _ (endsAt (g .notes) k f (sealed 12 (item g v (noteAt (suc k)))) && (restZero 16 (g .notes) v (start g (noteAt 1)) k
+    && every 64 (λ i. leb (entryRow index i .written) (entryRow index i .last)))) h in
     note-fit g v (noteIndex g v f i) (f + i) (every-at (λ i. noteFits g v (noteIndex g v f i) (f + i)) (suc k - f) t i b)
 
 -- ---- the index with notes entered
@@ -77,9 +79,11 @@ pub record Marked (g : Geometry) (v : List ℕ) (p : ℕ) (e₀ e : Entry) : Typ
   pub last-is : e .last ≡ e₀ .last
   pub durable-is : e .durable ≡ e₀ .durable
   pub unslotted : e .slot ≡ 0 → e .backup ≡ 0
-  pub noted : (e .backup ≡ 0) ⊎ ((e .backup ≤ durableCount g v) × ((e .backup < firstHeld g v (durableCount g v)) ⊎ (logRecord g v (e .backup) .page ≡ p)))
+  pub noted : (e .backup ≡ 0)
+      ⊎ ((e .backup ≤ durableCount g v) × ((e .backup < firstHeld g v (durableCount g v)) ⊎ (logRecord g v (e .backup) .page ≡ p)))
 
-mark-more : (g : Geometry) (v : List ℕ) (p : ℕ) (e₀ e : Entry) (n : Note) → NoteFit g v n → n .page ≡ p → Marked g v p e₀ e → Marked g v p e₀ (withNote e n)
+mark-more : (g : Geometry) (v : List ℕ) (p : ℕ) (e₀ e : Entry) (n : Note) → NoteFit g v n → n .page ≡ p → Marked g v p e₀ e
+    → Marked g v p e₀ (withNote e n)
 mark-more g v p e₀ e n f q m = byCases (isWritten n)
     (λ t. rw t (record { last-is = m .last-is; durable-is = m .durable-is; unslotted = m .unslotted; noted = m .noted }))
     (λ t. rw t (record {
@@ -89,8 +93,10 @@ mark-more g v p e₀ e n f q m = byCases (isWritten n)
       noted = inr (f .durable, ⊎-elim inl (λ r. inr (r ∙ q)) (f .names));
     }))
 
-module _ (g : Geometry) (v : List ℕ) (few : g .pages ≤ 64) (f most : ℕ) (ok : (i : ℕ) → i < most → NoteFit g v (noteRecord g v (f + i))) (p : ℕ) (low : 1 ≤ p) where
-  marked : (c : ℕ) → c ≤ most → (e₀ : Entry) → entryOf (runIndex g v) p ≡ e₀ → e₀ .backup ≡ 0 → Marked g v p e₀ (entryOf (noteIndex g v f c) p)
+module _ (g : Geometry) (v : List ℕ) (few : g .pages ≤ 64) (f most : ℕ) (ok : (i : ℕ) → i < most → NoteFit g v (noteRecord g v (f + i)))
+    (p : ℕ) (low : 1 ≤ p) where
+  marked : (c : ℕ) → c ≤ most → (e₀ : Entry) → entryOf (runIndex g v) p ≡ e₀ → e₀ .backup ≡ 0
+      → Marked g v p e₀ (entryOf (noteIndex g v f c) p)
   unfolding noteIndex enterNote
   marked zero h e₀ q z = rw q (record { last-is = refl; durable-is = refl; unslotted = λ y. z; noted = inl z })
   marked (suc c) h e₀ q z =
@@ -105,7 +111,8 @@ module _ (g : Geometry) (v : List ℕ) (few : g .pages ≤ 64) (f most : ℕ) (o
             (mark-more g v p e₀ (entryOf (noteIndex g v f c) p) x fi (sym y) k)
         | no ne ↦
             let d : p - 1 ≢ x .page - 1 = λ e. ne (omega (arith, fi .low)) in
-            rw (getD-set-other (noteIndex g v f c) (x .page - 1) (p - 1) (withNote (entryOf (noteIndex g v f c) (x .page)) x) emptyEntry d) k
+            rw (getD-set-other (noteIndex g v f c) (x .page - 1) (p - 1)
+            (withNote (entryOf (noteIndex g v f c) (x .page)) x) emptyEntry d) k
       ]
 
 map-at : (f : Entry → Entry) (l : List Entry) (i : ℕ) → i < length l → getD (map f l) i emptyEntry ≡ f (getD l i emptyEntry)
@@ -122,7 +129,8 @@ pub record Entered (g : Geometry) (v : List ℕ) (p : ℕ) (rs : List (List ℕ)
   pub below : firstLsn rs ≡ 0 → e .backup ≢ 0 → e .backup < firstHeld g v (durableCount g v)
 
 -- a record of the page in the run
-down-some : (g : Geometry) (v : List ℕ) (p f : ℕ) → 1 ≤ f → (c i : ℕ) → i < c → ((j : ℕ) → j < c → Fit g v f j) → logRecord g v (f + i) .page ≡ p
+down-some : (g : Geometry) (v : List ℕ) (p f : ℕ) → 1 ≤ f → (c i : ℕ) → i < c → ((j : ℕ) → j < c → Fit g v f j)
+    → logRecord g v (f + i) .page ≡ p
     → firstLsn (down g v p f c) ≢ 0
 unfolding down firstLsn
 down-some g v p f one zero i b ok q = absurd (omega arith)
@@ -135,7 +143,8 @@ down-some g v p f one (suc c) i b ok q =
       | no ne ↦ down-some g v p f one c i (omega arith) (λ j d. ok j (omega arith)) q
     ]))
 
-module _ (g : Geometry) (v : List ℕ) (few : g .pages ≤ 64) (log : validLog g v ≡ true) (notes : validNotes g v ≡ true) (p : ℕ) (low : 1 ≤ p) where
+module _ (g : Geometry) (v : List ℕ) (few : g .pages ≤ 64) (log : validLog g v ≡ true) (notes : validNotes g v ≡ true)
+    (p : ℕ) (low : 1 ≤ p) where
   abbrev n : ℕ
   n = durableCount g v
 
@@ -148,11 +157,13 @@ module _ (g : Geometry) (v : List ℕ) (few : g .pages ≤ 64) (log : validLog g
   run-entry : Newest g v f (suc n - f) p (entryOf (runIndex g v) p)
   run-entry = newest g v f (held-low g v n) few (suc n - f) (log-fits g v log) (suc n - f) p (omega arith) low
 
-  before : Marked g v p (entryOf (runIndex g v) p) (entryOf (noteIndex g v (firstNote g v (noteCount g v)) (suc (noteCount g v) - firstNote g v (noteCount g v))) p)
+  before : Marked g v p (entryOf (runIndex g v) p)
+      (entryOf (noteIndex g v (firstNote g v (noteCount g v)) (suc (noteCount g v) - firstNote g v (noteCount g v))) p)
   before =
       let k = noteCount g v in
       let s = firstNote g v k in
-      marked g v few s (suc k - s) (notes-fit g v notes) p low (suc k - s) (omega arith) (entryOf (runIndex g v) p) refl (run-entry .unmarked .2)
+      marked g v few s (suc k - s) (notes-fit g v notes) p low (suc k - s) (omega arith) (entryOf (runIndex g v) p) refl
+      (run-entry .unmarked .2)
 
   settle : (e : Entry) → Marked g v p (entryOf (runIndex g v) p) e → p ≤ 64 → Entered g v p records (settled e)
   settle e m hi =
@@ -179,4 +190,5 @@ module _ (g : Geometry) (v : List ℕ) (few : g .pages ≤ 64) (log : validLog g
       let k = noteCount g v in
       let s = firstNote g v k in
       let i = notes-length g v s (suc k - s) in
-      rw (map-at settled (noteIndex g v s (suc k - s)) (p - 1) (omega (arith, i))) (settle (entryOf (noteIndex g v s (suc k - s)) p) before hi)
+      rw (map-at settled (noteIndex g v s (suc k - s)) (p - 1) (omega (arith, i)))
+      (settle (entryOf (noteIndex g v s (suc k - s)) p) before hi)

@@ -45,7 +45,8 @@ item-in g (recordAt i) h = within-holds (g .records) i (h .0) (h .1)
 item-in g (noteAt i) h = within-holds (g .notes) i (h .0) (h .1)
 
 -- two places that start differently do not overlap
-pub apart : (g : Geometry) (p q : Place) → In g p → In g q → start g q ≢ start g p → (start g q + width q ≤ start g p) ⊎ (start g p + width p ≤ start g q)
+pub apart : (g : Geometry) (p q : Place) → In g p → In g q → start g q ≢ start g p
+    → (start g q + width q ≤ start g p) ⊎ (start g p + width p ≤ start g q)
 apart g (pageAt i) (pageAt j) h k ne = elim (decLt j i) [ yes l ↦ inl (omega arith) | no l ↦ inr (omega arith) ]
 apart g (pageAt i) (slotAt j) h k ne = inr (omega arith)
 apart g (pageAt i) (recordAt j) h k ne = inr (omega arith)
@@ -64,7 +65,8 @@ apart g (noteAt i) (recordAt j) h k ne = inl (omega arith)
 apart g (noteAt i) (noteAt j) h k ne = elim (decLt j i) [ yes l ↦ inl (omega arith) | no l ↦ inr (omega arith) ]
 
 -- a part that lies apart from the bytes written reads as before
-pub part-apart : (v : List ℕ) (a : ℕ) (xs : List ℕ) (b w n : ℕ) → length xs ≡ n → a + n ≤ length v → (b + w ≤ a) ⊎ (a + n ≤ b) → part (splice v a xs) b w ≡ part v b w
+pub part-apart : (v : List ℕ) (a : ℕ) (xs : List ℕ) (b w n : ℕ) → length xs ≡ n → a + n ≤ length v → (b + w ≤ a) ⊎ (a + n ≤ b)
+    → part (splice v a xs) b w ≡ part v b w
 part-apart v a xs b w n e f (inl h) = part-before v a xs (omega arith) b w h
 part-apart v a xs b w n e f (inr h) = part-after v a xs (omega arith) b w (omega arith)
 
@@ -168,9 +170,11 @@ pub same-counts : (v w : List ℕ) → field 4 4 w ≡ field 4 4 v
     → (pagesOf w ≡ pagesOf v) × (slotsOf w ≡ slotsOf v) × (recordsOf w ≡ recordsOf v) × (notesOf w ≡ notesOf v)
 same-counts v w ep eb el en =
     let b : slotsOf w ≡ slotsOf v = ap (λ (k : ℕ). field 4 (slotCountAt k) w) ep ∙ eb in
-    let l : recordsOf w ≡ recordsOf v = ap (λ (k : ℕ). field 4 (recordCountAt k (slotsOf w)) w) ep ∙ ap (λ (k : ℕ). field 4 (recordCountAt (pagesOf v) k) w) b ∙ el in
+    let l : recordsOf w ≡ recordsOf v = ap (λ (k : ℕ). field 4 (recordCountAt k (slotsOf w)) w) ep
+    ∙ ap (λ (k : ℕ). field 4 (recordCountAt (pagesOf v) k) w) b ∙ el in
     let n : notesOf w ≡ notesOf v =
-    ap (λ (k : ℕ). field 4 (noteCountAt k (slotsOf w) (recordsOf w)) w) ep ∙ ap (λ (k : ℕ). field 4 (noteCountAt (pagesOf v) k (recordsOf w)) w) b
+    ap (λ (k : ℕ). field 4 (noteCountAt k (slotsOf w) (recordsOf w)) w) ep
+    ∙ ap (λ (k : ℕ). field 4 (noteCountAt (pagesOf v) k (recordsOf w)) w) b
     ∙ ap (λ (k : ℕ). field 4 (noteCountAt (pagesOf v) (slotsOf v) k) w) l ∙ en in
     (ep, b, l, n)
 
@@ -197,7 +201,8 @@ place-after g (slotAt i) h = omega arith
 place-after g (recordAt i) h = omega arith
 place-after g (noteAt i) h = omega arith
 
-clear-slots : (g : Geometry) (at : Place) → In g at → (slotCountAt (g .pages) + 4 ≤ start g at) ⊎ (start g at + width at ≤ slotCountAt (g .pages))
+clear-slots : (g : Geometry) (at : Place) → In g at → (slotCountAt (g .pages) + 4 ≤ start g at)
+    ⊎ (start g at + width at ≤ slotCountAt (g .pages))
 clear-slots g (pageAt i) h = inr (omega arith)
 clear-slots g (slotAt i) h = inl (omega arith)
 clear-slots g (recordAt i) h = inl (omega arith)
@@ -211,7 +216,8 @@ clear-records g (recordAt i) h = inl (omega arith)
 clear-records g (noteAt i) h = inl (omega arith)
 
 clear-notes : (g : Geometry) (at : Place) → In g at
-    → (noteCountAt (g .pages) (g .slots) (g .records) + 4 ≤ start g at) ⊎ (start g at + width at ≤ noteCountAt (g .pages) (g .slots) (g .records))
+    → (noteCountAt (g .pages) (g .slots) (g .records) + 4 ≤ start g at)
+    ⊎ (start g at + width at ≤ noteCountAt (g .pages) (g .slots) (g .records))
 clear-notes g (pageAt i) h = inr (omega arith)
 clear-notes g (slotAt i) h = inr (omega arith)
 clear-notes g (recordAt i) h = inr (omega arith)
@@ -235,7 +241,8 @@ module _ (v : List ℕ) (ok : validVolume v ≡ true) (at : Place) (xs : List �
   four-kept : part after 0 4 ≡ part v 0 4
   unfolding after store
   four-kept =
-      part-apart v (start (geometryOf v) at) xs 0 4 (width at) e (place-fits (geometryOf v) v size at h) (inl (omega (arith, place-after (geometryOf v) at h)))
+      part-apart v (start (geometryOf v) at) xs 0 4 (width at) e (place-fits (geometryOf v) v size at h)
+      (inl (omega (arith, place-after (geometryOf v) at h)))
 
   counts-kept : (pagesOf after ≡ pagesOf v) × (slotsOf after ≡ slotsOf v) × (recordsOf after ≡ recordsOf v) × (notesOf after ≡ notesOf v)
   unfolding geometryOf
@@ -265,7 +272,11 @@ module _ (v : List ℕ) (ok : validVolume v ≡ true) (at : Place) (xs : List �
   valid-store =
       let c = counts-kept in
       let f = valid-facts v ok in
-      let s : knownMagic after ≡ true = rw (starts-take (magic First) after v four-kept, starts-take (magic Second) after v four-kept, starts-take (magicOf carryTag) after v four-kept) (f .heading) in
+      let s : knownMagic after ≡ true = rw (
+        starts-take (magic First) after v four-kept,
+        starts-take (magic Second) after v four-kept,
+        starts-take (magicOf carryTag) after v four-kept,
+      ) (f .heading) in
       let n : length after ≡ length v = store-length (geometryOf v) v size at xs h e in
       let k : validCounts (pagesOf after) (slotsOf after) (recordsOf after) (notesOf after) ≡ true =
       same-four validCounts (c .0) (c .1) (c .2) (c .3) ∙ f .counts in

@@ -1,5 +1,5 @@
--- Carrying a volume over, on any volume, memory and state: each Restamp that is done leaves one image less, then comes Nothing, and only then
--- Finish; neither drops an image.
+-- Carrying a volume over, on any volume, memory and state: each Restamp that is done leaves one image less, then comes Nothing, and only
+-- then Finish; neither drops an image.
 use mathlib.Core.Path.{_≡_, refl, sym, _∙_, subst}
 use mathlib.Core.Logic.{_≢_, _↔_}
 use mathlib.Core.Bool.{Bool, true, false, cond, _&&_, _||_, not}
@@ -29,7 +29,8 @@ use Rattle.laws.proofs.Restamped.{isDone, not-done, isNothing, not-noth
 
 -- ---- progress
 
-lowers : (v m : List ℕ) (s : State) → restampOf v m s .answer ≡ Done → oldCount v s ≡ suc (oldCount (volumeAfter v (restampOf v m s .stored)) s)
+lowers : (v m : List ℕ) (s : State) → restampOf v m s .answer ≡ Done
+    → oldCount v s ≡ suc (oldCount (volumeAfter v (restampOf v m s .stored)) s)
 unfolding volumeAfter
 lowers v m s e =
     let d = done-rows v m s e in
@@ -47,7 +48,8 @@ nothing-left v m s h =
           (λ t. absurd (not-nothing _ (rw (a, t) refl) e))
           (λ t. count-none (oldAt (geometryOf v) v (s .index)) n (found-none v m s t)),
       λ z. byCases (ltb i n)
-          (λ t. absurd (let b = ltb-true i n t in let c = count-some (oldAt (geometryOf v) v (s .index)) n i b (found-old v m s b) in omega (arith, c)))
+          (λ t. absurd (let b = ltb-true i n t in
+          let c = count-some (oldAt (geometryOf v) v (s .index)) n i b (found-old v m s b) in omega (arith, c)))
           (λ t. rw (a, t)),
     )
 
@@ -58,7 +60,8 @@ some-left v m s h ne =
     (λ t. rw (a, t))
     (λ t. absurd (ne (count-none (oldAt (geometryOf v) v (s .index)) (imageCount (geometryOf v)) (found-none v m s t))))
 
-ends : (k : ℕ) (v m : List ℕ) (s : State) → oldCount v s ≡ k → firstOf (restampRows v m s) ≡ 0 → AllDone k v m s × (restampOf (restamps k v m s) m s .answer ≡ Nothing)
+ends : (k : ℕ) (v m : List ℕ) (s : State) → oldCount v s ≡ k → firstOf (restampRows v m s) ≡ 0
+    → AllDone k v m s × (restampOf (restamps k v m s) m s .answer ≡ Nothing)
 unfolding AllDone restamps volumeAfter
 ends zero v m s e h = (tt, nothing-left v m s h .1 e)
 ends (suc k) v m s e h =
@@ -67,14 +70,16 @@ ends (suc k) v m s e h =
     let o = opened v m s h in
     let b = ltb-true (firstOld (geometryOf v) v (s .index)) (imageCount (geometryOf v)) (d .1) in
     let l : oldCount (volumeAfter v (restampOf v m s .stored)) s ≡ k = let q = lowers v m s dn in omega arith in
-    let r : firstOf (restampRows (volumeAfter v (restampOf v m s .stored)) m s) ≡ 0 = rw (stored-is v m s h (d .1), rows-again v m s o b) h in
+    let r : firstOf (restampRows (volumeAfter v (restampOf v m s .stored)) m s) ≡ 0 =
+    rw (stored-is v m s h (d .1), rows-again v m s o b) h in
     let x = ends k (volumeAfter v (restampOf v m s .stored)) m s l r in
     ((dn, x .0), x .1)
 
 -- 20 and Done, by the tests of the rows
 twenty : (a b c d t : Bool)
     → (firstOf ((a, 1) ∷ (b, 1) ∷ (c, 2) ∷ (d, 2) ∷ (t, 20) ∷ []) ≡ 20)
-    ↔ (cond (eqb (firstOf ((a, 1) ∷ (b, 1) ∷ (c, 2) ∷ (d, 2) ∷ [])) 0) (cond t Done Nothing) (Refused (firstOf ((a, 1) ∷ (b, 1) ∷ (c, 2) ∷ (d, 2) ∷ []))) ≡ Done)
+    ↔ (cond (eqb (firstOf ((a, 1) ∷ (b, 1) ∷ (c, 2) ∷ (d, 2) ∷ [])) 0) (cond t Done Nothing)
+    (Refused (firstOf ((a, 1) ∷ (b, 1) ∷ (c, 2) ∷ (d, 2) ∷ []))) ≡ Done)
 unfolding isDone
 twenty true b c d t = (λ e. absurd (eqb-false 1 20 refl e), λ e. absurd (not-done _ refl e))
 twenty false true c d t = (λ e. absurd (eqb-false 1 20 refl e), λ e. absurd (not-done _ refl e))
@@ -84,7 +89,8 @@ twenty false false false false true = (λ e. refl, λ e. refl)
 twenty false false false false false = (λ e. absurd (eqb-false 0 20 refl e), λ e. absurd (not-done _ refl e))
 
 restamp-answer : (v m : List ℕ) (s : State) → restampOf v m s .answer
-    ≡ cond (eqb (firstOf (restampRows v m s)) 0) (cond (oldLeft (geometryOf v) v (s .index)) Done Nothing) (Refused (firstOf (restampRows v m s)))
+    ≡ cond (eqb (firstOf (restampRows v m s)) 0) (cond (oldLeft (geometryOf v) v (s .index)) Done Nothing)
+    (Refused (firstOf (restampRows v m s)))
 unfolding restampOf
 restamp-answer v m s = rw (left-found v m s) (byCases (eqb (firstOf (restampRows v m s)) 0)
     (λ t. rw t (byCases (ltb (firstOld (geometryOf v) v (s .index)) (imageCount (geometryOf v))) (λ u. rw u) (λ u. rw u)))
@@ -98,7 +104,8 @@ finish-left : (v m : List ℕ) (s : State) → (refusalOf (finishCarryOf v m s .
 unfolding finishCarryRows restampRows
 finish-left v m s =
     rw (finish-refusal v m s, restamp-answer v m s)
-    (twenty (not (headed carryTag v)) (not (validVolume v)) (not (validMemory (length m))) (not (wellFormed (geometryOf v) (frameCount (length m)) s)) (oldLeft (geometryOf v) v (s .index)))
+    (twenty (not (headed carryTag v)) (not (validVolume v)) (not (validMemory (length m)))
+    (not (wellFormed (geometryOf v) (frameCount (length m)) s)) (oldLeft (geometryOf v) v (s .index)))
 
 pub progress : Progress
 progress =
@@ -144,9 +151,15 @@ finish-drops v m s z at i =
     let same : item (byBytes g) (volumeAfter v (newHeading (tagOf Second))) at ≡ x =
     item-tag g (tagOf Second) (volumeAfter v (newHeading (tagOf Second))) at ∙ item-heading v (f .volume) (tagOf Second) g at (q .0) in
     let no : (wordsHold x && (not (bytesHold x) && placed (g .pages) (s .index) at x)) ≡ false =
-    sym (only-old g (s .index) at x i) ∙ subst (λ (p : Place). onlyOld g (s .index) p (item g v p) ≡ false) (k .place-is) (f .none (k .number) (k .below)) in
+    sym (only-old g (s .index) at x i)
+    ∙ subst (λ (p : Place). onlyOld g (s .index) p (item g v p) ≡ false) (k .place-is) (f .none (k .number) (k .below)) in
     rw (f .stored, geometry-heading v (f .volume) (tagOf Second), same)
-    (rw (passes-split (byBytes g) (s .index) at x (tagged at i), passes-split g (s .index) at x i, sealed-bytes g x, sealed-either g x (f .tag))
+    (rw (
+      passes-split (byBytes g) (s .index) at x (tagged at i),
+      passes-split g (s .index) at x i,
+      sealed-bytes g x,
+      sealed-either g x (f .tag),
+    )
     (both (wordsHold x) (bytesHold x) (placed (g .pages) (s .index) at x) no))
   where
     both : (w b c : Bool) → (w && (not b && c)) ≡ false → (b && c) ≡ ((w || b) && c)
@@ -162,7 +175,8 @@ finish-drops v m s z at i =
 
 pub restamp-refusal : (v m : List ℕ) (s : State) → refusalOf (restampOf v m s .answer) ≡ firstOf (restampRows v m s)
 unfolding restampOf
-restamp-refusal v m s = number-is (restampRows v m s) m s _ (byCases (ltb (firstOld (geometryOf v) v (s .index)) (imageCount (geometryOf v))) (λ t. rw t) (λ t. rw t))
+restamp-refusal v m s = number-is (restampRows v m s) m s _
+    (byCases (ltb (firstOld (geometryOf v) v (s .index)) (imageCount (geometryOf v))) (λ t. rw t) (λ t. rw t))
 
 restamp-drops : (v m : List ℕ) (s : State) → refusalOf (restampOf v m s .answer) ≡ 0 → (at : Place) → isImage (geometryOf v) at ≡ true
     → (passesOn (volumeAfter v (restampOf v m s .stored)) s at ≡ passesOn v s at)
@@ -175,7 +189,8 @@ restamp-drops v m s z at i =
     (λ t.
     let o = opened v m s h in
     let b = ltb-true (firstOld (geometryOf v) v (s .index)) (imageCount (geometryOf v)) t in
-    rw (stored-is v m s h t, same-geometry v m s o b, ← (k .place-is)) (after-passes v m s o b (k .number) (k .below), after-front v m s o b (k .number) (k .below)))
+    rw (stored-is v m s h t, same-geometry v m s o b, ← (k .place-is))
+    (after-passes v m s o b (k .number) (k .below), after-front v m s o b (k .number) (k .below)))
     (λ t. rw (stored-none v m s h t) (refl, refl))
 
 pub drops-none : DropsNone

@@ -54,7 +54,8 @@ not-nothing a f e = true-not-false (ap isNothing e) f
 -- ---- the places of images, by number
 
 -- places of different numbers start differently
-pub images-apart : (g : Geometry) (i j : ℕ) → i < imageCount g → j < imageCount g → i ≢ j → start g (imagePlace g i) ≢ start g (imagePlace g j)
+pub images-apart : (g : Geometry) (i j : ℕ) → i < imageCount g → j < imageCount g → i ≢ j
+    → start g (imagePlace g i) ≢ start g (imagePlace g j)
 images-apart g i j a b ne = elim (decLt i (g .pages)) [
   | yes y ↦ rw (lt-ltb i (g .pages) y) (elim (decLt j (g .pages)) [
     | yes z ↦ rw (lt-ltb j (g .pages) z) (λ e. ne (omega arith))
@@ -84,7 +85,8 @@ image-number g (pageAt p) i =
 image-number g (slotAt b) i =
     let w = within-bounds (g .slots) b i in
     let n : ltb (g .pages + (b - 1)) (g .pages) ≡ false =
-    byCases (ltb (g .pages + (b - 1)) (g .pages)) (λ t. absurd (let l : g .pages + (b - 1) < g .pages = ltb-true (g .pages + (b - 1)) (g .pages) t in omega arith)) (λ t. t) in
+    byCases (ltb (g .pages + (b - 1)) (g .pages))
+    (λ t. absurd (let l : g .pages + (b - 1) < g .pages = ltb-true (g .pages + (b - 1)) (g .pages) t in omega arith)) (λ t. t) in
     let s : suc (g .pages + (b - 1) - g .pages) ≡ b = omega arith in
     record { number = g .pages + (b - 1); below = omega arith; place-is = rw (n, s) refl }
 image-number g (recordAt n) i = absurd (true-not-false i refl)
@@ -129,7 +131,8 @@ module _ (v m : List ℕ) (s : State) where
   unfolding firstOld
   found-none t i b =
       let r = first-from (oldAt g v (s .index)) (imageCount g) 0 in
-      r .before i (omega arith) (elim (decLt first (imageCount g)) [ yes y ↦ absurd (true-not-false (lt-ltb first (imageCount g) y) t) | no z ↦ omega arith ])
+      r .before i (omega arith)
+      (elim (decLt first (imageCount g)) [ yes y ↦ absurd (true-not-false (lt-ltb first (imageCount g) y) t) | no z ↦ omega arith ])
 
   -- by answer
   pub answer-found : firstOf (restampRows v m s) ≡ 0 → restampOf v m s .answer ≡ cond (ltb first (imageCount g)) Done Nothing
@@ -184,21 +187,24 @@ module _ (v m : List ℕ) (s : State) where
 
     pub read-other : (j : ℕ) → j < imageCount g → j ≢ first → item g after (imagePlace g j) ≡ item g v (imagePlace g j)
     read-other j l ne =
-        item-store-other g v (valid-facts v (o .volume) .size) at stamped in-place new-size (imagePlace g j) (image-place g (imagePlace g j) (image-in g j l) .0) (images-apart g j first l b ne)
+        item-store-other g v (valid-facts v (o .volume) .size) at stamped in-place new-size (imagePlace g j)
+        (image-place g (imagePlace g j) (image-in g j l) .0) (images-apart g j first l b ne)
 
     -- the image was one for its place, by words and not by bytes
     was-old : (wordsHold (item g v at) && (not (bytesHold (item g v at)) && placed (g .pages) (s .index) at (item g v at))) ≡ true
     was-old = sym (only-old g (s .index) at (item g v at) here) ∙ found-old b
 
     now-new : oldAt g after (s .index) first ≡ false
-    now-new = ap (onlyOld g (s .index) at) read-new ∙ (only-old g (s .index) at stamped here ∙ rw (restamp-bytes g (item g v at) old-size not-first) (never (wordsHold stamped)))
+    now-new = ap (onlyOld g (s .index) at) read-new
+        ∙ (only-old g (s .index) at stamped here ∙ rw (restamp-bytes g (item g v at) old-size not-first) (never (wordsHold stamped)))
       where
         never : (w : Bool) → (w && false) ≡ false
         never true = refl
         never false = refl
 
     pub one-less : countOf (imageCount g) (oldAt g v (s .index)) ≡ suc (countOf (imageCount g) (oldAt g after (s .index)))
-    one-less = count-less (oldAt g v (s .index)) (oldAt g after (s .index)) (imageCount g) first b (found-old b) now-new (λ i l ne. ap (onlyOld g (s .index) (imagePlace g i)) (sym (read-other i l ne)))
+    one-less = count-less (oldAt g v (s .index)) (oldAt g after (s .index)) (imageCount g) first b (found-old b) now-new
+        (λ i l ne. ap (onlyOld g (s .index) (imagePlace g i)) (sym (read-other i l ne)))
 
     -- it passes as it did
     stays-passing : passesAt g (s .index) at stamped ≡ passesAt g (s .index) at (item g v at)
@@ -210,14 +216,16 @@ module _ (v m : List ℕ) (s : State) where
           sealed-either g (item g v at) (o .tag),
           restamp-bytes g (item g v at) old-size not-first,
           restamp-placed g (item g v at) old-size not-first (g .pages) (s .index) at,
-        ) (both (wordsHold stamped) (wordsHold (item g v at)) (bytesHold (item g v at)) (placed (g .pages) (s .index) at (item g v at)) was-old)
+        ) (both (wordsHold stamped) (wordsHold (item g v at)) (bytesHold (item g v at))
+        (placed (g .pages) (s .index) at (item g v at)) was-old)
       where
         both : (w a b c : Bool) → (a && (not b && c)) ≡ true → ((w || true) && c) ≡ ((a || b) && c)
         both true true b c h = refl
         both false true b c h = refl
         both w false b c h = absurd (true-not-false h refl)
 
-    pub after-passes : (j : ℕ) → j < imageCount g → passesAt g (s .index) (imagePlace g j) (item g after (imagePlace g j)) ≡ passesAt g (s .index) (imagePlace g j) (item g v (imagePlace g j))
+    pub after-passes : (j : ℕ) → j < imageCount g → passesAt g (s .index) (imagePlace g j) (item g after (imagePlace g j))
+        ≡ passesAt g (s .index) (imagePlace g j) (item g v (imagePlace g j))
     after-passes j l = elim (ℕ-discrete j first) [
       | yes e ↦ rw e (ap (passesAt g (s .index) at) read-new ∙ stays-passing)
       | no ne ↦ ap (passesAt g (s .index) (imagePlace g j)) (read-other j l ne)
@@ -229,9 +237,11 @@ module _ (v m : List ℕ) (s : State) where
       | no ne ↦ ap (take 252) (read-other j l ne)
     ]
 
-  pub rows-again : (o : Open) (b : firstOld (geometryOf v) v (s .index) < imageCount (geometryOf v)) → restampRows (after o b) m s ≡ restampRows v m s
+  pub rows-again : (o : Open) (b : firstOld (geometryOf v) v (s .index) < imageCount (geometryOf v))
+      → restampRows (after o b) m s ≡ restampRows v m s
   unfolding restampRows
   rows-again o b =
       let gw = same-geometry o b in
-      let hw : headed carryTag (after o b) ≡ true = tag-headed carryTag (after o b) (still-valid o b) (ap (λ (x : Geometry). x .tag) gw ∙ o .tag) in
+      let hw : headed carryTag (after o b) ≡ true =
+      tag-headed carryTag (after o b) (still-valid o b) (ap (λ (x : Geometry). x .tag) gw ∙ o .tag) in
       rw (hw, still-valid o b, gw, tag-headed carryTag v (o .volume) (o .tag), o .volume)

@@ -64,7 +64,12 @@ seat L s b zero = record { place = s; below = omega arith; near = omega arith; s
 seat L s b (suc d) =
     let o = seat L s b d in
     elim (decLt (o .place + L) (L + suc d)) [
-      | yes y ↦ record { place = o .place + L; below = omega (arith, o .below, o .near); near = omega (arith, o .near); slot-of = slot-again L (o .place) ∙ o .slot-of }
+      | yes y ↦ record {
+        place = o .place + L;
+        below = omega (arith, o .below, o .near);
+        near = omega (arith, o .near);
+        slot-of = slot-again L (o .place) ∙ o .slot-of;
+      }
       | no z ↦ record { place = o .place; below = omega (arith, o .below); near = omega arith; slot-of = o .slot-of }
     ]
 
@@ -89,7 +94,8 @@ module _ (ring : Bool) (L n : ℕ) (W T S W′ T′ S′ : ℕ → Type 0) (up :
   run-keep w t =
       record {
         held = λ i a b. w i a (omega arith) (r .held i a b);
-        oldest = λ i b e. ⊎-elim (λ h. inl (w i b (omega arith) h)) (λ h. inr (h .0, t i b (omega arith) (h .1), up i b (h .2))) (r .oldest i b e);
+        oldest = λ i b e. ⊎-elim (λ h. inl (w i b (omega arith) h))
+            (λ h. inr (h .0, t i b (omega arith) (h .1), up i b (h .2))) (r .oldest i b e);
         lost = λ i a. up i (omega arith) (r .lost i a);
       }
 
@@ -106,7 +112,8 @@ module _ (ring : Bool) (L n : ℕ) (W T S W′ T′ S′ : ℕ → Type 0) (up :
       kept i a b = elim (decLt i n) [ yes y ↦ w i y b (r .held i y b) | no z ↦ let e : i ≡ n = omega arith in rw e here ]
 
   -- the next item's slot is left torn
-  pub run-torn : ((i : ℕ) → i < n → n < i + L → W i → W′ i) → ((i : ℕ) → i < n → n ≡ i + L → (ring ≡ true) × T′ i) → ((i : ℕ) → i < n → n ≡ i + L → S′ i) → Run ring L n W′ T′ S′
+  pub run-torn : ((i : ℕ) → i < n → n < i + L → W i → W′ i) → ((i : ℕ) → i < n → n ≡ i + L → (ring ≡ true) × T′ i)
+      → ((i : ℕ) → i < n → n ≡ i + L → S′ i) → Run ring L n W′ T′ S′
   run-torn w torn spare =
       record {
         held = λ i a b. w i a b (r .held i a b);
@@ -205,7 +212,8 @@ run-start ring whole L n W T S low r room is-whole is-torn = byCases ring in-rin
     in-ring e = elim (ℕ-discrete n 0) [
       | yes z ↦ byCases whole (λ t. (n - L, rw (e, t) refl, none (n - L) z)) (λ t. (suc (n - L), rw (e, t) refl, none (suc (n - L)) z))
       | no nz ↦ elim (decLt n L) [
-        | yes y ↦ let lo : 1 ≤ L = low (omega arith) in let w : W (n - L) = r .held (n - L) (omega arith) (omega arith) in (n - L, rw (e, is-whole (omega arith) w) refl, at-whole (λ a. w) (omega arith))
+        | yes y ↦ let lo : 1 ≤ L = low (omega arith) in let w : W (n - L) = r .held (n - L) (omega arith) (omega arith) in
+            (n - L, rw (e, is-whole (omega arith) w) refl, at-whole (λ a. w) (omega arith))
         | no z ↦ let lo : 1 ≤ L = low (omega arith) in ⊎-elim
             (λ w. (n - L, rw (e, is-whole (omega arith) w) refl, at-whole (λ a. w) (omega arith)))
             (λ h. (
@@ -213,7 +221,8 @@ run-start ring whole L n W T S low r room is-whole is-torn = byCases ring in-rin
               rw (e, is-torn (omega arith) (h .1)) refl,
               record {
                 held = λ i a b. r .held i a (omega arith);
-                lost = λ i a b. elim (ℕ-discrete n (i + L)) [ yes q ↦ let u : n - L ≡ i = omega arith in rw u at (h .2) | no q ↦ r .lost i (omega arith) ];
+                lost = λ i a b. elim
+                    (ℕ-discrete n (i + L)) [ yes q ↦ let u : n - L ≡ i = omega arith in rw u at (h .2) | no q ↦ r .lost i (omega arith) ];
                 near = omega arith;
                 inside = λ a. omega arith;
                 ends = inl (omega arith);
@@ -225,7 +234,8 @@ run-start ring whole L n W T S low r room is-whole is-torn = byCases ring in-rin
 
 -- ---- the highest number
 
-pub highest-le : (c : ℕ) (slot : ℕ → List ℕ) (m n : ℕ) → ((s : ℕ) → s < n → sealed c (slot (suc s)) ≡ true → field 4 0 (slot (suc s)) ≤ m) → highest c slot n ≤ m
+pub highest-le : (c : ℕ) (slot : ℕ → List ℕ) (m n : ℕ)
+    → ((s : ℕ) → s < n → sealed c (slot (suc s)) ≡ true → field 4 0 (slot (suc s)) ≤ m) → highest c slot n ≤ m
 unfolding highest
 highest-le c slot m zero h = omega arith
 highest-le c slot m (suc n) h =
@@ -243,7 +253,8 @@ larger-left a b = byCases (leb a b) (λ t. rw t (leb-true a b t)) (λ t. rw t (o
 larger-right : (a b : ℕ) → b ≤ larger a b
 larger-right a b = byCases (leb a b) (λ t. rw t (omega arith)) (λ t. rw t (let l : b < a = leb-false a b t in omega arith))
 
-pub highest-ge : (c : ℕ) (slot : ℕ → List ℕ) (n s : ℕ) → s < n → sealed c (slot (suc s)) ≡ true → field 4 0 (slot (suc s)) ≤ highest c slot n
+pub highest-ge : (c : ℕ) (slot : ℕ → List ℕ) (n s : ℕ) → s < n → sealed c (slot (suc s)) ≡ true
+    → field 4 0 (slot (suc s)) ≤ highest c slot n
 unfolding highest
 highest-ge c slot zero s b t = absurd (omega arith)
 highest-ge c slot (suc n) s b t = elim (ℕ-discrete s n) [
@@ -254,7 +265,8 @@ highest-ge c slot (suc n) s b t = elim (ℕ-discrete s n) [
 ]
 
 -- the highest number looks at the slots alone
-pub highest-same : (c : ℕ) (slot slot′ : ℕ → List ℕ) (n : ℕ) → ((i : ℕ) → i < n → slot (suc i) ≡ slot′ (suc i)) → highest c slot n ≡ highest c slot′ n
+pub highest-same : (c : ℕ) (slot slot′ : ℕ → List ℕ) (n : ℕ) → ((i : ℕ) → i < n → slot (suc i) ≡ slot′ (suc i))
+    → highest c slot n ≡ highest c slot′ n
 unfolding highest
 highest-same c slot slot′ zero h = refl
 highest-same c slot slot′ (suc n) h = rw (h n (omega arith), highest-same c slot slot′ n (λ i b. h i (omega arith)))

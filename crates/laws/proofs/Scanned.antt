@@ -1,5 +1,5 @@
--- What a log that restarts holds, on any bytes: each record of the run as the restart rule has it, a page's records, and what the index says of
--- them.
+-- What a log that restarts holds, on any bytes: each record of the run as the restart rule has it, a page's records, and what the index
+-- says of them.
 use mathlib.Core.Path.{_≡_, refl, sym, ap, _∙_}
 use mathlib.Core.Logic.{_≢_, _⊎_, inl, inr, ⊎-elim}
 use mathlib.Core.Bool.{Bool, true, false, cond, _&&_, _||_}
@@ -38,8 +38,8 @@ fit : (g : Geometry) (v : List ℕ) (f i : ℕ) → recordFits g v f (logIndex g
 unfolding recordFits
 fit g v f i h =
     let e = logRecord g v (f + i) in
-    let tests = sealed 60 (item g v (logSlot g (f + i))) ∷ recordLayout (item g v (logSlot g (f + i))) ∷ eqb (e .lsn) (f + i) ∷ within (g .pages) (e .page)
-    ∷ linked f (entryOf (logIndex g v f i) (e .page) .last) e ∷ [] in
+    let tests = sealed 60 (item g v (logSlot g (f + i))) ∷ recordLayout (item g v (logSlot g (f + i))) ∷ eqb (e .lsn) (f + i)
+    ∷ within (g .pages) (e .page) ∷ linked f (entryOf (logIndex g v f i) (e .page) .last) e ∷ [] in
     let w = within-bounds (g .pages) (e .page) (all-at tests 3 h) in
     record {
       sealed-is = all-at tests 0 h;
@@ -58,7 +58,8 @@ log-fits g v h i b =
     let n = durableCount g v in
     let f = firstHeld g v n in
     let t : every (suc n - f) (λ i. recordFits g v f (logIndex g v f i) (f + i)) ≡ true =
-    and-left _ (endsAt (g .records) n f (sealed 60 (item g v (recordAt (suc n)))) && restZero 64 (g .records) v (start g (recordAt 1)) n) h in
+    and-left _ (endsAt (g .records) n f (sealed 60 (item g v (recordAt (suc n))))
+    && restZero 64 (g .records) v (start g (recordAt 1)) n) h in
     fit g v f i (every-at (λ i. recordFits g v f (logIndex g v f i) (f + i)) (suc n - f) t i b)
 
 -- ---- a page's records, the newest first
@@ -104,7 +105,12 @@ module _ (g : Geometry) (v : List ℕ) (f : ℕ) (some : 1 ≤ f) (few : g .page
             let t : eqb q p ≡ true = eq-eqb q p (sym y) in
             let s = k .unmarked in
             rw (← y, getD-set-same (logIndex g v f c) (p - 1) _ emptyEntry r)
-            (record { last-is = sym (ap firstLsn (when-true (item g v (logSlot g (f + c)) ∷ down g v p f c) (down g v p f c) t) ∙ fi .lsn-is); same = refl; high = omega arith; unmarked = s })
+            (record {
+              last-is = sym (ap firstLsn (when-true (item g v (logSlot g (f + c)) ∷ down g v p f c) (down g v p f c) t) ∙ fi .lsn-is);
+              same = refl;
+              high = omega arith;
+              unmarked = s;
+            })
         | no z ↦
             let ne : p - 1 ≢ q - 1 = λ e. z (omega (arith, fi .low)) in
             let t : eqb q p ≡ false = ne-eqb q p (λ e. z (sym e)) in
@@ -153,7 +159,8 @@ module _ (g : Geometry) (v : List ℕ) (here : gone g v ≡ false) where
       let n = durableCount g v in
       let s = sealed 60 (item g v (logSlot g (suc (n - g .records)))) in
       let e : cond s (suc (n - g .records)) (suc (suc (n - g .records))) ≡ 1 = rw t at (whole-start a) in
-      byCases s (λ u. let q : suc (n - g .records) ≡ 1 = rw u at e in omega arith) (λ u. let q : suc (suc (n - g .records)) ≡ 1 = rw u at e in absurd (omega arith))
+      byCases s (λ u. let q : suc (n - g .records) ≡ 1 = rw u at e in omega arith)
+      (λ u. let q : suc (suc (n - g .records)) ≡ 1 = rw u at e in absurd (omega arith))
 
   plain-few : ring g ≡ false → durableCount g v ≤ g .records
   unfolding durableCount

@@ -1,5 +1,5 @@
--- What the scan reads: volumes of one geometry that agree from the log on are scanned alike, whatever images stand before it. So of an image
--- the forecast sees what it is valid as and its number alone.
+-- What the scan reads: volumes of one geometry that agree from the log on are scanned alike, whatever images stand before it. So of an
+-- image the forecast sees what it is valid as and its number alone.
 use mathlib.Core.Path.{_≡_, refl, sym, ap, _∙_}
 use mathlib.Core.Logic.{_⊎_, inl, inr}
 use mathlib.Core.Bool.{Bool, true, false, cond, not, _&&_}
@@ -102,7 +102,11 @@ module _ (g : Geometry) (v w : List ℕ) (e : drop (start g (recordAt 1)) w ≡ 
   first-same n = rw (note-same (suc ((suc (n - g .notes) - 1) % g .notes)))
 
   run-index-same : runIndex g w ≡ runIndex g v
-  run-index-same = rw (count-same, held-same (durableCount g v), index-same (firstHeld g v (durableCount g v)) (suc (durableCount g v) - firstHeld g v (durableCount g v)))
+  run-index-same = rw (
+    count-same,
+    held-same (durableCount g v),
+    index-same (firstHeld g v (durableCount g v)) (suc (durableCount g v) - firstHeld g v (durableCount g v)),
+  )
 
   note-index-same : (f c : ℕ) → noteIndex g w f c ≡ noteIndex g v f c
   unfolding noteIndex
@@ -116,7 +120,11 @@ module _ (g : Geometry) (v w : List ℕ) (e : drop (start g (recordAt 1)) w ≡ 
       rw (note-same (suc ((n - 1) % g .notes)), count-same, held-same (durableCount g v), record-same (suc ((x - 1) % g .records)))
 
   pub index-of-same : indexOf g w ≡ indexOf g v
-  index-of-same = rw (notes-same, first-same (noteCount g v), note-index-same (firstNote g v (noteCount g v)) (suc (noteCount g v) - firstNote g v (noteCount g v)))
+  index-of-same = rw (
+    notes-same,
+    first-same (noteCount g v),
+    note-index-same (firstNote g v (noteCount g v)) (suc (noteCount g v) - firstNote g v (noteCount g v)),
+  )
 
   pub valid-notes-same : validNotes g w ≡ validNotes g v
   unfolding validNotes
@@ -166,7 +174,8 @@ module _ (v w : List ℕ) (same : geometryOf w ≡ geometryOf v) (ok : validVolu
   rows-same : firstOf (scanRows w) ≡ firstOf (scanRows v)
   rows-same = rw (same, ok, ok′, log-same (geometryOf v) v w e, valid-notes-same (geometryOf v) v w e)
 
-  module _ (own : (p : ℕ) → 1 ≤ p → p ≤ geometryOf v .pages → ownStart (geometryOf w) p (pageView w p) ≡ ownStart (geometryOf v) p (pageView v p))
+  module _ (own : (p : ℕ) → 1 ≤ p → p ≤ geometryOf v .pages
+      → ownStart (geometryOf w) p (pageView w p) ≡ ownStart (geometryOf v) p (pageView v p))
       (back : (p : ℕ) → backupStart (geometryOf w) p (pageView w p) ≡ backupStart (geometryOf v) p (pageView v p)) where
     figure-at : ℕ → Walk → ℕ → Figure
     figure-at pages k i = cond (ltb i pages) (figureOf k) (counted 0)
@@ -177,7 +186,8 @@ module _ (v w : List ℕ) (same : geometryOf w ≡ geometryOf v) (ok : validVolu
         ap (λ (q : ℕ). figure-at q (walkOf (geometryOf w) (suc i) (pageView w (suc i))) i) (ap (λ (x : Geometry). x .pages) same)
         ∙ byCases (ltb i (geometryOf v .pages))
         (λ t. let l : i < geometryOf v .pages = ltb-true i (geometryOf v .pages) t in
-        ap (λ (k : Walk). figure-at (geometryOf v .pages) k i) (walk-alike (suc i) (own (suc i) (omega arith) (omega arith)) (back (suc i))))
+        ap (λ (k : Walk). figure-at (geometryOf v .pages) k i)
+        (walk-alike (suc i) (own (suc i) (omega arith) (omega arith)) (back (suc i))))
         (λ t. rw t)
 
     at-same : _≡_ {A = ℕ → Figure} (λ i. forecastAt w i) (λ i. forecastAt v i)
@@ -220,7 +230,8 @@ module _ (v x : List ℕ) (ok : validVolume v ≡ true) (size : length x ≡ 256
 
   tail : drop (start g (recordAt 1)) w ≡ drop (start g (recordAt 1)) v
   unfolding store
-  tail = drop-from (start g at + length x) (start g (recordAt 1)) (splice v (start g at) x) v (omega (arith, l, size)) (drop-past v (start g at) x (omega (arith, fits, size)))
+  tail = drop-from (start g at + length x) (start g (recordAt 1)) (splice v (start g at) x) v (omega (arith, l, size))
+      (drop-past v (start g at) x (omega (arith, fits, size)))
 
   -- the image there is judged as it was; one that lies apart is the same
   stored : item g w at ≡ x
@@ -239,16 +250,19 @@ module _ (v x : List ℕ) (ok : validVolume v ≡ true) (size : length x ≡ 256
       → ownStart (geometryOf w) p (pageView w p) ≡ ownStart g p (pageView v p)
   own-start p d = let r = judged p (pageAt p) refl d in rw same (own-alike g p (item g w (pageAt p)) (item g v (pageAt p)) (r .0) (r .1))
 
-  back-start : (p : ℕ) → let s = entryOf (indexOf g v) p .slot in (s ≡ 0) ⊎ ((slotAt s ≡ at) ⊎ ((start g (slotAt s) + 256 ≤ start g at) ⊎ (start g at + 256 ≤ start g (slotAt s))))
+  back-start : (p : ℕ) → let s = entryOf (indexOf g v) p .slot in
+      (s ≡ 0) ⊎ ((slotAt s ≡ at) ⊎ ((start g (slotAt s) + 256 ≤ start g at) ⊎ (start g at + 256 ≤ start g (slotAt s))))
       → backupStart (geometryOf w) p (pageView w p) ≡ backupStart g p (pageView v p)
   back-start p (inl z) =
       let q = entry-same v w same ok ok′ tail p in
-      rw (q, z) (cond-zero (validImage (geometryOf w) p (item (geometryOf w) w (slotAt 0)) && eqb (imageLsn (item (geometryOf w) w (slotAt 0))) 0)
+      rw (q, z) (cond-zero
+      (validImage (geometryOf w) p (item (geometryOf w) w (slotAt 0)) && eqb (imageLsn (item (geometryOf w) w (slotAt 0))) 0)
       ∙ sym (cond-zero (validImage g p (item g v (slotAt 0)) && eqb (imageLsn (item g v (slotAt 0))) 0)))
   back-start p (inr d) =
       let en = entryOf (indexOf g v) p in
       let r = judged p (slotAt (en .slot)) refl d in
-      rw (entry-same v w same ok ok′ tail p, same) (back-alike g p (cond (eqb (en .slot) 0) 0 (en .backup)) (item g w (slotAt (en .slot))) (item g v (slotAt (en .slot))) (r .0) (r .1))
+      rw (entry-same v w same ok ok′ tail p, same) (back-alike g p (cond (eqb (en .slot) 0) 0 (en .backup)) (item g w (slotAt (en .slot)))
+      (item g v (slotAt (en .slot))) (r .0) (r .1))
 
 pub page-judged : (v x : List ℕ) (p : ℕ) → validVolume v ≡ true → within (geometryOf v .pages) p ≡ true → length x ≡ 256
     → JudgedAlike v x (item (geometryOf v) v (pageAt p)) → forecastOf (store (geometryOf v) v (pageAt p) x) ≡ forecastOf v
@@ -256,7 +270,8 @@ page-judged v x p ok t size j =
     let g = geometryOf v in
     let b = within-bounds (g .pages) p t in
     let l : start g (pageAt p) + 256 ≤ start g (recordAt 1) = omega (arith, b .1) in
-    forecast-same v (store g v (pageAt p) x) (same v x ok size (pageAt p) refl b l j) ok (ok′ v x ok size (pageAt p) refl b l j) (tail v x ok size (pageAt p) refl b l j)
+    forecast-same v (store g v (pageAt p) x) (same v x ok size (pageAt p) refl b l j) ok (ok′ v x ok size (pageAt p) refl b l j)
+    (tail v x ok size (pageAt p) refl b l j)
     (λ q lo hi. own-start v x ok size (pageAt p) refl b l j q (elim (ℕ-discrete q p) [
       | yes e ↦ inl (ap pageAt e)
       | no ne ↦ inr (elim (decLt q p) [ yes y ↦ inl (omega arith) | no z ↦ inr (omega arith) ])
@@ -269,7 +284,8 @@ slot-judged v x b ok t size j =
     let g = geometryOf v in
     let k = within-bounds (g .slots) b t in
     let l : start g (slotAt b) + 256 ≤ start g (recordAt 1) = omega (arith, k .0, k .1) in
-    forecast-same v (store g v (slotAt b) x) (same v x ok size (slotAt b) refl k l j) ok (ok′ v x ok size (slotAt b) refl k l j) (tail v x ok size (slotAt b) refl k l j)
+    forecast-same v (store g v (slotAt b) x) (same v x ok size (slotAt b) refl k l j) ok (ok′ v x ok size (slotAt b) refl k l j)
+    (tail v x ok size (slotAt b) refl k l j)
     (λ q lo hi. own-start v x ok size (slotAt b) refl k l j q (inr (inl (omega (arith, lo, hi, k .0)))))
     (λ q.
     let s = entryOf (indexOf g v) q .slot in

@@ -23,7 +23,8 @@ pub record First (p : ℕ → Bool) (n i k : ℕ) : Type 0 where
 
 pub first-from : (p : ℕ → Bool) (n i : ℕ) → First p n i (firstFrom n p i)
 unfolding firstFrom
-first-from p zero i = record { low = omega arith; high = omega arith; before = λ j a b. absurd (omega arith); hit = λ h. absurd (omega arith) }
+first-from p zero i =
+    record { low = omega arith; high = omega arith; before = λ j a b. absurd (omega arith); hit = λ h. absurd (omega arith) }
 first-from p (suc n) i = byCases (p i)
     (λ t. rw t (record { low = omega arith; high = omega arith; before = λ j a b. absurd (omega arith); hit = λ h. t }))
     (λ t. rw t (let r = first-from p n (suc i) in record {
@@ -49,8 +50,10 @@ found-some p n =
           let f : not (p (firstFrom n p 0)) ≡ false = rw t in
           rw (every-fails (λ i. not (p i)) n (firstFrom n p 0) y f, lt-ltb (firstFrom n p 0) n y)
       | no z ↦
-          let e : every n (λ i. not (p i)) ≡ true = every-all (λ i. not (p i)) n (λ i l. rw (r .before i (omega arith) (omega (arith, z)))) in
-          let q : ltb (firstFrom n p 0) n ≡ false = byCases (ltb (firstFrom n p 0) n) (λ t. absurd (z (ltb-true (firstFrom n p 0) n t))) (λ t. t) in
+          let e : every n (λ i. not (p i)) ≡ true =
+          every-all (λ i. not (p i)) n (λ i l. rw (r .before i (omega arith) (omega (arith, z)))) in
+          let q : ltb (firstFrom n p 0) n ≡ false =
+          byCases (ltb (firstFrom n p 0) n) (λ t. absurd (z (ltb-true (firstFrom n p 0) n t))) (λ t. t) in
           rw (e, q)
     ]
 
@@ -62,7 +65,8 @@ count-same p q zero h = refl
 count-same p q (suc n) h = rw (count-same p q n (λ i l. h i (omega arith)), h n (omega arith))
 
 -- a test that fails at k where the other holds, and agrees elsewhere, holds of one less
-pub count-less : (p q : ℕ → Bool) (n k : ℕ) → k < n → p k ≡ true → q k ≡ false → ((i : ℕ) → i < n → i ≢ k → p i ≡ q i) → countOf n p ≡ suc (countOf n q)
+pub count-less : (p q : ℕ → Bool) (n k : ℕ) → k < n → p k ≡ true → q k ≡ false → ((i : ℕ) → i < n → i ≢ k → p i ≡ q i)
+    → countOf n p ≡ suc (countOf n q)
 unfolding countOf
 count-less p q zero k b t f h = absurd (omega arith)
 count-less p q (suc n) k b t f h = elim (ℕ-discrete k n) [

@@ -56,7 +56,8 @@ cuts-one zero zero a x y = refl
 cuts-one zero (suc k) a x y = absurd (true-not-false x (full a (and-left (sectionFits a) (cutInto k (pastSection a)) y)))
 cuts-one (suc j) zero a x y = absurd (true-not-false y (full a (and-left (sectionFits a) (cutInto j (pastSection a)) x)))
 cuts-one (suc j) (suc k) a x y =
-    ap suc (cuts-one j k (pastSection a) (and-right (sectionFits a) (cutInto j (pastSection a)) x) (and-right (sectionFits a) (cutInto k (pastSection a)) y))
+    ap suc (cuts-one j k (pastSection a) (and-right (sectionFits a) (cutInto j (pastSection a)) x)
+    (and-right (sectionFits a) (cutInto k (pastSection a)) y))
 
 pub pages-one : (j k p : ℕ) (a : List ℕ) → validFrom j p a ≡ true → validFrom k p a ≡ true → j ≡ k
 pages-one j k p a x y = cuts-one j k a (valid-cut j p a x) (valid-cut k p a y)
@@ -70,7 +71,8 @@ counts-up zero k (suc j) a h b = absurd (omega arith)
 counts-up (suc s) k zero a h b = rw h (omega arith)
 counts-up (suc s) k (suc j) a h b =
     let t = and-left (sectionFits a) (cutInto j (pastSection a)) h in
-    let ih : pagesFrom s (suc k) (pastSection a) ≡ suc k + j = counts-up s (suc k) j (pastSection a) (and-right (sectionFits a) (cutInto j (pastSection a)) h) (omega arith) in
+    let ih : pagesFrom s (suc k) (pastSection a) ≡ suc k + j =
+    counts-up s (suc k) j (pastSection a) (and-right (sectionFits a) (cutInto j (pastSection a)) h) (omega arith) in
     rw (full a t, t, ih) (omega arith)
 
 -- a number that is not 0 is that of a cut
@@ -137,7 +139,8 @@ module _ (rs : List (List ℕ)) (h : Laid rs) (rest : List ℕ) where
   front-back =
       ap (λ (n : ℕ). recordsFrom n (drop 4 (sectionBytes rs ++ rest))) count-back
       ∙ ap (λ (l : List ℕ). recordsFrom (length rs) (drop 4 l)) laid
-      ∙ ap (λ (l : List ℕ). recordsFrom (length rs) l) (drop-at (bytesOf 4 (length rs)) (joined rs ++ rest) 4 (bytesOf-length 4 (length rs)))
+      ∙ ap (λ (l : List ℕ). recordsFrom (length rs) l)
+      (drop-at (bytesOf 4 (length rs)) (joined rs ++ rest) 4 (bytesOf-length 4 (length rs)))
       ∙ cut-back rs (h .size) rest
 
   past-back : pastSection (sectionBytes rs ++ rest) ≡ rest
@@ -151,14 +154,17 @@ module _ (rs : List (List ℕ)) (h : Laid rs) (rest : List ℕ) where
   fits-back : sectionFits (sectionBytes rs ++ rest) ≡ true
   fits-back =
       let a : List ℕ = sectionBytes rs ++ rest in
-      and-both (le-leb 4 (length a) (omega (arith, all-length))) (le-leb (64 * le 4 a) (length a - 4) (omega (arith, all-length, count-back)))
+      and-both (le-leb 4 (length a) (omega (arith, all-length)))
+      (le-leb (64 * le 4 a) (length a - 4) (omega (arith, all-length, count-back)))
 
-pub parted-back : (ss : List (List (List ℕ))) → ((i : ℕ) → i < length ss → Laid (getD ss i [])) → partedFrom (length ss) (archiveBytes ss) ≡ ss
+pub parted-back : (ss : List (List (List ℕ))) → ((i : ℕ) → i < length ss → Laid (getD ss i []))
+    → partedFrom (length ss) (archiveBytes ss) ≡ ss
 unfolding partedFrom archiveBytes
 parted-back [] h = refl
 parted-back (rs ∷ ss) h =
     let k = h 0 (omega arith) in
-    ap (λ (l : List (List ℕ)). l ∷ partedFrom (length ss) (pastSection (sectionBytes rs ++ archiveBytes ss))) (front-back rs k (archiveBytes ss))
+    ap (λ (l : List (List ℕ)). l ∷ partedFrom (length ss) (pastSection (sectionBytes rs ++ archiveBytes ss)))
+    (front-back rs k (archiveBytes ss))
     ∙ ap (λ (a : List ℕ). rs ∷ partedFrom (length ss) a) (past-back rs k (archiveBytes ss))
     ∙ ap (λ (l : List (List (List ℕ))). rs ∷ l) (parted-back ss (λ i l. h (suc i) (omega (arith, l))))
 
@@ -170,7 +176,8 @@ valid-back p (rs ∷ ss) h v =
     let k = h 0 (omega arith) in
     let a : List ℕ = sectionBytes rs ++ archiveBytes ss in
     let here : validSection p 0 (frontSection a) ≡ true =
-    ap (λ (l : List (List ℕ)). validSection p 0 l) (front-back rs k (archiveBytes ss)) ∙ and-left (validSection p 0 rs) (validSections (suc p) ss) v in
+    ap (λ (l : List (List ℕ)). validSection p 0 l) (front-back rs k (archiveBytes ss))
+    ∙ and-left (validSection p 0 rs) (validSections (suc p) ss) v in
     let rest : validFrom (length ss) (suc p) (pastSection a) ≡ true =
     ap (λ (b : List ℕ). validFrom (length ss) (suc p) b) (past-back rs k (archiveBytes ss))
     ∙ valid-back (suc p) ss (λ i l. h (suc i) (omega (arith, l))) (and-right (validSection p 0 rs) (validSections (suc p) ss) v) in
@@ -200,7 +207,8 @@ unfolding sectionBytes
 section-only a o four most =
     let n = le 4 a in
     let d : length (drop 4 a) ≡ length a - 4 = length-drop 4 a in
-    let count : bytesOf 4 (length (recordsFrom n (drop 4 a))) ≡ take 4 a = ap (bytesOf 4) (records-length n (drop 4 a)) ∙ write-back 4 a four o in
+    let count : bytesOf 4 (length (recordsFrom n (drop 4 a))) ≡ take 4 a = ap (bytesOf 4) (records-length n (drop 4 a))
+    ∙ write-back 4 a four o in
     let body : joined (recordsFrom n (drop 4 a)) ≡ take (64 * n) (drop 4 a) = records-joined n (drop 4 a) (omega (arith, most, d)) in
     ap (λ (x : List ℕ). x ++ joined (recordsFrom n (drop 4 a)) ++ drop (4 + 64 * n) a) count
     ∙ ap (λ (x : List ℕ). take 4 a ++ x ++ drop (4 + 64 * n) a) body
@@ -217,5 +225,8 @@ unfolding validFrom partedFrom archiveBytes validSections
 only zero p a o h = (nil a (eqb-true (length a) 0 h), refl, refl)
 only (suc k) p a o h =
     let f = fits-left a (here-fits k p a h) in
-    let r = only k (suc p) (pastSection a) (octets-drop (4 + 64 * le 4 a) a o) (rest-valid k p a h) in
-    (ap (λ (x : List ℕ). sectionBytes (frontSection a) ++ x) (r .0) ∙ section-only a o (f .0) (f .1), ap suc (r .1), and-both (here-valid k p a h) (r .2))
+    let r = only k (suc p) (pastSection a) (octets-drop (4 + 64 * le 4 a) a o) (rest-valid k p a h) in (
+      ap (λ (x : List ℕ). sectionBytes (frontSection a) ++ x) (r .0) ∙ section-only a o (f .0) (f .1),
+      ap suc (r .1),
+      and-both (here-valid k p a h) (r .2),
+    )

@@ -1,47 +1,37 @@
 -- Every call but Force and Note keeps a well-formed state well formed.
-use mathlib.Core.Path.{_≡_, refl, sym, _∙_}
+use mathlib.Core.Path.{_≡_, refl}
 use mathlib.Core.Logic.{_≢_}
-use mathlib.Core.Bool.{Bool, true, false, _&&_, _||_, not}
+use mathlib.Core.Bool.{true, false, _&&_, not}
 use mathlib.Core.List.{List, [], _∷_}
-use Prim.Native.Nat.{ℕ, _+_, _-_, _≤_, _<_}
+use Prim.Native.Nat.{ℕ, _-_, _≤_}
 use native.Mathlib.Omega.{arith}
-use native.Mathlib.Decide.{decLt}
-use lib.Dec.{eqb, leb, ltb}
-use lib.ListN.{length, length-set}
-use lib.Seq.{getD-set-same, getD-set-other}
-use borrow.Author.Tests.{leb-false, le-leb, ltb-false, lt-ltb, eqb-true, eqb-false, eq-eqb, ne-eqb, not-false}
-use Rattle.laws.proofs.Tables.{none-at, all-holds, or-neither, byCases, within-bounds, within-holds, true-not-false}
+use lib.Dec.{eqb, ltb}
+use lib.ListN.{length}
+use borrow.Author.Tests.{ltb-false, eqb-true, eqb-false, not-false}
+use Rattle.laws.proofs.Tables.{none-at, byCases, within-bounds, true-not-false}
 use Rattle.laws.proofs.Places.{valid-facts}
-use Rattle.laws.proofs.WellFormed.{Ready, ready, ready-behind, holder-low, holder-high, holder-page, holder-within}
-use Rattle.laws.proofs.Frames.{not-held, row-fits, Numbers, entry-of, forms}
-use Rattle.laws.proofs.FramePut.{Durable, Put, put-formed}
+use Rattle.laws.proofs.WellFormed.{Ready, ready, ready-behind}
+use Rattle.laws.proofs.Frames.{not-held, row-fits}
 use Rattle.laws.proofs.Decided.{geometryWith, geometry-after, either}
 use Rattle.laws.proofs.Headings.{headed-tag, no-ring}
 use Rattle.laws.proofs.FormedTags.{formed-tag}
 use Rattle.laws.proofs.Demand1.{call-keeps}
+use Rattle.laws.proofs.FormedStates.{Good, unblocked, at-low, at-within, at-place, at-page, at-alone, appended-good, framed-good, emptied-good, next-fits, noted-good}
 use Rattle.model.specs.Tables.{Row, firstOf, within}
-use Rattle.model.specs.Geometry.{tagOf, carryTag, headed, most, mostNotes, geometryOf}
+use Rattle.model.specs.Geometry.{tagOf, carryTag, headed, geometryOf}
 use Rattle.model.specs.Change.{fits}
 use Rattle.model.specs.Item.{imageLsn, noteLayout}
-use Rattle.model.specs.Index.{emptyEntry, entryOf, withLast, slotUsed}
+use Rattle.model.specs.Index.{entryOf, slotUsed}
 use Rattle.model.specs.Passes.{imageCount, firstOld, oldLeft}
-use Rattle.model.specs.State.{frameCount, frameBytes, frameRow, holder, held, blank, lastNumber, logFull, notesFull, notePending, pendingNoteFits, frameFits, entryFits, pageFits, wellFormed}
+use Rattle.model.specs.State.{frameCount, frameBytes, holder, held, blank, logFull, notesFull, notePending, wellFormed}
 use Rattle.model.specs.Refusals.{frameBlocked, pageDirty, notDurable, chainBroken, chainBelow, beginRows, loadRows, changeRows, writeRows, backupRows, releaseRows, startCarryRows, restampRows, finishCarryRows}
-use Rattle.model.specs.Calls.{nothing, oneItem, newHeading, Outcome, decided, withFrame, withFrames, appendedState, nextNote, beginOf, loadOf, changeCall, writeOf, backupOf, releaseOf, startCarryOf, restampOf, finishCarryOf, Call, begin, load, change, force, write, backup, release, note, startCarry, restamp, finishCarry, outcomeOf}
+use Rattle.model.specs.Calls.{newHeading, Outcome, decided, beginOf, loadOf, changeCall, writeOf, backupOf, releaseOf, startCarryOf, restampOf, finishCarryOf, Call, begin, load, change, force, write, backup, release, note, startCarry, restamp, finishCarry, outcomeOf}
 use Rattle.model.specs.Demand1.{Arrays}
 use Rattle.model.specs.WellFormed.{entersIndex, KeepsWellFormed}
 use Rattle.model.specs.declared.geometry.Geometry.{Geometry}
 use Rattle.model.specs.declared.geometry.Heading.the-variants.{First, Second}
 use Rattle.model.specs.declared.change.Change.{Change}
-use Rattle.model.specs.declared.state.PendingNote.{PendingNote}
 use Rattle.model.specs.declared.state.State.{State}
-
--- ---- the calls, on a state that rows 1 and 2 let through
-
--- what stays
-record Good (g : Geometry) (frames : ℕ) (s : State) : Type 0 where
-  arrays : Arrays s
-  state : wellFormed g frames s ≡ true
 
 -- of an outcome, by the geometry that it leaves
 record Stays (g : Geometry) (frames : ℕ) (o : Outcome) : Type 0 where
@@ -52,165 +42,6 @@ stays-by : (g : Geometry) (frames : ℕ) (rows : List Row) (m : List ℕ) (s : S
     → (firstOf rows ≡ 0 → Good (geometryWith g (done .stored)) frames (done .state))
     → Stays g frames (decided rows m s done)
 stays-by g frames rows m s done a b = record { good = byCases (eqb (firstOf rows) 0) (λ t. rw t (b (eqb-true _ _ t))) (λ t. rw t a) }
-
-module _ (v m : List ℕ) (s : State) (a : Arrays s) (rows : List Row) (r : Ready v m s rows) where
-  abbrev g : Geometry
-  g = geometryOf v
-
-  abbrev F : ℕ
-  F = frameCount (length m)
-
-  p64 : g .pages ≤ 64
-  p64 = valid-facts v (r .volume) .p-high
-
-  -- a page that row 10 lets go
-  unblocked : (f : ℕ) → 1 ≤ f → f ≤ F → frameBlocked s f ≡ false → frameRow s (f - 1) .page ≢ 0 → Durable s (frameRow s (f - 1) .page)
-  unblocked f lo hi t nz =
-      let p = frameRow s (f - 1) .page in
-      let h : frameRow s (f - 1) .page ≤ g .pages = row-fits g F s (f - 1) (r .state .table (f - 1) (omega (arith, r .memory .high))) .high in
-      let n = entry-of g F s (r .state) p64 p (omega arith) h .numbers in
-      let l : entryOf (s .index) p .last ≤ entryOf (s .index) p .durable = ltb-false _ _ (rw (ne-eqb p 0 nz) at t) in
-      omega (arith, n .durable)
-
-  -- the row that holds a page, and no other
-  module _ (p : ℕ) (lo : 1 ≤ p) (h : held s p ≡ true) where
-    at-low : 1 ≤ holder s p
-    at-low = holder-low g F s (r .state) (a .frames) p h
-
-    at-within : holder s p ≤ F
-    at-within = holder-within g F s (r .state) (a .frames) p h lo
-
-    at-place : holder s p - 1 < 16
-    at-place = omega (arith, at-low, holder-high g F s (r .state) (a .frames) p h)
-
-    at-page : frameRow s (holder s p - 1) .page ≡ p
-    at-page = holder-page g F s (r .state) (a .frames) p h
-
-    at-alone : (i : ℕ) → i < 16 → i ≢ holder s p - 1 → frameRow s i .page ≢ p
-    at-alone i l ne e = elim (decLt i (holder s p - 1)) [
-      | yes b ↦ row-fits g F s (holder s p - 1) (r .state .table (holder s p - 1) at-place) .once (λ z. omega (arith, at-page)) i b (e ∙ sym at-page)
-      | no b ↦ row-fits g F s i (r .state .table i l) .once (λ z. omega arith) (holder s p - 1) (omega arith) (at-page ∙ sym e)
-    ]
-
-  -- ---- a change of a page, put into frame f
-
-  entry-numbers : (p : ℕ) → 1 ≤ p → p ≤ g .pages → Numbers g s (entryOf (s .index) p)
-  entry-numbers p lo hi = entry-of g F s (r .state) p64 p lo hi .numbers
-
-  module _ (p f : ℕ) (lo : 1 ≤ p) (hi : p ≤ g .pages) (f-low : 1 ≤ f) (f-high : f ≤ F) (alone : (i : ℕ) → i < 16 → i ≢ f - 1 → frameRow s i .page ≢ p)
-      (leaves : frameRow s (f - 1) .page ≢ 0 → frameRow s (f - 1) .page ≢ p → Durable s (frameRow s (f - 1) .page)) where
-    place-low : f - 1 < 16
-    place-low = omega (arith, r .memory .high)
-
-    appended-entry : entryOf (appendedState s p f .index) p ≡ withLast (entryOf (s .index) p) (lastNumber s + 1)
-    unfolding appendedState
-    appended-entry = getD-set-same (s .index) (p - 1) _ emptyEntry (omega (arith, a .index, p64))
-
-    appended-put : Put g F s (appendedState s p f) (f - 1) p true
-    unfolding appendedState
-    appended-put =
-        let n = entry-numbers p lo hi in
-        record {
-          place = place-low;
-          rows = refl;
-          count = refl;
-          more = omega arith;
-          entries = λ q l ne. getD-set-other (s .index) (p - 1) (q - 1) _ emptyEntry (λ e. ne (let z : q ≡ p = omega arith in z));
-          own = λ nz. record {
-            high = hi;
-            inside = omega arith;
-            alone = alone;
-            some = rw appended-entry (λ z. omega arith);
-            numbers = rw appended-entry (record { last = omega arith; durable = omega (arith, n .count); count = n .count; written = n .written; backup = n .backup; slot = n .slot });
-          };
-          idle = λ z. absurd (omega arith);
-          leaves = leaves;
-        }
-
-    appended-good : eqb (s .pending) 16 ≡ false → logFull g v s ≡ false → Good g F (appendedState s p f)
-    unfolding appendedState logFull
-    appended-good free full =
-        let w = r .state in
-        let ne : s .pending ≢ 16 = eqb-false (s .pending) 16 free in
-        let l : lastNumber s < most g = leb-false (most g) (lastNumber s) (or-neither (leb (most g) (lastNumber s)) _ full .0) in
-        record {
-          arrays = record { frames = length-set (s .frames) (f - 1) _ ∙ a .frames; index = length-set (s .index) (p - 1) _ ∙ a .index };
-          state = put-formed g F s a w p64 (appendedState s p f) (f - 1) p true appended-put (omega arith) (omega (arith, w .few)) (w .notes) (w .note);
-        }
-
-    -- ---- a page whose entry stays, put into frame f
-
-    framed-put : (t : Bool) (n : PendingNote) → entryOf (s .index) p .last ≢ 0 → Put g F s (withFrames s (withFrame s f p t) n) (f - 1) p t
-    framed-put t n some =
-        let e = entry-numbers p lo hi in
-        record {
-          place = place-low;
-          rows = refl;
-          count = refl;
-          more = omega arith;
-          entries = λ q l ne. refl;
-          own = λ nz. record {
-            high = hi;
-            inside = omega arith;
-            alone = alone;
-            some = some;
-            numbers = record { last = e .last; durable = e .durable; count = e .count; written = e .written; backup = e .backup; slot = e .slot };
-          };
-          idle = λ z. absurd (omega arith);
-          leaves = leaves;
-        }
-
-    framed-good : (t : Bool) (n : PendingNote) → entryOf (s .index) p .last ≢ 0 → pendingNoteFits g (s .notes) (s .durable) n ≡ true → Good g F (withFrames s (withFrame s f p t) n)
-    framed-good t n some fit =
-        let w = r .state in
-        record {
-          arrays = record { frames = length-set (s .frames) (f - 1) _ ∙ a .frames; index = a .index };
-          state = put-formed g F s a w p64 (withFrames s (withFrame s f p t) n) (f - 1) p t (framed-put t n some) (w .room) (w .few) (w .notes) fit;
-        }
-
-  -- ---- frame f emptied
-
-  emptied-put : (f : ℕ) → 1 ≤ f → f ≤ F → frameBlocked s f ≡ false → Put g F s (withFrames s (withFrame s f 0 false) (s .note)) (f - 1) 0 false
-  emptied-put f lo hi t =
-      record {
-        place = omega (arith, r .memory .high);
-        rows = refl;
-        count = refl;
-        more = omega arith;
-        entries = λ q l ne. refl;
-        own = λ nz. absurd (nz refl);
-        idle = λ z. refl;
-        leaves = λ nz ne. unblocked f lo hi t nz;
-      }
-
-  emptied-good : (f : ℕ) → 1 ≤ f → f ≤ F → frameBlocked s f ≡ false → Good g F (withFrames s (withFrame s f 0 false) (s .note))
-  emptied-good f lo hi t =
-      let w = r .state in
-      record {
-        arrays = record { frames = length-set (s .frames) (f - 1) _ ∙ a .frames; index = a .index };
-        state = put-formed g F s a w p64 (withFrames s (withFrame s f 0 false) (s .note)) (f - 1) 0 false (emptied-put f lo hi t) (w .room) (w .few) (w .notes) (w .note);
-      }
-
-  -- ---- the note that a Write or a Backup leaves
-
-  next-fits : (p kind slot lsn : ℕ) → 1 ≤ p → p ≤ g .pages → notesFull g v s ≡ false → lsn ≤ s .durable
-      → noteLayout (record { number = s .notes + 1; page = p; kind = kind; slot = slot; lsn = lsn }) ≡ true
-      → (eqb kind 1 || within (g .slots) slot) ≡ true → pendingNoteFits g (s .notes) (s .durable) (nextNote s p kind slot lsn) ≡ true
-  unfolding pendingNoteFits notesFull
-  next-fits p kind slot lsn lo hi full low layout in-range =
-      let q = or-neither (eqb (g .notes) 0) _ full in
-      let q′ = or-neither (leb (mostNotes g) (s .notes)) _ (q .1) in
-      let nz : g .notes ≢ 0 = eqb-false (g .notes) 0 (q .0) in
-      all-holds
-      (ltb (s .notes) (mostNotes g) ∷ ltb 0 (g .notes) ∷ noteLayout (record { number = s .notes + 1; page = p; kind = kind; slot = slot; lsn = lsn }) ∷ eqb (s .notes + 1) (s .notes + 1)
-      ∷ within (g .pages) p ∷ (eqb kind 1 || within (g .slots) slot) ∷ leb lsn (s .durable) ∷ [])
-      (lt-ltb _ _ (leb-false (mostNotes g) (s .notes) (q′ .0)), (lt-ltb 0 (g .notes) (omega arith), (layout, (eq-eqb (s .notes + 1) (s .notes + 1) refl, (within-holds (g .pages) p lo hi, (in-range, (le-leb _ _ low, tt)))))))
-
-  noted-good : (n : PendingNote) → pendingNoteFits g (s .notes) (s .durable) n ≡ true → Good g F (withFrames s (s .frames) n)
-  unfolding frameFits pageFits entryFits
-  noted-good n fit =
-      let w = r .state in
-      record { arrays = record { frames = a .frames; index = a .index }; state = forms g F (withFrames s (s .frames) n) (record { room = w .room; few = w .few; notes = w .notes; note = fit; table = w .table; pages = w .pages }) }
 
 -- ---- the calls
 
@@ -226,10 +57,13 @@ module _ (v m : List ℕ) (s : State) (a : Arrays s) (ok : wellFormed (geometryO
   unfolding beginOf beginRows
   begin-stays page f fill = stays-by (geometryOf v) (frameCount (length m)) (beginRows v m s page f) m s _ same-good (λ h.
       let gv = geometryOf v in
-      let rest : List Row = (not (within (gv .pages) page), 3) ∷ (not (within (frameCount (length m)) f), 4) ∷ (not (blank s page), 9) ∷ (frameBlocked s f, 10)
-      ∷ (eqb (s .pending) 16, 11) ∷ (logFull gv v s, 12) ∷ [] in
+      let rest : List Row = (not (within (gv .pages) page), 3) ∷ (not (within (frameCount (length m)) f), 4) ∷ (not (blank s page), 9)
+      ∷ (frameBlocked s f, 10) ∷ (eqb (s .pending) 16, 11) ∷ (logFull gv v s, 12) ∷ [] in
       let r = ready v m s rest h in
-      let none = none-at rest (eqb-false 3 0 refl, (eqb-false 4 0 refl, (eqb-false 9 0 refl, (eqb-false 10 0 refl, (eqb-false 11 0 refl, (eqb-false 12 0 refl, tt)))))) (r .rest) in
+      let none = none-at rest (
+        eqb-false 3 0 refl,
+        (eqb-false 4 0 refl, (eqb-false 9 0 refl, (eqb-false 10 0 refl, (eqb-false 11 0 refl, (eqb-false 12 0 refl, tt))))),
+      ) (r .rest) in
       let w = within-bounds (gv .pages) page (not-false _ (none 0)) in
       let u = within-bounds (frameCount (length m)) f (not-false _ (none 1)) in
       let z : entryOf (s .index) page .last ≡ 0 = eqb-true (entryOf (s .index) page .last) 0 (not-false _ (none 2)) in
@@ -241,10 +75,17 @@ module _ (v m : List ℕ) (s : State) (a : Arrays s) (ok : wellFormed (geometryO
   unfolding loadOf loadRows
   load-stays page f = stays-by (geometryOf v) (frameCount (length m)) (loadRows v m s page f) m s _ same-good (λ h.
       let gv = geometryOf v in
-      let rest : List Row = (not (within (gv .pages) page), 3) ∷ (not (within (frameCount (length m)) f), 4) ∷ (blank s page, 7) ∷ (held s page, 9)
+      let rest : List Row = (not (within (gv .pages) page), 3) ∷ (not (within (frameCount (length m)) f), 4)
+      ∷ (blank s page, 7) ∷ (held s page, 9)
       ∷ (frameBlocked s f, 10) ∷ (chainBroken gv v s page, 19) ∷ (chainBelow gv v s page, 23) ∷ [] in
       let r = ready v m s rest h in
-      let none = none-at rest (eqb-false 3 0 refl, (eqb-false 4 0 refl, (eqb-false 7 0 refl, (eqb-false 9 0 refl, (eqb-false 10 0 refl, (eqb-false 19 0 refl, (eqb-false 23 0 refl, tt))))))) (r .rest) in
+      let none = none-at rest (
+        eqb-false 3 0 refl,
+        (
+          eqb-false 4 0 refl,
+          (eqb-false 7 0 refl, (eqb-false 9 0 refl, (eqb-false 10 0 refl, (eqb-false 19 0 refl, (eqb-false 23 0 refl, tt))))),
+        ),
+      ) (r .rest) in
       let w = within-bounds (gv .pages) page (not-false _ (none 0)) in
       let u = within-bounds (frameCount (length m)) f (not-false _ (none 1)) in
       framed-good v m s a rest r page f (w .0) (w .1) (u .0) (u .1) (λ i l ne. not-held s page (none 3) i (omega (arith, a .frames)))
@@ -254,12 +95,15 @@ module _ (v m : List ℕ) (s : State) (a : Arrays s) (ok : wellFormed (geometryO
   unfolding changeCall changeRows
   change-stays page c payload = stays-by (geometryOf v) (frameCount (length m)) (changeRows v m s page c) m s _ same-good (λ h.
       let gv = geometryOf v in
-      let rest : List Row = (not (within (gv .pages) page), 3) ∷ (not (fits c), 6) ∷ (not (held s page), 8) ∷ (eqb (s .pending) 16, 11) ∷ (logFull gv v s, 12) ∷ [] in
+      let rest : List Row = (not (within (gv .pages) page), 3) ∷ (not (fits c), 6) ∷ (not (held s page), 8) ∷ (eqb (s .pending) 16, 11)
+      ∷ (logFull gv v s, 12) ∷ [] in
       let r = ready v m s rest h in
-      let none = none-at rest (eqb-false 3 0 refl, (eqb-false 6 0 refl, (eqb-false 8 0 refl, (eqb-false 11 0 refl, (eqb-false 12 0 refl, tt))))) (r .rest) in
+      let none = none-at rest
+      (eqb-false 3 0 refl, (eqb-false 6 0 refl, (eqb-false 8 0 refl, (eqb-false 11 0 refl, (eqb-false 12 0 refl, tt))))) (r .rest) in
       let w = within-bounds (gv .pages) page (not-false _ (none 0)) in
       let t = not-false (held s page) (none 2) in
-      appended-good v m s a rest r page (holder s page) (w .0) (w .1) (at-low v m s a rest r page (w .0) t) (at-within v m s a rest r page (w .0) t) (at-alone v m s a rest r page (w .0) t)
+      appended-good v m s a rest r page (holder s page) (w .0) (w .1) (at-low v m s a rest r page (w .0) t)
+      (at-within v m s a rest r page (w .0) t) (at-alone v m s a rest r page (w .0) t)
       (λ nz ne. absurd (ne (at-page v m s a rest r page (w .0) t))) (none 3) (none 4))
 
   write-stays : (page : ℕ) → StaysHere (writeOf v m s page)
@@ -267,36 +111,48 @@ module _ (v m : List ℕ) (s : State) (a : Arrays s) (ok : wellFormed (geometryO
   write-stays page = stays-by (geometryOf v) (frameCount (length m)) (writeRows v m s page) m s _ same-good (λ h.
       let gv = geometryOf v in
       let d = pageDirty s page in
-      let rest : List Row = (not (within (gv .pages) page), 3) ∷ (not (held s page), 8) ∷ (d && notePending (s .note), 13) ∷ (d && notesFull gv v s, 14)
-      ∷ (d && notDurable m s page, 15) ∷ [] in
+      let rest : List Row = (not (within (gv .pages) page), 3) ∷ (not (held s page), 8) ∷ (d && notePending (s .note), 13)
+      ∷ (d && notesFull gv v s, 14) ∷ (d && notDurable m s page, 15) ∷ [] in
       let r = ready v m s rest h in
-      let none = none-at rest (eqb-false 3 0 refl, (eqb-false 8 0 refl, (eqb-false 13 0 refl, (eqb-false 14 0 refl, (eqb-false 15 0 refl, tt))))) (r .rest) in
+      let none = none-at rest
+      (eqb-false 3 0 refl, (eqb-false 8 0 refl, (eqb-false 13 0 refl, (eqb-false 14 0 refl, (eqb-false 15 0 refl, tt))))) (r .rest) in
       let w = within-bounds (gv .pages) page (not-false _ (none 0)) in
       let t = not-false (held s page) (none 1) in
       let lo = at-low v m s a rest r page (w .0) t in
       let pg = at-page v m s a rest r page (w .0) t in
       either (pageDirty s page) _ _ (λ o. Good (geometryWith (geometryOf v) (o .stored)) (frameCount (length m)) (o .state))
-      (λ y. framed-good v m s a rest r page (holder s page) (w .0) (w .1) lo (at-within v m s a rest r page (w .0) t) (at-alone v m s a rest r page (w .0) t)
+      (λ y. framed-good v m s a rest r page (holder s page) (w .0) (w .1) lo (at-within v m s a rest r page (w .0) t)
+      (at-alone v m s a rest r page (w .0) t)
       (λ nz ne. absurd (ne pg)) false _ (some rest r page (w .0) t)
-      (next-fits v m s a rest r page 1 0 (imageLsn (frameBytes m (holder s page))) (w .0) (w .1) (rw y at (none 3)) (ltb-false _ _ (rw y at (none 4))) refl refl))
+      (next-fits v m s a rest r page 1 0 (imageLsn (frameBytes m (holder s page))) (w .0) (w .1) (rw y at (none 3))
+      (ltb-false _ _ (rw y at (none 4))) refl refl))
       (λ y. same-good))
     where
       some : (rest : List Row) (r : Ready v m s rest) (p : ℕ) (lo : 1 ≤ p) (t : held s p ≡ true) → entryOf (s .index) p .last ≢ 0
       some rest r p lo t z =
           let pg = at-page v m s a rest r p lo t in
-          row-fits (geometryOf v) (frameCount (length m)) s (holder s p - 1) (r .state .table (holder s p - 1) (at-place v m s a rest r p lo t)) .some (λ q. omega arith) (rw pg z)
+          row-fits (geometryOf v) (frameCount (length m)) s (holder s p - 1)
+          (r .state .table (holder s p - 1) (at-place v m s a rest r p lo t)) .some (λ q. omega arith) (rw pg z)
 
   backup-stays : (page slot : ℕ) → StaysHere (backupOf v m s page slot)
   unfolding backupOf backupRows noteLayout
   backup-stays page slot = stays-by (geometryOf v) (frameCount (length m)) (backupRows v m s page slot) m s _ same-good (λ h.
       let gv = geometryOf v in
-      let rest : List Row = (not (within (gv .pages) page), 3) ∷ (not (within (gv .slots) slot), 5) ∷ (not (held s page), 8) ∷ (notePending (s .note), 13)
+      let rest : List Row = (not (within (gv .pages) page), 3) ∷ (not (within (gv .slots) slot), 5) ∷ (not (held s page), 8)
+      ∷ (notePending (s .note), 13)
       ∷ (notesFull gv v s, 14) ∷ (notDurable m s page, 15) ∷ (slotUsed slot (s .index), 16) ∷ [] in
       let r = ready v m s rest h in
-      let none = none-at rest (eqb-false 3 0 refl, (eqb-false 5 0 refl, (eqb-false 8 0 refl, (eqb-false 13 0 refl, (eqb-false 14 0 refl, (eqb-false 15 0 refl, (eqb-false 16 0 refl, tt))))))) (r .rest) in
+      let none = none-at rest (
+        eqb-false 3 0 refl,
+        (
+          eqb-false 5 0 refl,
+          (eqb-false 8 0 refl, (eqb-false 13 0 refl, (eqb-false 14 0 refl, (eqb-false 15 0 refl, (eqb-false 16 0 refl, tt))))),
+        ),
+      ) (r .rest) in
       let w = within-bounds (gv .pages) page (not-false _ (none 0)) in
       noted-good v m s a rest r _
-      (next-fits v m s a rest r page 2 slot (imageLsn (frameBytes m (holder s page))) (w .0) (w .1) (none 4) (ltb-false _ _ (none 5)) refl (not-false _ (none 1))))
+      (next-fits v m s a rest r page 2 slot (imageLsn (frameBytes m (holder s page))) (w .0) (w .1) (none 4) (ltb-false _ _ (none 5)) refl
+      (not-false _ (none 1))))
 
   release-stays : (page : ℕ) → StaysHere (releaseOf v m s page)
   unfolding releaseOf releaseRows
@@ -315,7 +171,10 @@ module _ (v m : List ℕ) (s : State) (a : Arrays s) (ok : wellFormed (geometryO
   headed-good old tag rest ne h r =
       let f = valid-facts v (r .volume) in
       let e : eqb (geometryOf v .tag) (tagOf Second) ≡ false = rw (headed-tag old v h) ne in
-      record { arrays = a; state = formed-tag (geometryOf v) (no-ring (geometryOf v) e) (f .l-high) (f .n-high) tag (frameCount (length m)) s ok }
+      record {
+        arrays = a;
+        state = formed-tag (geometryOf v) (no-ring (geometryOf v) e) (f .l-high) (f .n-high) tag (frameCount (length m)) s ok;
+      }
 
   start-stays : StaysHere (startCarryOf v m s)
   unfolding startCarryOf startCarryRows
@@ -326,7 +185,8 @@ module _ (v m : List ℕ) (s : State) (a : Arrays s) (ok : wellFormed (geometryO
   restamp-stays : StaysHere (restampOf v m s)
   unfolding restampOf
   restamp-stays = stays-by (geometryOf v) (frameCount (length m)) (restampRows v m s) m s _ same-good (λ h.
-      either (ltb (firstOld (geometryOf v) v (s .index)) (imageCount (geometryOf v))) _ _ (λ o. Good (geometryWith (geometryOf v) (o .stored)) (frameCount (length m)) (o .state))
+      either (ltb (firstOld (geometryOf v) v (s .index)) (imageCount (geometryOf v))) _ _
+      (λ o. Good (geometryWith (geometryOf v) (o .stored)) (frameCount (length m)) (o .state))
       (λ y. same-good) (λ y. same-good))
 
   finish-stays : StaysHere (finishCarryOf v m s)

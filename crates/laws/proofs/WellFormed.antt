@@ -1,5 +1,5 @@
--- What a well-formed state and a table that refuses nothing tell: the counts, the pending note, the frame that holds a page, and the parts of
--- the memory.
+-- What a well-formed state and a table that refuses nothing tell: the counts, the pending note, the frame that holds a page, and the parts
+-- of the memory.
 use mathlib.Core.Path.{_≡_, refl, sym, ap, _∙_}
 use mathlib.Core.Logic.{_⊎_, inl, inr, ⊎-elim}
 use mathlib.Core.Bool.{Bool, true, false, _&&_, _||_, not, cond}
@@ -38,8 +38,8 @@ pub record Formed (g : Geometry) (frames : ℕ) (s : State) : Type 0 where
 pub formed : (g : Geometry) (frames : ℕ) (s : State) → wellFormed g frames s ≡ true → Formed g frames s
 unfolding wellFormed
 formed g frames s h =
-    let tests = leb (s .durable + s .pending) (most g) ∷ leb (s .pending) 16 ∷ leb (s .notes) (mostNotes g) ∷ pendingNoteFits g (s .notes) (s .durable) (s .note)
-    ∷ every 16 (frameFits g frames s) ∷ every 64 (pageFits g s) ∷ [] in
+    let tests = leb (s .durable + s .pending) (most g) ∷ leb (s .pending) 16 ∷ leb (s .notes) (mostNotes g)
+    ∷ pendingNoteFits g (s .notes) (s .durable) (s .note) ∷ every 16 (frameFits g frames s) ∷ every 64 (pageFits g s) ∷ [] in
     record {
       room = leb-true _ _ (all-at tests 0 h);
       few = leb-true _ _ (all-at tests 1 h);
@@ -58,7 +58,8 @@ pub record FormedNote (g : Geometry) (notes durable : ℕ) (n : Note) : Type 0 w
   pub high : n .page ≤ g .pages
   pub lsn : n .lsn ≤ durable
 
-pub formed-note : (g : Geometry) (notes durable : ℕ) (n : Note) → pendingNoteFits g notes durable (Present n) ≡ true → FormedNote g notes durable n
+pub formed-note : (g : Geometry) (notes durable : ℕ) (n : Note) → pendingNoteFits g notes durable (Present n) ≡ true
+    → FormedNote g notes durable n
 unfolding pendingNoteFits
 formed-note g notes durable n h =
     let tests = ltb notes (mostNotes g) ∷ ltb 0 (g .notes) ∷ noteLayout n ∷ eqb (n .number) (notes + 1) ∷ within (g .pages) (n .page)
@@ -97,7 +98,8 @@ holder-finds i p (f ∷ fs) h =
     byCases (eqb (f .page) p) (λ t. rw t (here i p f fs (eqb-true (f .page) p t)))
     (λ t. rw t (there i p f fs (holderFrom (suc i) p fs) (holder-finds (suc i) p fs (rw t at h))))
 
-module _ (g : Geometry) (frames : ℕ) (s : State) (w : Formed g frames s) (rows : length (s .frames) ≡ 16) (p : ℕ) (at : held s p ≡ true) where
+module _ (g : Geometry) (frames : ℕ) (s : State) (w : Formed g frames s) (rows : length (s .frames) ≡ 16) (p : ℕ)
+    (at : held s p ≡ true) where
   found : Holds 0 p (s .frames) (holder s p)
   found = holder-finds 0 p (s .frames) (ltb-true _ _ at)
 
@@ -186,7 +188,8 @@ ready v m s rows h =
     }
 
 -- and a row before them
-pub ready-behind : (t : Bool) (v m : List ℕ) (s : State) (rows : List Row) → firstOf ((t, 1) ∷ stateRows v m s rows) ≡ 0 → (t ≡ false) × Ready v m s rows
+pub ready-behind : (t : Bool) (v m : List ℕ) (s : State) (rows : List Row) → firstOf ((t, 1) ∷ stateRows v m s rows) ≡ 0
+    → (t ≡ false) × Ready v m s rows
 ready-behind t v m s rows h =
     let one : _≡_ {A = ℕ} 1 0 → ⊥ = eqb-false 1 0 refl in
     (pick-none t 1 _ one h, ready v m s rows (pick-rest t 1 _ one h))

@@ -171,7 +171,8 @@ sizeRefusal (Size.Bytes n) = 0
 pub record ArchiveClaim : Type 0 where
   -- each call is refused by its table, and a refusal leaves the buffer
   pub length-table : (v : List ℕ) → ByTable (wholeRows v []) (sizeRefusal (sizeOf v))
-  pub writer-table : (v buffer : List ℕ) → ByTable (archiveRows v (length buffer)) (refusalOf (archiveOf v buffer .answer))
+  pub writer-table : (v buffer : List ℕ)
+      → ByTable (archiveRows v (length buffer)) (refusalOf (archiveOf v buffer .answer))
       × (refusalOf (archiveOf v buffer .answer) ≢ 0 → archiveOf v buffer .buffer ≡ buffer)
   pub reader-table : (a area : List ℕ) → ByTable (readRows a (length area)) (refusalOf (readOf a area .answer))
       × (refusalOf (readOf a area .answer) ≢ 0 → readOf a area .buffer ≡ area)
@@ -198,7 +199,8 @@ pub record ArchiveClaim : Type 0 where
 pub record Rebuilds (h : History) (image : List ℕ) (p : ℕ) (buffer : List ℕ) : Type 0 where
   pub blank : inspection h p buffer ≡ 7 → image ≡ replicate 256 0
   pub shows : inspection h p buffer ≡ 0
-      → (imagePage image ≡ p) × (part image 2 2 ≡ 0 ∷ 0 ∷ []) × (part image 4 248 ≡ shown h p buffer) × (part image 252 4 ≡ replicate 4 0)
+      → (imagePage image ≡ p) × (part image 2 2 ≡ 0 ∷ 0 ∷ [])
+      × (part image 4 248 ≡ shown h p buffer) × (part image 252 4 ≡ replicate 4 0)
   -- and it gives one of these two: record 1 is there
   pub answered : inspection h p buffer ≢ 7 → inspection h p buffer ≡ 0
 

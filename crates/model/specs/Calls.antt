@@ -73,7 +73,15 @@ abbrev pub withFrame : State → ℕ → ℕ → Bool → List Frame
 withFrame s f page dirty = set (s .frames) (f - 1) (record { page = page; dirty = dirty })
 
 abbrev pub withFrames : State → List Frame → PendingNote → State
-withFrames s frames n = record { durable = s .durable; pending = s .pending; notes = s .notes; note = n; frames = frames; index = s .index }
+withFrames s frames n =
+    record {
+      durable = s .durable;
+      pending = s .pending;
+      notes = s .notes;
+      note = n;
+      frames = frames;
+      index = s .index;
+    }
 
 -- the state with one more pending record, of page p in frame f
 unfoldable pub appendedState : State → ℕ → ℕ → State
@@ -141,7 +149,9 @@ changeCall v m s page c payload =
     (record {
       answer = Done;
       state = appendedState s page f;
-      memory = appendedMemory m s page c payload f (changedImage x (lastNumber s + 1) (applyChange c payload (imageBody x)));
+      memory =
+          appendedMemory m s page c payload f
+          (changedImage x (lastNumber s + 1) (applyChange c payload (imageBody x)));
       stored = nothing;
     })
 
@@ -155,7 +165,9 @@ forcedState s pages p =
       notes = s .notes;
       note = s .note;
       frames = s .frames;
-      index = cond (within pages p) (setEntry (s .index) p (withDurable (entryOf (s .index) p) (s .durable + 1))) (s .index);
+      index =
+          cond (within pages p) (setEntry (s .index) p (withDurable (entryOf (s .index) p) (s .durable + 1)))
+          (s .index);
     }
 
 -- Force: "stores the oldest pending record", as its 64 bytes lie in memory
@@ -174,7 +186,8 @@ forceOf v m s =
 
 -- the note that Write and Backup leave to be stored
 abbrev pub nextNote : State → ℕ → ℕ → ℕ → ℕ → PendingNote
-nextNote s page kind slot lsn = Present (record { number = lastNote s + 1; page = page; kind = kind; slot = slot; lsn = lsn })
+nextNote s page kind slot lsn =
+    Present (record { number = lastNote s + 1; page = page; kind = kind; slot = slot; lsn = lsn })
 
 -- Write: "stores a dirty page's image, makes it clean, owes a written note. On a clean page it answers Nothing"
 unfoldable pub writeOf : List ℕ → List ℕ → State → ℕ → Outcome
@@ -210,17 +223,34 @@ backupOf v m s page slot =
 unfoldable pub releaseOf : List ℕ → List ℕ → State → ℕ → Outcome
 releaseOf v m s page =
     decided (releaseRows v m s page) m s
-    (record { answer = Done; state = withFrames s (withFrame s (holder s page) 0 false) (s .note); memory = m; stored = nothing })
+    (record {
+      answer = Done;
+      state = withFrames s (withFrame s (holder s page) 0 false) (s .note);
+      memory = m;
+      stored = nothing;
+    })
 
 -- the state once the pending note is stored: "only then does the index change"
 unfoldable pub notedState : State → Note → State
 notedState s n =
-    record { durable = s .durable; pending = s .pending; notes = s .notes + 1; note = Absent; frames = s .frames; index = enterNote (s .index) n }
+    record {
+      durable = s .durable;
+      pending = s .pending;
+      notes = s .notes + 1;
+      note = Absent;
+      frames = s .frames;
+      index = enterNote (s .index) n;
+    }
 
 abbrev pub noteStored : List ℕ → List ℕ → State → PendingNote → Outcome
 noteStored v m s Absent = unchanged Nothing m s
 noteStored v m s (Present n) =
-    record { answer = Done; state = notedState s n; memory = m; stored = oneItem (noteSlot (geometryOf v) (lastNote s + 1)) (noteBytes n) }
+    record {
+      answer = Done;
+      state = notedState s n;
+      memory = m;
+      stored = oneItem (noteSlot (geometryOf v) (lastNote s + 1)) (noteBytes n);
+    }
 
 -- Note: "stores the owed note"
 unfoldable pub noteCall : List ℕ → List ℕ → State → Outcome
@@ -256,7 +286,14 @@ finishCarryOf v m s = decided (finishCarryRows v m s) m s (storing (newHeading (
 unfoldable pub restartState : List ℕ → State
 restartState v =
     let g = geometryOf v in
-    record { durable = durableCount g v; pending = 0; notes = noteCount g v; note = Absent; frames = replicate 16 emptyFrame; index = indexOf g v }
+    record {
+      durable = durableCount g v;
+      pending = 0;
+      notes = noteCount g v;
+      note = Absent;
+      frames = replicate 16 emptyFrame;
+      index = indexOf g v;
+    }
 
 -- Restart: "reads the volume, stores nothing, zeroes the memory, gives the state"; "A refused Restart gives a state of
 -- zeros"
@@ -275,7 +312,8 @@ pub record Made : Type 0 where
 unfoldable pub makeOf : Heading → List ℕ → ℕ → ℕ → ℕ → ℕ → Made
 makeOf h v p b l n =
     let no = firstOf (makeRows v p b l n) in
-    cond (eqb no 0) (record { answer = Done; volume = emptyVolume h p b l n }) (record { answer = Refused no; volume = v })
+    cond (eqb no 0) (record { answer = Done; volume = emptyVolume h p b l n })
+    (record { answer = Refused no; volume = v })
 
 -- what Inspect leaves
 pub record Inspected : Type 0 where

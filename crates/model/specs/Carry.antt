@@ -1,7 +1,7 @@
 -- What carrying a volume over promises, as types: the images left go down and end, Finish drops none, every inspection
--- stays the same, and only these calls ever meet a heading not their own. States document 02, §4. Demands 2 and 3 do not
--- say it: to them an image that fails is only repaired. The values of these types are proved in the crates `laws` (on
--- any volume) and `history` (of histories).
+-- stays the same, and only these calls ever meet a heading not their own. States document 02, §4. Demands 2 and 3 do
+-- not say it: to them an image that fails is only repaired. The values of these types are proved in the crates `laws`
+-- (on any volume) and `history` (of histories).
 use Prim.Native.Nat.{ℕ, zero, suc, _+_, _≤_}
 use mathlib.Core.Path.{_≡_}
 use mathlib.Core.Logic.{_≢_, _↔_}
@@ -49,9 +49,11 @@ pub record Progress : Type 0 where
   pub ends : (v m : List ℕ) (s : State) → firstOf (restampRows v m s) ≡ 0
       → AllDone (oldCount v s) v m s × (restampOf (restamps (oldCount v s) v m s) m s .answer ≡ Nothing)
   -- "When none is left it answers Nothing"
-  pub nothing : (v m : List ℕ) (s : State) → firstOf (restampRows v m s) ≡ 0 → (restampOf v m s .answer ≡ Nothing) ↔ (oldCount v s ≡ 0)
+  pub nothing : (v m : List ℕ) (s : State) → firstOf (restampRows v m s) ≡ 0
+      → (restampOf v m s .answer ≡ Nothing) ↔ (oldCount v s ≡ 0)
   -- "20, finish called while such an image is left": exactly where a Restamp would restamp one
-  pub finish : (v m : List ℕ) (s : State) → (refusalOf (finishCarryOf v m s .answer) ≡ 20) ↔ (restampOf v m s .answer ≡ Done)
+  pub finish : (v m : List ℕ) (s : State)
+      → (refusalOf (finishCarryOf v m s .answer) ≡ 20) ↔ (restampOf v m s .answer ≡ Done)
 
 -- an image passes in its place on a volume, by an index
 abbrev pub passesOn : List ℕ → State → Place → Bool
@@ -59,11 +61,14 @@ passesOn v s at = passesAt (geometryOf v) (s .index) at (item (geometryOf v) v a
 
 -- Finish drops no image, and neither does a Restamp, which leaves bytes 0 to 251 of every image
 pub record DropsNone : Type 0 where
-  pub finish : (v m : List ℕ) (s : State) → refusalOf (finishCarryOf v m s .answer) ≡ 0 → (at : Place) → isImage (geometryOf v) at ≡ true
+  pub finish : (v m : List ℕ) (s : State) → refusalOf (finishCarryOf v m s .answer) ≡ 0
+      → (at : Place) → isImage (geometryOf v) at ≡ true
       → passesOn (volumeAfter v (finishCarryOf v m s .stored)) s at ≡ passesOn v s at
-  pub restamp : (v m : List ℕ) (s : State) → refusalOf (restampOf v m s .answer) ≡ 0 → (at : Place) → isImage (geometryOf v) at ≡ true
+  pub restamp : (v m : List ℕ) (s : State) → refusalOf (restampOf v m s .answer) ≡ 0
+      → (at : Place) → isImage (geometryOf v) at ≡ true
       → (passesOn (volumeAfter v (restampOf v m s .stored)) s at ≡ passesOn v s at)
-      × (take 252 (item (geometryOf v) (volumeAfter v (restampOf v m s .stored)) at) ≡ take 252 (item (geometryOf v) v at))
+      × (take 252 (item (geometryOf v) (volumeAfter v (restampOf v m s .stored)) at)
+      ≡ take 252 (item (geometryOf v) v at))
 
 -- ---- in a history
 
@@ -87,13 +92,17 @@ abbrev pub CarrySame : Type 0
 CarrySame =
     (h : History) → Legal h → (m : List ℕ) (s : State) → reached h .power ≡ on m s → (c : Call) → carries c ≡ true
     → allowed (reached h) (perform c) ≡ true → (p : ℕ) (buffer : List ℕ)
-    → Same (inspectOf (volumeAfter (reached h .volume) (outcomeOf c (reached h .volume) m s .stored)) p buffer) (inspectOf (reached h .volume) p buffer)
+    → Same (inspectOf (volumeAfter (reached h .volume) (outcomeOf c (reached h .volume) m s .stored)) p buffer)
+    (inspectOf (reached h .volume) p buffer)
 
 -- "1 if one of these three calls meets a heading not its own", and no other call gives it
 pub record OnlyHeading (h : History) (m : List ℕ) (s : State) : Type 0 where
-  pub start : (refusalOf (startCarryOf (reached h .volume) m s .answer) ≡ 1) ↔ (geometryOf (reached h .volume) .tag ≢ tagOf First)
-  pub restamp : (refusalOf (restampOf (reached h .volume) m s .answer) ≡ 1) ↔ (geometryOf (reached h .volume) .tag ≢ carryTag)
-  pub finish : (refusalOf (finishCarryOf (reached h .volume) m s .answer) ≡ 1) ↔ (geometryOf (reached h .volume) .tag ≢ carryTag)
+  pub start : (refusalOf (startCarryOf (reached h .volume) m s .answer) ≡ 1)
+      ↔ (geometryOf (reached h .volume) .tag ≢ tagOf First)
+  pub restamp : (refusalOf (restampOf (reached h .volume) m s .answer) ≡ 1)
+      ↔ (geometryOf (reached h .volume) .tag ≢ carryTag)
+  pub finish : (refusalOf (finishCarryOf (reached h .volume) m s .answer) ≡ 1)
+      ↔ (geometryOf (reached h .volume) .tag ≢ carryTag)
   pub others : (c : Call) → carries c ≡ false → refusalOf (outcomeOf c (reached h .volume) m s .answer) ≢ 1
 
 -- some event is a Start, whole or cut
@@ -109,7 +118,8 @@ startsIn (damage at xs ∷ es) = startsIn es
 -- Start came, and one in which none did
 abbrev pub AsIfNotBegun : Type 0
 AsIfNotBegun =
-    (h k : History) → Legal h → Legal k → h .pages ≡ k .pages → startsIn (h .events) ≡ true → startsIn (k .events) ≡ false
+    (h k : History) → Legal h → Legal k → h .pages ≡ k .pages
+    → startsIn (h .events) ≡ true → startsIn (k .events) ≡ false
     → Safe h → Safe k → durableOf h ≡ durableOf k → (x y : List ℕ) → length x ≡ 256 → length y ≡ 256
     → (p : ℕ) → 1 ≤ p → p ≤ h .pages → Agree h k x y p
 

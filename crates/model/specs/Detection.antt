@@ -47,12 +47,15 @@ pub record Detection : Type 0 where
       → sumHolds byteSum n (withWord x at u w) ≡ false
   -- the image: its sum is wrong, it is valid as no page's, its class is Failed whatever the index says, and a history
   -- allows it as damage
-  pub image : (g : Geometry) (x : List ℕ) (at u w : ℕ) → ImageError g x at u w → imageSealed g (withWord x at u w) ≡ false
-  pub invalid : (g : Geometry) (x : List ℕ) (at u w : ℕ) → ImageError g x at u w → (p : ℕ) → validImage g p (withWord x at u w) ≡ false
+  pub image : (g : Geometry) (x : List ℕ) (at u w : ℕ) → ImageError g x at u w
+      → imageSealed g (withWord x at u w) ≡ false
+  pub invalid : (g : Geometry) (x : List ℕ) (at u w : ℕ) → ImageError g x at u w
+      → (p : ℕ) → validImage g p (withWord x at u w) ≡ false
   pub class : (g : Geometry) (x : List ℕ) (at u w : ℕ) → ImageError g x at u w
       → (p : ℕ) (v : View) → v .own ≡ withWord x at u w → classIn g p v ≡ Failed
   pub damages : (m : Machine) (x : List ℕ) (at u w : ℕ) → ImageError (geometryOf (m .volume)) x at u w
-      → (place : Place) → isImage (geometryOf (m .volume)) place ≡ true → allowed m (damage place (withWord x at u w)) ≡ true
+      → (place : Place) → isImage (geometryOf (m .volume)) place ≡ true
+      → allowed m (damage place (withWord x at u w)) ≡ true
   -- an erased item, all FF, fails both sums, whatever its size
   pub erased : (n m : ℕ) → n + 4 ≤ m
       → (sumHolds checksum n (replicate m 0xFF) ≡ false) × (sumHolds byteSum n (replicate m 0xFF) ≡ false)

@@ -98,13 +98,16 @@ pub record ForecastClaim : Type 0 where
   pub table : (v : List ℕ) → ByTable (scanRows v) (forecastOf v .refusal)
   pub refused : (v : List ℕ) → forecastOf v .refusal ≢ 0 → forecastOf v .pages ≡ replicate 64 (counted 0)
   -- "the count that inspection would report", 0 where it gives 7, and 23 where it does
-  pub exact : (v : List ℕ) (p : ℕ) (buffer : List ℕ) → Asked v p buffer → forecastRow v p ≡ figureIn (inspectOf v p buffer .answer)
+  pub exact : (v : List ℕ) (p : ℕ) (buffer : List ℕ) → Asked v p buffer
+      → forecastRow v p ≡ figureIn (inspectOf v p buffer .answer)
   -- an inspection that is refused 1, 17 or 18: so is the call
   pub alike : (v : List ℕ) (p : ℕ) (buffer : List ℕ) (n : ℕ) → inspectOf v p buffer .answer ≡ Refused n
       → (n ≡ 1) ⊎ ((n ≡ 17) ⊎ (n ≡ 18)) → forecastOf v .refusal ≡ n
   pub past : (v : List ℕ) (p : ℕ) → geometryOf v .pages < p → forecastRow v p ≡ counted 0
   -- "without building a page": of an image nothing counts but what it is valid as and its number
   pub page : (v x : List ℕ) (p : ℕ) → validVolume v ≡ true → within (geometryOf v .pages) p ≡ true → length x ≡ 256
-      → JudgedAlike v x (item (geometryOf v) v (pageAt p)) → forecastOf (store (geometryOf v) v (pageAt p) x) ≡ forecastOf v
+      → JudgedAlike v x (item (geometryOf v) v (pageAt p))
+      → forecastOf (store (geometryOf v) v (pageAt p) x) ≡ forecastOf v
   pub slot : (v x : List ℕ) (b : ℕ) → validVolume v ≡ true → within (geometryOf v .slots) b ≡ true → length x ≡ 256
-      → JudgedAlike v x (item (geometryOf v) v (slotAt b)) → forecastOf (store (geometryOf v) v (slotAt b) x) ≡ forecastOf v
+      → JudgedAlike v x (item (geometryOf v) v (slotAt b))
+      → forecastOf (store (geometryOf v) v (slotAt b) x) ≡ forecastOf v

@@ -65,7 +65,8 @@ notesOf v = field 4 (noteCountAt (pagesOf v) (slotsOf v) (recordsOf v)) v
 
 -- what a volume's heading says; where the volume is not valid the numbers mean nothing
 unfoldable pub geometryOf : List ℕ → Geometry
-geometryOf v = record { tag = byteAt v 3; pages = pagesOf v; slots = slotsOf v; records = recordsOf v; notes = notesOf v }
+geometryOf v =
+    record { tag = byteAt v 3; pages = pagesOf v; slots = slotsOf v; records = recordsOf v; notes = notesOf v }
 
 -- the same counts under another tag
 abbrev pub withTag : Geometry → ℕ → Geometry

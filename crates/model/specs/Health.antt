@@ -83,9 +83,12 @@ pub record Untouched (r : Repair) : Type 0 where
 -- No answer meets that: row 7 of Inspect, and of Load row 7 with a well-formed state, in which a page in no frame has
 -- no pending record.
 pub record Health : Type 0 where
-  pub view : (g : Geometry) (p : ℕ) (w : View) → 1 ≤ w .durable → (repairOf g p w .class ≡ Good) ↔ Untouched (repairOf g p w)
-  pub inspects : (v : List ℕ) (p : ℕ) (buffer : List ℕ) (r : Repair) → inspectOf v p buffer .answer ≡ Repaired r → (r .class ≡ Good) ↔ Untouched r
-  pub loads : (v m : List ℕ) (s : State) (p f : ℕ) (r : Repair) → loadOf v m s p f .answer ≡ Repaired r → (r .class ≡ Good) ↔ Untouched r
+  pub view : (g : Geometry) (p : ℕ) (w : View) → 1 ≤ w .durable
+      → (repairOf g p w .class ≡ Good) ↔ Untouched (repairOf g p w)
+  pub inspects : (v : List ℕ) (p : ℕ) (buffer : List ℕ) (r : Repair) → inspectOf v p buffer .answer ≡ Repaired r
+      → (r .class ≡ Good) ↔ Untouched r
+  pub loads : (v m : List ℕ) (s : State) (p f : ℕ) (r : Repair) → loadOf v m s p f .answer ≡ Repaired r
+      → (r .class ≡ Good) ↔ Untouched r
   pub failed : (g : Geometry) (p : ℕ) (w : View) → (repairOf g p w .class ≡ Failed) ↔ (validImage g p (w .own) ≡ false)
 
 -- "demand 3's histories never give Ahead": no inspection after them, and no Load in the machine that they leave
@@ -98,5 +101,6 @@ pub record NeverAhead : Type 0 where
 -- inspections that are the same agree, where demand 3 speaks of them: not refused, or 7
 abbrev pub SameAgrees : Type 0
 SameAgrees =
-    (h k : History) (x y : List ℕ) (p : ℕ) → Same (inspectOf (reached h .volume) p x) (inspectOf (reached k .volume) p y)
+    (h k : History) (x y : List ℕ) (p : ℕ)
+    → Same (inspectOf (reached h .volume) p x) (inspectOf (reached k .volume) p y)
     → (inspection h p x ≡ 7) ⊎ (inspection h p x ≡ 0) → Agree h k x y p

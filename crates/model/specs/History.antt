@@ -1,8 +1,8 @@
 -- Histories: the machine, its events and its steps, and which events may come. States document 01's paragraphs "For 2
 -- and 3 they have a history" and "A cut falls between calls or within one", and the damage that demand 3 speaks of. And
--- of document 02, §4, what carrying a volume over adds: "A heading store is whole or absent at a cut; a torn image fails
--- both sums, and one damaged before or during the carrying passes under neither, unless it was stored earlier in its
--- place."
+-- of document 02, §4, what carrying a volume over adds: "A heading store is whole or absent at a cut; a torn image
+-- fails both sums, and one damaged before or during the carrying passes under neither, unless it was stored earlier in
+-- its place."
 use Prim.Native.Nat.{ℕ, suc}
 use mathlib.Core.Bool.{Bool, true, false, cond, _&&_, _||_, not}
 use mathlib.Core.List.{List, [], _∷_}
@@ -75,8 +75,8 @@ storedBefore at xs (nothing ∷ past) = storedBefore at xs past
 storedBefore at xs (newHeading tag ∷ past) = storedBefore at xs past
 storedBefore at xs (oneItem at′ ys ∷ past) = (samePlace at at′ && sameBytes xs ys) || storedBefore at xs past
 
--- a restamped image "counts as stored in its place exactly if the image that it restamps does": otherwise a forgery that
--- passes in a slot outside the index would be stored by its restamp, and might be returned where the slot is noted
+-- a restamped image "counts as stored in its place exactly if the image that it restamps does": otherwise a forgery
+-- that passes in a slot outside the index would be stored by its restamp, and might be returned where the slot is noted
 abbrev pub restampCounts : List ℕ → StoredItem → List StoredItem → Bool
 restampCounts v nothing past = true
 restampCounts v (oneItem at xs) past = storedBefore at (item (geometryOf v) v at) past
@@ -114,7 +114,11 @@ abbrev pub callIn : Power → List ℕ → Call → List StoredItem → Machine
 callIn off v c past = record { volume = v; power = off; past = past }
 callIn (on m s) v c past =
     let o = outcomeOf c v m s in
-    record { volume = volumeAfter v (o .stored); power = on (o .memory) (o .state); past = pastAfter c v (o .stored) past }
+    record {
+      volume = volumeAfter v (o .stored);
+      power = on (o .memory) (o .state);
+      past = pastAfter c v (o .stored) past;
+    }
 
 -- the volume after a crash that left the item so
 abbrev pub leftVolume : List ℕ → StoredItem → Left → List ℕ
@@ -141,7 +145,8 @@ step w (restart m) = record { volume = w .volume; power = restarted (w .volume) 
 step w (perform c) = callIn (w .power) (w .volume) c (w .past)
 step w crash = record { volume = w .volume; power = off; past = w .past }
 step w (crashIn c l) = crashedIn (w .power) (w .volume) c l (w .past)
-step w (damage at xs) = record { volume = store (geometryOf (w .volume)) (w .volume) at xs; power = w .power; past = w .past }
+step w (damage at xs) =
+    record { volume = store (geometryOf (w .volume)) (w .volume) at xs; power = w .power; past = w .past }
 
 -- ---- which events may come
 
@@ -216,7 +221,8 @@ isStartCarry finishCarry = false
 -- a Start that its table does not refuse is made where the volume is carriable
 abbrev pub startFits : Power → List ℕ → Call → Bool
 startFits off v c = true
-startFits (on m s) v c = not (isStartCarry c) || (not (eqb (firstOf (startCarryRows v m s)) 0) || carriable (geometryOf v) v s)
+startFits (on m s) v c =
+    not (isStartCarry c) || (not (eqb (firstOf (startCarryRows v m s)) 0) || carriable (geometryOf v) v s)
 
 abbrev pub leftNew : Left → Bool
 leftNew old = false
@@ -229,7 +235,8 @@ abbrev pub damageFits : Machine → Place → List ℕ → Bool
 damageFits w at xs =
     let g = geometryOf (w .volume) in
     all
-    (isImage g at ∷ eqb (length xs) 256 ∷ (not (passesAt g (indexOf g (w .volume)) at xs) || storedBefore at xs (w .past)) ∷ [])
+    (isImage g at ∷ eqb (length xs) 256
+    ∷ (not (passesAt g (indexOf g (w .volume)) at xs) || storedBefore at xs (w .past)) ∷ [])
 
 unfoldable pub allowed : Machine → Event → Bool
 allowed w (restart m) = true

@@ -27,7 +27,8 @@ pub record SamePage (v w : List ℕ) (p : ℕ) : Type 0 where
   pub copy : pageView v p .backup ≢ 0 → pageView v p .copy ≡ pageView w p .copy
 
 pub record NeighboursClaim : Type 0 where
-  pub inspect : (v w : List ℕ) → Restarts v → Restarts w → (p : ℕ) → SamePage v w p → (x y : List ℕ) → length x ≡ length y
+  pub inspect : (v w : List ℕ) → Restarts v → Restarts w → (p : ℕ) → SamePage v w p
+      → (x y : List ℕ) → length x ≡ length y
       → (inspectOf v p x .answer ≡ inspectOf w p y .answer)
       × (refusalOf (inspectOf v p x .answer) ≡ 0 → inspectOf v p x .buffer ≡ inspectOf w p y .buffer)
   -- "The archive of §6 gets the same statement for one page's section": as it is cut from the two archives

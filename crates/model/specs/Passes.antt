@@ -35,7 +35,8 @@ isImage g (noteAt n) = false
 
 -- ---- by one of the two sums
 
--- the geometry whose images are judged by words alone, as under the first heading, and by bytes alone, as under the second
+-- the geometry whose images are judged by words alone, as under the first heading, and by bytes alone, as under the
+-- second
 abbrev pub byWords : Geometry → Geometry
 byWords g = withTag g (tagOf First)
 

@@ -48,14 +48,16 @@ abbrev pub chainBelow : Geometry → List ℕ → State → ℕ → Bool
 chainBelow g v s p = isBelow (walkOf g p (viewOf g v (firstHeld g v (s .durable)) (entryOf (s .index) p) p) .stop)
 
 abbrev pub foundBelow : Geometry → List ℕ → ℕ → Bool
-foundBelow g v p = isBelow (walkOf g p (viewOf g v (firstHeld g v (durableCount g v)) (entryOf (indexOf g v) p) p) .stop)
+foundBelow g v p =
+    isBelow (walkOf g p (viewOf g v (firstHeld g v (durableCount g v)) (entryOf (indexOf g v) p) p) .stop)
 
 -- ---- the tables
 
 -- the rows 1 and 2 of a call on the state, before its own
 abbrev pub stateRows : List ℕ → List ℕ → State → List Row → List Row
 stateRows v m s rows =
-    (not (validVolume v), 1) ∷ (not (validMemory (length m)), 2) ∷ (not (wellFormed (geometryOf v) (frameCount (length m)) s), 2) ∷ rows
+    (not (validVolume v), 1) ∷ (not (validMemory (length m)), 2)
+    ∷ (not (wellFormed (geometryOf v) (frameCount (length m)) s), 2) ∷ rows
 
 unfoldable pub makeRows : List ℕ → ℕ → ℕ → ℕ → ℕ → List Row
 makeRows v p b l n = (not (validCounts p b l n && eqb (length v) (lengthFor p b l n)), 1) ∷ []
@@ -67,21 +69,24 @@ unfoldable pub beginRows : List ℕ → List ℕ → State → ℕ → ℕ → L
 beginRows v m s page frame =
     let g = geometryOf v in
     stateRows v m s
-    ((not (within (g .pages) page), 3) ∷ (not (within (frameCount (length m)) frame), 4) ∷ (not (blank s page), 9) ∷ (frameBlocked s frame, 10)
+    ((not (within (g .pages) page), 3) ∷ (not (within (frameCount (length m)) frame), 4)
+    ∷ (not (blank s page), 9) ∷ (frameBlocked s frame, 10)
     ∷ (eqb (s .pending) 16, 11) ∷ (logFull g v s, 12) ∷ [])
 
 unfoldable pub loadRows : List ℕ → List ℕ → State → ℕ → ℕ → List Row
 loadRows v m s page frame =
     let g = geometryOf v in
     stateRows v m s
-    ((not (within (g .pages) page), 3) ∷ (not (within (frameCount (length m)) frame), 4) ∷ (blank s page, 7) ∷ (held s page, 9)
+    ((not (within (g .pages) page), 3) ∷ (not (within (frameCount (length m)) frame), 4)
+    ∷ (blank s page, 7) ∷ (held s page, 9)
     ∷ (frameBlocked s frame, 10) ∷ (chainBroken g v s page, 19) ∷ (chainBelow g v s page, 23) ∷ [])
 
 unfoldable pub changeRows : List ℕ → List ℕ → State → ℕ → Change → List Row
 changeRows v m s page c =
     let g = geometryOf v in
     stateRows v m s
-    ((not (within (g .pages) page), 3) ∷ (not (fits c), 6) ∷ (not (held s page), 8) ∷ (eqb (s .pending) 16, 11) ∷ (logFull g v s, 12) ∷ [])
+    ((not (within (g .pages) page), 3)
+    ∷ (not (fits c), 6) ∷ (not (held s page), 8) ∷ (eqb (s .pending) 16, 11) ∷ (logFull g v s, 12) ∷ [])
 
 unfoldable pub forceRows : List ℕ → List ℕ → State → List Row
 forceRows v m s = stateRows v m s []
@@ -92,20 +97,23 @@ writeRows v m s page =
     let g = geometryOf v in
     let d = pageDirty s page in
     stateRows v m s
-    ((not (within (g .pages) page), 3) ∷ (not (held s page), 8) ∷ (d && notePending (s .note), 13) ∷ (d && notesFull g v s, 14)
+    ((not (within (g .pages) page), 3) ∷ (not (held s page), 8)
+    ∷ (d && notePending (s .note), 13) ∷ (d && notesFull g v s, 14)
     ∷ (d && notDurable m s page, 15) ∷ [])
 
 unfoldable pub backupRows : List ℕ → List ℕ → State → ℕ → ℕ → List Row
 backupRows v m s page slot =
     let g = geometryOf v in
     stateRows v m s
-    ((not (within (g .pages) page), 3) ∷ (not (within (g .slots) slot), 5) ∷ (not (held s page), 8) ∷ (notePending (s .note), 13)
-    ∷ (notesFull g v s, 14) ∷ (notDurable m s page, 15) ∷ (slotUsed slot (s .index), 16) ∷ [])
+    ((not (within (g .pages) page), 3) ∷ (not (within (g .slots) slot), 5) ∷ (not (held s page), 8)
+    ∷ (notePending (s .note), 13) ∷ (notesFull g v s, 14) ∷ (notDurable m s page, 15)
+    ∷ (slotUsed slot (s .index), 16) ∷ [])
 
 unfoldable pub releaseRows : List ℕ → List ℕ → State → ℕ → List Row
 releaseRows v m s page =
     let g = geometryOf v in
-    stateRows v m s ((not (within (g .pages) page), 3) ∷ (not (held s page), 8) ∷ (frameBlocked s (holder s page), 10) ∷ [])
+    stateRows v m s
+    ((not (within (g .pages) page), 3) ∷ (not (held s page), 8) ∷ (frameBlocked s (holder s page), 10) ∷ [])
 
 unfoldable pub noteRows : List ℕ → List ℕ → State → List Row
 noteRows v m s = stateRows v m s []

@@ -143,7 +143,8 @@ leastUsed fs (suc n) = let f = leastUsed fs n in cond (ltb (useRow fs n .used) (
 unfoldable pub evicted : Settings → Rehearsal → ℕ → List Figures
 evicted t m f =
     let x = useRow (m .frames) f in
-    cond (isWritten (t .victim) && x .dirty) (setRow (m .pages) (x .page) (withImage (pageRow (m .pages) (x .page)))) (m .pages)
+    cond (isWritten (t .victim) && x .dirty)
+    (setRow (m .pages) (x .page) (withImage (pageRow (m .pages) (x .page)))) (m .pages)
 
 -- what a load of a page with n changes replays: nothing of one that was written when it left; of one that was let go
 -- its changes since its last backup, which stands at the last multiple of k
@@ -156,11 +157,14 @@ broughtIn t pages p =
     let r = pageRow pages p in
     cond (eqb (r .records) 0) pages (setRow pages p (withLoad r (replayedBy t (r .records))))
 
--- event i uses row f, which holds page p: found there, or brought there in place of the victim. A page that is loaded is
--- dirty where victims are let go: its image on disk is old
+-- event i uses row f, which holds page p: found there, or brought there in place of the victim. A page that is loaded
+-- is dirty where victims are let go: its image on disk is old
 abbrev pub foundIn : ℕ → Rehearsal → ℕ → Bool → ℕ → Rehearsal
 foundIn i m p change f =
-    record { frames = set (m .frames) f (record { page = p; used = i; dirty = change || useRow (m .frames) f .dirty }); pages = m .pages }
+    record {
+      frames = set (m .frames) f (record { page = p; used = i; dirty = change || useRow (m .frames) f .dirty });
+      pages = m .pages;
+    }
 
 abbrev pub missing : Settings → ℕ → Rehearsal → ℕ → Bool → ℕ → Rehearsal
 missing t i m p change f =
@@ -180,7 +184,8 @@ unfoldable pub withChange : ℕ → Figures → Figures
 withChange k r = let x = withRecord r in cond (eqb (x .records % k) 0) (withBackup x) x
 
 unfoldable pub changed : Settings → Rehearsal → ℕ → Rehearsal
-changed t m p = record { frames = m .frames; pages = setRow (m .pages) p (withChange (t .every) (pageRow (m .pages) p)) }
+changed t m p =
+    record { frames = m .frames; pages = setRow (m .pages) p (withChange (t .every) (pageRow (m .pages) p)) }
 
 -- "A page's first change is its begin, later ones are puts; a read before that does nothing"
 unfoldable pub stepOn : Settings → ℕ → Rehearsal → Access → Rehearsal

@@ -77,14 +77,15 @@ victimRow n past s = lowest n (λ i. every n (λ j. leb (useOf past s i) (useOf 
 
 -- a frame's page makes way: a dirty one is "either written and noted or let go"; a clean one leaves by the Load or
 -- Begin itself
-abbrev pub makeWay : Settings → Frame → List Call
-makeWay t x = cond (x .dirty) (cond (isWritten (t .victim)) (write (x .page) ∷ note ∷ []) (release (x .page) ∷ [])) []
+abbrev pub evictionCalls : Settings → Frame → List Call
+evictionCalls t x =
+    cond (x .dirty) (cond (isWritten (t .victim)) (write (x .page) ∷ note ∷ []) (release (x .page) ∷ [])) []
 
 -- page p is brought into the victim's frame: by its Begin, which is its first change, or by a Load
 unfoldable pub bringIn : Settings → Choice → List ℕ → State → ℕ → List Call
 bringIn t c past s p =
     let i = victimRow (t .frames) past s in
-    makeWay t (frameRow s i) ++ (cond (blank s p) (begin p (suc i) (c .fill)) (load p (suc i)) ∷ [])
+    evictionCalls t (frameRow s i) ++ (cond (blank s p) (begin p (suc i) (c .fill)) (load p (suc i)) ∷ [])
 
 -- "a backup of a page, noted at once, after every k of its changes": n of them with this one
 abbrev pub backUp : Settings → Choice → ℕ → ℕ → List Call
@@ -175,7 +176,8 @@ pub record Site : Type 0 where
 -- "a fresh volume", restarted; Make and Restart are not counted
 unfoldable pub restartedSite : Site → Played
 restartedSite x =
-    let w = step (freshMachine (x .heading) (x .found) (x .pages) (x .slots) (x .records) (x .notes)) (restart (x .memory)) in
+    let w = step (freshMachine (x .heading) (x .found) (x .pages) (x .slots) (x .records) (x .notes))
+    (restart (x .memory)) in
     record { machine = w; figures = replicate 64 noFigures; refused = not (isOn (w .power)) }
 
 unfoldable pub realRun : Site → Settings → Choices → List ℕ → Played
@@ -221,5 +223,6 @@ pub record Roomy (x : Site) (t : Settings) (choices : Choices) (events : List �
 -- then no call is refused: so the claim above is about every list, given the room
 abbrev pub EnoughRoom : Type 0
 EnoughRoom =
-    (x : Site) (t : Settings) (choices : Choices) (events : List ℕ) → Tried x t choices events → Roomy x t choices events
+    (x : Site) (t : Settings) (choices : Choices) (events : List ℕ)
+    → Tried x t choices events → Roomy x t choices events
     → realRun x t choices events .refused ≡ false

@@ -141,4 +141,5 @@ isBelow Below = true
 
 -- "The answer holds the class, the start and the count replayed"
 unfoldable pub repairOf : Geometry → ℕ → View → Repair
-repairOf g p w = record { class = classIn g p w; start = startOf (walkOf g p w .stop); count = length (walkOf g p w .chain) }
+repairOf g p w =
+    record { class = classIn g p w; start = startOf (walkOf g p w .stop); count = length (walkOf g p w .chain) }

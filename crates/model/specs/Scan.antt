@@ -33,14 +33,17 @@ larger a b = cond (leb a b) b a
 -- that start with their number
 unfoldable pub highest : ℕ → (ℕ → List ℕ) → ℕ → ℕ
 highest c slot zero = 0
-highest c slot (suc i) = let rest = highest c slot i in larger rest (cond (sealed c (slot (suc i))) (field 4 0 (slot (suc i))) 0)
+highest c slot (suc i) =
+    let rest = highest c slot i in
+    larger rest (cond (sealed c (slot (suc i))) (field 4 0 (slot (suc i))) 0)
 
 -- ---- the log
 
 -- no ring: "records 1 to n have right checks, slot n + 1 hasn't": n. A ring: the highest number in a whole slot
 unfoldable pub durableCount : Geometry → List ℕ → ℕ
 durableCount g v =
-    cond (ring g) (highest 60 (λ i. item g v (recordAt i)) (g .records)) (sealedRun 60 (g .records) v (start g (recordAt 1)))
+    cond (ring g) (highest 60 (λ i. item g v (recordAt i)) (g .records))
+    (sealedRun 60 (g .records) v (start g (recordAt 1)))
 
 -- the run start, with n records: f = max(1, n − L + 1), or one later if slot(f) is not whole; 1 where there is no ring
 unfoldable pub firstHeld : Geometry → List ℕ → ℕ → ℕ
@@ -70,8 +73,8 @@ unfoldable pub recordFits : Geometry → List ℕ → ℕ → List Entry → ℕ
 recordFits g v f index n =
     let e = logRecord g v n in
     all
-    (sealed 60 (item g v (logSlot g n)) ∷ recordLayout (item g v (logSlot g n)) ∷ eqb (e .lsn) n ∷ within (g .pages) (e .page)
-    ∷ linked f (entryOf index (e .page) .last) e ∷ [])
+    (sealed 60 (item g v (logSlot g n)) ∷ recordLayout (item g v (logSlot g n))
+    ∷ eqb (e .lsn) n ∷ within (g .pages) (e .page) ∷ linked f (entryOf index (e .page) .last) e ∷ [])
 
 -- what follows a section's last number n, of `count` slots: past the turn nothing is asked; before it slot n + 1 is not
 -- whole, and the run starts at 1
@@ -84,7 +87,8 @@ validLog g v =
     let n = durableCount g v in
     let f = firstHeld g v n in
     every (suc n - f) (λ i. recordFits g v f (logIndex g v f i) (f + i))
-    && (endsAt (g .records) n f (sealed 60 (item g v (recordAt (suc n)))) && restZero 64 (g .records) v (start g (recordAt 1)) n)
+    && (endsAt (g .records) n f (sealed 60 (item g v (recordAt (suc n))))
+    && restZero 64 (g .records) v (start g (recordAt 1)) n)
 
 -- "record 1 has left": 24's condition. Not on a fresh volume, where the run start is 2
 unfoldable pub gone : Geometry → List ℕ → Bool
@@ -94,7 +98,8 @@ gone g v = let n = durableCount g v in ltb 0 n && ltb 1 (firstHeld g v n)
 
 unfoldable pub noteCount : Geometry → List ℕ → ℕ
 noteCount g v =
-    cond (noteRing g) (highest 12 (λ i. item g v (noteAt i)) (g .notes)) (sealedRun 12 (g .notes) v (start g (noteAt 1)))
+    cond (noteRing g) (highest 12 (λ i. item g v (noteAt i)) (g .notes))
+    (sealedRun 12 (g .notes) v (start g (noteAt 1)))
 
 unfoldable pub firstNote : Geometry → List ℕ → ℕ → ℕ
 firstNote g v n =
@@ -114,7 +119,9 @@ noteIndex g v f (suc c) = enterNote (noteIndex g v f c) (noteRecord g v (f + c))
 unfoldable pub noteFollows : Geometry → List Entry → Note → Bool
 noteFollows g index e =
     cond (isWritten e) (leb (entryOf index (e .page) .written) (e .lsn))
-    (all (leb (entryOf index (e .page) .backup) (e .lsn) ∷ within (g .slots) (e .slot) ∷ not (slotUsed (e .slot) index) ∷ []))
+    (all
+    (leb (entryOf index (e .page) .backup) (e .lsn)
+    ∷ within (g .slots) (e .slot) ∷ not (slotUsed (e .slot) index) ∷ []))
 
 -- note k, after notes that gave the index: its check and layout, "its place's number and a page in range", and it
 -- "names a durable record of its page", which is looked up only from the run's start on
@@ -123,7 +130,8 @@ noteFits g v index k =
     let e = noteRecord g v k in
     let n = durableCount g v in
     all
-    (sealed 12 (item g v (noteSlot g k)) ∷ noteLayout e ∷ eqb (e .number) k ∷ within (g .pages) (e .page) ∷ within n (e .lsn)
+    (sealed 12 (item g v (noteSlot g k)) ∷ noteLayout e ∷ eqb (e .number) k
+    ∷ within (g .pages) (e .page) ∷ within n (e .lsn)
     ∷ (ltb (e .lsn) (firstHeld g v n) || eqb (logRecord g v (e .lsn) .page) (e .page)) ∷ noteFollows g index e ∷ [])
 
 -- the index that a volume's log and notes give: "a page with no record in the run gets last = durable = its last backup

@@ -51,7 +51,8 @@ abbrev pub emptyFrame : Frame
 emptyFrame = record { page = 0; dirty = false }
 
 unfoldable pub zeroState : State
-zeroState = record { durable = 0; pending = 0; notes = 0; note = Absent; frames = replicate 16 emptyFrame; index = emptyIndex }
+zeroState =
+    record { durable = 0; pending = 0; notes = 0; note = Absent; frames = replicate 16 emptyFrame; index = emptyIndex }
 
 -- row i of the frame table, counted from 0, and that of frame f
 abbrev pub frameRow : State → ℕ → Frame
@@ -75,7 +76,9 @@ recordNeeded g v s j =
     let e = logRecord g v j in
     let x = entryOf (s .index) (e .page) in
     ltb (s .durable) j
-    || all (sealed 60 r ∷ eqb (e .lsn) j ∷ not (within (g .pages) (e .page) && (not (eqb (x .slot) 0) && leb j (x .backup))) ∷ [])
+    || all
+    (sealed 60 r ∷ eqb (e .lsn) j
+    ∷ not (within (g .pages) (e .page) && (not (eqb (x .slot) 0) && leb j (x .backup))) ∷ [])
 
 -- 12: the last number is given; or, in a ring, the record that the next one would displace is needed
 unfoldable pub logFull : Geometry → List ℕ → State → Bool
@@ -88,18 +91,21 @@ abbrev pub noteWhole : Geometry → List ℕ → ℕ → Bool
 noteWhole g v j = sealed 12 (item g v (noteSlot g j)) && eqb (noteRecord g v j .number) j
 
 abbrev pub noteLike : Geometry → List ℕ → ℕ → ℕ → Bool
-noteLike g v j i = eqb (noteRecord g v i .page) (noteRecord g v j .page) && eqb (noteRecord g v i .kind) (noteRecord g v j .kind)
+noteLike g v j i =
+    eqb (noteRecord g v i .page) (noteRecord g v j .page) && eqb (noteRecord g v i .kind) (noteRecord g v j .kind)
 
 -- note j, of k, is not known to be spare: it stands whole, and no later one of its page and kind does
 unfoldable pub noteNeeded : Geometry → List ℕ → ℕ → ℕ → Bool
-noteNeeded g v k j = noteWhole g v j && every (k - j) (λ i. not (noteWhole g v (suc (j + i)) && noteLike g v j (suc (j + i))))
+noteNeeded g v k j =
+    noteWhole g v j && every (k - j) (λ i. not (noteWhole g v (suc (j + i)) && noteLike g v j (suc (j + i))))
 
 -- 14: there is no note slot; or the last number is given; or, in a ring, the note that the next one would displace is
 -- needed
 unfoldable pub notesFull : Geometry → List ℕ → State → Bool
 notesFull g v s =
     let k = lastNote s in
-    eqb (g .notes) 0 || (leb (mostNotes g) k || (noteRing g && (leb (g .notes) k && noteNeeded g v k (suc k - g .notes))))
+    eqb (g .notes) 0
+    || (leb (mostNotes g) k || (noteRing g && (leb (g .notes) k && noteNeeded g v k (suc k - g .notes))))
 
 abbrev pub notePending : PendingNote → Bool
 notePending Absent = false
@@ -129,8 +135,8 @@ unfoldable pub pendingNoteFits : Geometry → ℕ → ℕ → PendingNote → Bo
 pendingNoteFits g notes durable Absent = true
 pendingNoteFits g notes durable (Present n) =
     all
-    (ltb notes (mostNotes g) ∷ ltb 0 (g .notes) ∷ noteLayout n ∷ eqb (n .number) (notes + 1) ∷ within (g .pages) (n .page) ∷ (isWritten n || within (g .slots) (n .slot))
-    ∷ leb (n .lsn) durable ∷ [])
+    (ltb notes (mostNotes g) ∷ ltb 0 (g .notes) ∷ noteLayout n ∷ eqb (n .number) (notes + 1)
+    ∷ within (g .pages) (n .page) ∷ (isWritten n || within (g .slots) (n .slot)) ∷ leb (n .lsn) durable ∷ [])
 
 -- no frame before frame i, counted from 0, holds its page
 abbrev pub firstHolder : State → ℕ → Bool
@@ -143,20 +149,22 @@ frameFits g frames s i =
     let f = frameRow s i in
     let empty = eqb (f .page) 0 in
     all
-    (leb (f .page) (g .pages) ∷ (empty || firstHolder s i) ∷ (empty || not (blank s (f .page))) ∷ (not empty || not (f .dirty))
-    ∷ (ltb i frames || empty) ∷ [])
+    (leb (f .page) (g .pages) ∷ (empty || firstHolder s i) ∷ (empty || not (blank s (f .page)))
+    ∷ (not empty || not (f .dirty)) ∷ (ltb i frames || empty) ∷ [])
 
 -- "newest is at most durable + pending, newest durable at most newest and the durable count, written and backup numbers
 -- at most newest durable, the slot at most B"; "a page in no frame has its newest equal to its newest durable"
 unfoldable pub entryFits : Geometry → State → ℕ → Entry → Bool
 entryFits g s p e =
     all
-    (leb (e .last) (lastNumber s) ∷ leb (e .durable) (e .last) ∷ leb (e .durable) (s .durable) ∷ leb (e .written) (e .durable)
-    ∷ leb (e .backup) (e .durable) ∷ leb (e .slot) (g .slots) ∷ (held s p || eqb (e .last) (e .durable)) ∷ [])
+    (leb (e .last) (lastNumber s) ∷ leb (e .durable) (e .last) ∷ leb (e .durable) (s .durable)
+    ∷ leb (e .written) (e .durable) ∷ leb (e .backup) (e .durable)
+    ∷ leb (e .slot) (g .slots) ∷ (held s p || eqb (e .last) (e .durable)) ∷ [])
 
 -- "pages past P are zero"
 abbrev pub entryZero : Entry → Bool
-entryZero e = all (eqb (e .last) 0 ∷ eqb (e .durable) 0 ∷ eqb (e .written) 0 ∷ eqb (e .slot) 0 ∷ eqb (e .backup) 0 ∷ [])
+entryZero e =
+    all (eqb (e .last) 0 ∷ eqb (e .durable) 0 ∷ eqb (e .written) 0 ∷ eqb (e .slot) 0 ∷ eqb (e .backup) 0 ∷ [])
 
 -- of page i + 1
 unfoldable pub pageFits : Geometry → State → ℕ → Bool
@@ -166,5 +174,6 @@ pageFits g s i = let e = entryRow (s .index) i in cond (ltb i (g .pages)) (entry
 unfoldable pub wellFormed : Geometry → ℕ → State → Bool
 wellFormed g frames s =
     all
-    (leb (s .durable + s .pending) (most g) ∷ leb (s .pending) 16 ∷ leb (s .notes) (mostNotes g) ∷ pendingNoteFits g (s .notes) (s .durable) (s .note)
+    (leb (s .durable + s .pending) (most g) ∷ leb (s .pending) 16 ∷ leb (s .notes) (mostNotes g)
+    ∷ pendingNoteFits g (s .notes) (s .durable) (s .note)
     ∷ every 16 (frameFits g frames s) ∷ every 64 (pageFits g s) ∷ [])

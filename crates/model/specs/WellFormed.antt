@@ -30,9 +30,11 @@ entersIndex finishCarry = false
 -- the state that a call leaves, judged by the volume that it leaves and the frames of the memory lent
 pub record StaysFormed (c : Call) (v m : List ℕ) (s : State) : Type 0 where
   pub arrays : Arrays (outcomeOf c v m s .state)
-  pub state : wellFormed (geometryOf (volumeAfter v (outcomeOf c v m s .stored))) (frameCount (length m)) (outcomeOf c v m s .state) ≡ true
+  pub state : wellFormed (geometryOf (volumeAfter v (outcomeOf c v m s .stored))) (frameCount (length m))
+      (outcomeOf c v m s .state) ≡ true
 
 abbrev pub KeepsWellFormed : Type 0
 KeepsWellFormed =
-    (c : Call) → entersIndex c ≡ false → (v m : List ℕ) (s : State) → Arrays s → wellFormed (geometryOf v) (frameCount (length m)) s ≡ true
+    (c : Call) → entersIndex c ≡ false → (v m : List ℕ) (s : State) → Arrays s
+    → wellFormed (geometryOf v) (frameCount (length m)) s ≡ true
     → StaysFormed c v m s

@@ -7,7 +7,7 @@ use Prim.Native.Nat.{ℕ, suc, _+_, _-_, _≤_, _<_}
 use native.Mathlib.Omega.{arith}
 use native.Mathlib.Decide.{ℕ-discrete}
 use lib.ListN.{length, getD}
-use lib.Seq.{getD-set-other}
+use lib.Seq.{getD-set-same, getD-set-other}
 use Rattle.laws.proofs.Tables.{true-not-false}
 use Rattle.laws.proofs.Frames.{is-held}
 use Rattle.model.specs.Tables.{firstOf}
@@ -44,32 +44,38 @@ use Rattle.rehearsed.proofs.StoreSteps.{note-step}
 use Rattle.rehearsed.proofs.BackupStep.{noted-frames, noted-quiet}
 
 release-done : (v m : List ℕ) (s : State) (p : ℕ) → firstOf (releaseRows v m s p) ≡ 0
-    → releaseOf v m s p ≡ record { answer = Done; state = withFrames s (withFrame s (holder s p) 0 false) (s .note); memory = m; stored = nothing }
+    → releaseOf v m s p
+    ≡ record { answer = Done; state = withFrames s (withFrame s (holder s p) 0 false) (s .note); memory = m; stored = nothing }
 unfolding releaseOf
 release-done v m s p e = rw e
 
--- row f may be taken
-pub record Away (t : Settings) (events : List ℕ) (ms : List FrameUse) (g : Geometry) (v : List ℕ) (s : State) (k : List Logged) (f : ℕ) (fs : List Figures) : Type 0 where
+-- row f may be taken: it has its page q still, or none
+pub record Away (t : Settings) (events : List ℕ) (ms : List FrameUse) (g : Geometry) (v : List ℕ) (s : State) (k : List Logged) (f q : ℕ)
+    (fs : List Figures) : Type 0 where
   pub sim : Sim t events ms g v s k f 0
   pub backs : Backups t g s k
   pub quiet : s .note ≡ Absent
   pub rows : Rows fs k
+  pub left : (frameRow s f .page ≡ q) ⊎ (frameRow s f .page ≡ 0)
 
 -- a written note leaves every backup number
 noted-backups : (s : State) (n : Note) → n .kind ≡ 1 → (q : ℕ) → entryOf (notedState s n .index) q .backup ≡ entryOf (s .index) q .backup
 unfolding notedState enterNote
-noted-backups s n e q = backup-kept (s .index) (n .page) (withNote (entryOf (s .index) (n .page)) n) (same (entryOf (s .index) (n .page)) n e) q
+noted-backups s n e q =
+    backup-kept (s .index) (n .page) (withNote (entryOf (s .index) (n .page)) n) (same (entryOf (s .index) (n .page)) n e) q
   where
     same : (y : Entry) (n : Note) → n .kind ≡ 1 → withNote y n .backup ≡ y .backup
     same y n e = rw e
 
-module _ {C : Type 0} {g : Geometry} {v m : List ℕ} {past : List StoredItem} {s : State} {k : List Logged} (x : Ctx C g v m past s k []) (t : Settings) (events : List ℕ) (ms : List FrameUse)
-    (f : ℕ) (low : f < t .frames) (few : t .frames ≤ 16) (fs : List Figures) (rows : Rows fs k) (sim : Sim t events ms g v s k 16 0) (bk : Backups t g s k) (quiet : s .note ≡ Absent) where
+module _ {C : Type 0} {g : Geometry} {v m : List ℕ} {past : List StoredItem} {s : State} {k : List Logged} (x : Ctx C g v m past s k [])
+    (t : Settings) (events : List ℕ) (ms : List FrameUse)
+    (f : ℕ) (low : f < t .frames) (few : t .frames ≤ 16) (fs : List Figures) (rows : Rows fs k) (sim : Sim t events ms g v s k 16 0)
+    (bk : Backups t g s k) (quiet : s .note ≡ Absent) where
   f16 : f < 16
   f16 = omega arith
 
   -- a clean row
-  pub away-clean : frameRow s f .dirty ≡ false → Away t events ms g v s k f fs
+  pub away-clean : frameRow s f .dirty ≡ false → Away t events ms g v s k f (frameRow s f .page) fs
   away-clean d =
       record {
         sim = record {
@@ -81,11 +87,18 @@ module _ {C : Type 0} {g : Geometry} {v m : List ℕ} {past : List StoredItem} {
         backs = bk;
         quiet = quiet;
         rows = rows;
+        left = inl refl;
       }
     where
       go : (w : Victim) → OnDisk w g v s k 16 0 → OnDisk w g v s k f 0
       go Written h = λ q lo hi nz some. ⊎-elim
-          (λ y. inl (record { row = y .row; below = y .below; other = λ z. true-not-false (rw z at (y .dirty-is)) d; page-is = y .page-is; dirty-is = y .dirty-is }))
+          (λ y. inl (record {
+            row = y .row;
+            below = y .below;
+            other = λ z. true-not-false (rw z at (y .dirty-is)) d;
+            page-is = y .page-is;
+            dirty-is = y .dirty-is;
+          }))
           inr (h q lo hi nz some)
       go LetGo h = (h .0, λ j b n nz. h .1 j b (λ z. omega arith) nz)
 
@@ -119,7 +132,8 @@ module _ {C : Type 0} {g : Geometry} {v m : List ℕ} {past : List StoredItem} {
     -- ---- let go
 
     pub away-release : t .victim ≡ LetGo → playCall (Run v m past s fs) (release (frameRow s f .page)) .refused ≡ false
-        → Stage C g (playCall (Run v m past s fs) (release (frameRow s f .page))) fs k [] (λ v′ s′. Away t events ms g v′ s′ k f fs)
+        → Stage C g (playCall (Run v m past s fs) (release (frameRow s f .page))) fs k []
+        (λ v′ s′. Away t events ms g v′ s′ k f (frameRow s f .page) fs)
     unfolding volumeAfter stepCall
     away-release tv nr =
         record {
@@ -134,12 +148,15 @@ module _ {C : Type 0} {g : Geometry} {v m : List ℕ} {past : List StoredItem} {
               frames = record { size = sim .frames .size; each = λ j b n. rw (other j n) (sim .frames .each j b (λ z. omega arith)) };
               inside = λ j b l. let n : j ≢ f = λ z. omega arith in rw (other j n) (sim .inside j b l);
               begun = sim .begun;
-              disk = subst (λ (w : Victim). OnDisk w g v (gone .state) k f 0) (sym tv) (let h = subst (λ (w : Victim). OnDisk w g v s k 16 0) tv (sim .disk) in
+              disk = subst (λ (w : Victim). OnDisk w g v (gone .state) k f 0) (sym tv)
+                  (let h = subst (λ (w : Victim). OnDisk w g v s k 16 0) tv (sim .disk) in
                   (h .0, λ j b n z. rw (other j n) (h .1 j b (λ y. omega arith) (rw (other j n) at z))));
             };
             backs = bk;
             quiet = quiet;
             rows = rows;
+            left = inr (rw row-is (ap (λ (y : Frame). y .page)
+                (getD-set-same (s .frames) f emptyFrame emptyFrame (omega (arith, x .al .frames .size, f16)))));
           };
         }
       where
@@ -154,7 +171,8 @@ module _ {C : Type 0} {g : Geometry} {v m : List ℕ} {past : List StoredItem} {
 
     -- ---- written and noted
 
-    module _ (tv : t .victim ≡ Written) (nr : playCall (playCall (Run v m past s fs) (write (frameRow s f .page))) note .refused ≡ false) where
+    module _ (tv : t .victim ≡ Written)
+        (nr : playCall (playCall (Run v m past s fs) (write (frameRow s f .page))) note .refused ≡ false) where
       no₁ : playCall (Run v m past s fs) (write (frameRow s f .page)) .refused ≡ false
       no₁ = call-stays (playCall (Run v m past s fs) (write q)) note nr
 
@@ -180,7 +198,8 @@ module _ {C : Type 0} {g : Geometry} {v m : List ℕ} {past : List StoredItem} {
       done =
           record {
             answer = Done;
-            state = withFrames s (withFrame s (holder s (frameRow s f .page)) (frameRow s f .page) false) (nextNote s (frameRow s f .page) 1 0 (imageLsn (frameBytes m (holder s (frameRow s f .page)))));
+            state = withFrames s (withFrame s (holder s (frameRow s f .page)) (frameRow s f .page) false)
+                (nextNote s (frameRow s f .page) 1 0 (imageLsn (frameBytes m (holder s (frameRow s f .page)))));
             memory = m;
             stored = oneItem (pageAt (frameRow s f .page)) (sealImage g (frameBytes m (holder s (frameRow s f .page))));
           }
@@ -192,7 +211,8 @@ module _ {C : Type 0} {g : Geometry} {v m : List ℕ} {past : List StoredItem} {
       abbrev fs₁ : List Figures
       fs₁ = setRow fs q (oneImage (pageRow fs q))
 
-      run₁ : playCall (Run v m past s fs) (write (frameRow s f .page)) ≡ Run (volumeAfter v (done .stored)) m (done .stored ∷ past) (done .state) fs₁
+      run₁ : playCall (Run v m past s fs) (write (frameRow s f .page))
+          ≡ Run (volumeAfter v (done .stored)) m (done .stored ∷ past) (done .state) fs₁
       unfolding done
       run₁ = run-as v m past s fs (write q) no₁ refl done done-is
 
@@ -201,10 +221,18 @@ module _ {C : Type 0} {g : Geometry} {v m : List ℕ} {past : List StoredItem} {
       ctx₁ = ctx-as v m past s fs (write q) no₁ x refl refl done done-is k [] refl
 
       abbrev noteFor : Note
-      noteFor = record { number = lastNote s + 1; page = frameRow s f .page; kind = 1; slot = 0; lsn = imageLsn (frameBytes m (holder s (frameRow s f .page))) }
+      noteFor = record {
+        number = lastNote s + 1;
+        page = frameRow s f .page;
+        kind = 1;
+        slot = 0;
+        lsn = imageLsn (frameBytes m (holder s (frameRow s f .page)));
+      }
 
-      note₁ : Stage C g (playCall (Run (volumeAfter v (done .stored)) m (done .stored ∷ past) (done .state) fs₁) note) (setRow fs₁ q (oneNote (pageRow fs₁ q))) k []
-          (λ v′ s′. (s′ ≡ notedState (done .state) noteFor) × ((r : ℕ) → 1 ≤ r → r ≤ g .pages → item g v′ (pageAt r) ≡ item g (volumeAfter v (done .stored)) (pageAt r)))
+      note₁ : Stage C g (playCall (Run (volumeAfter v (done .stored)) m (done .stored ∷ past) (done .state) fs₁) note)
+          (setRow fs₁ q (oneNote (pageRow fs₁ q))) k []
+          (λ v′ s′. (s′ ≡ notedState (done .state) noteFor)
+          × ((r : ℕ) → 1 ≤ r → r ≤ g .pages → item g v′ (pageAt r) ≡ item g (volumeAfter v (done .stored)) (pageAt r)))
       unfolding done
       note₁ = note-step ctx₁ noteFor refl fs₁ (rw run₁ at nr)
 
@@ -215,23 +243,32 @@ module _ {C : Type 0} {g : Geometry} {v m : List ℕ} {past : List StoredItem} {
       unfolding volumeAfter done
       page-here = rw (geo x) (store-same g v (x .hs .vol) (pageAt q) image (low-page, high-page) size)
 
-      page-there : (r : ℕ) → 1 ≤ r → r ≤ g .pages → r ≢ frameRow s f .page → item g (volumeAfter v (done .stored)) (pageAt r) ≡ item g v (pageAt r)
+      page-there : (r : ℕ) → 1 ≤ r → r ≤ g .pages → r ≢ frameRow s f .page
+          → item g (volumeAfter v (done .stored)) (pageAt r) ≡ item g v (pageAt r)
       unfolding volumeAfter done
-      page-there r a b ne = rw (geo x) (store-other g v (x .hs .vol) (pageAt q) image (low-page, high-page) size (pageAt r) (a, b) (λ z. ne (omega (arith, low-page))))
+      page-there r a b ne = rw (geo x)
+          (store-other g v (x .hs .vol) (pageAt q) image (low-page, high-page) size (pageAt r) (a, b) (λ z. ne (omega (arith, low-page))))
 
       other : (j : ℕ) → j ≢ f → frameRow (done .state) j ≡ frameRow s j
       unfolding done
       other j n = rw row-is (getD-set-other (s .frames) f j (record { page = q; dirty = false }) emptyFrame n)
 
+      still : frameRow (done .state) f .page ≡ frameRow s f .page
+      unfolding done
+      still = rw row-is (ap (λ (y : Frame). y .page)
+          (getD-set-same (s .frames) f (record { page = q; dirty = false }) emptyFrame (omega (arith, x .al .frames .size, f16))))
+
       same-index : (r : ℕ) → entryOf (done .state .index) r .backup ≡ entryOf (s .index) r .backup
       unfolding done
       same-index r = refl
 
-      after : (v′ : List ℕ) (s′ : State) → s′ ≡ notedState (done .state) noteFor → ((r : ℕ) → 1 ≤ r → r ≤ g .pages → item g v′ (pageAt r) ≡ item g (volumeAfter v (done .stored)) (pageAt r))
+      after : (v′ : List ℕ) (s′ : State) → s′ ≡ notedState (done .state) noteFor
+          → ((r : ℕ) → 1 ≤ r → r ≤ g .pages → item g v′ (pageAt r) ≡ item g (volumeAfter v (done .stored)) (pageAt r))
           → Sim t events ms g v′ s′ k f 0 × Backups t g s′ k × (s′ .note ≡ Absent)
       after v′ s′ es pg =
           let fr : (j : ℕ) → j ≢ f → frameRow s′ j ≡ frameRow s j =
-          λ j n. ap (λ (l : List Frame). getD l j emptyFrame) (ap (λ (y : State). y .frames) es ∙ noted-frames (done .state) noteFor) ∙ other j n in (
+          λ j n. ap (λ (l : List Frame). getD l j emptyFrame)
+          (ap (λ (y : State). y .frames) es ∙ noted-frames (done .state) noteFor) ∙ other j n in (
             record {
               frames = record { size = sim .frames .size; each = λ j b n. rw (fr j n) (sim .frames .each j b (λ z. omega arith)) };
               inside = λ j b l. let n : j ≢ f = λ z. omega arith in rw (fr j n) (sim .inside j b l);
@@ -246,18 +283,28 @@ module _ {C : Type 0} {g : Geometry} {v m : List ℕ} {past : List StoredItem} {
           disk fr r lo hi ne some = elim (ℕ-discrete r q) [
             | yes z ↦
                 let e : item g v′ (pageAt q) ≡ image = pg q low-page high-page ∙ page-here in
-                inr (rw (z, e) (sealed-valid x q fo durable, sealed-lsn x q fo durable ∙ (lsn-is x q fo durable ∙ ap (lastOf q) (all-is x))))
+                inr (rw (z, e)
+                (sealed-valid x q fo durable, sealed-lsn x q fo durable ∙ (lsn-is x q fo durable ∙ ap (lastOf q) (all-is x))))
             | no z ↦
-                let old : DirtyIn s r 16 ⊎ Current g v r (lastOf r k) = subst (λ (w : Victim). OnDisk w g v s k 16 0) tv (sim .disk) r lo hi ne some in
+                let old : DirtyIn s r 16 ⊎ Current g v r (lastOf r k) =
+                subst (λ (w : Victim). OnDisk w g v s k 16 0) tv (sim .disk) r lo hi ne some in
                 ⊎-elim
                 (λ (y : DirtyIn s r 16).
                 let nf : y .row ≢ f = λ w. z (sym (y .page-is) ∙ ap (λ (i : ℕ). frameRow s i .page) w) in
-                inl (record { row = y .row; below = y .below; other = nf; page-is = rw (fr (y .row) nf) (y .page-is); dirty-is = rw (fr (y .row) nf) (y .dirty-is) }))
+                inl (record {
+                  row = y .row;
+                  below = y .below;
+                  other = nf;
+                  page-is = rw (fr (y .row) nf) (y .page-is);
+                  dirty-is = rw (fr (y .row) nf) (y .dirty-is);
+                }))
                 (λ (y : Current g v r (lastOf r k)). inr (rw (pg r lo hi ∙ page-there r lo hi z) y)) old
           ]
 
-      pub away-write : Stage C g (playCall (playCall (Run v m past s fs) (write (frameRow s f .page))) note) (setRow fs (frameRow s f .page) (withImage (pageRow fs (frameRow s f .page)))) k []
-          (λ v′ s′. Away t events ms g v′ s′ k f (setRow fs (frameRow s f .page) (withImage (pageRow fs (frameRow s f .page)))))
+      pub away-write : Stage C g (playCall (playCall (Run v m past s fs) (write (frameRow s f .page))) note)
+          (setRow fs (frameRow s f .page) (withImage (pageRow fs (frameRow s f .page)))) k []
+          (λ v′ s′. Away t events ms g v′ s′ k f (frameRow s f .page)
+          (setRow fs (frameRow s f .page) (withImage (pageRow fs (frameRow s f .page)))))
       away-write =
           let a = after (note₁ .volume) (note₁ .state) (note₁ .holds .0) (note₁ .holds .1) in
           record {
@@ -265,7 +312,15 @@ module _ {C : Type 0} {g : Geometry} {v m : List ℕ} {past : List StoredItem} {
             memory = note₁ .memory;
             past = note₁ .past;
             state = note₁ .state;
-            run-is = ap (λ (y : Played). playCall y note) run₁ ∙ (note₁ .run-is ∙ ap (λ (l : List Figures). Run (note₁ .volume) (note₁ .memory) (note₁ .past) (note₁ .state) l) (row-twice fs q low-page q64 (rows .size) oneImage oneNote));
+            run-is = ap (λ (y : Played). playCall y note) run₁ ∙ (note₁ .run-is ∙ ap (λ (l : List Figures). Run (note₁ .volume)
+                (note₁ .memory) (note₁ .past) (note₁ .state) l) (row-twice fs q low-page q64 (rows .size) oneImage oneNote));
             ctx = note₁ .ctx;
-            holds = record { sim = a .0; backs = a .1; quiet = a .2; rows = rows-kept fs q low-page q64 (rows .size) k (withImage (pageRow fs q)) refl rows };
+            holds = record {
+              sim = a .0;
+              backs = a .1;
+              quiet = a .2;
+              rows = rows-kept fs q low-page q64 (rows .size) k (withImage (pageRow fs q)) refl rows;
+              left = inl (ap (λ (l : List Frame). getD l f emptyFrame .page)
+                  (ap (λ (y : State). y .frames) (note₁ .holds .0) ∙ noted-frames (done .state) noteFor) ∙ still);
+            };
           }

@@ -52,22 +52,26 @@ changes-miss e p events q ea ne = rw (ea, ne-eqb p q (λ z. ne (sym z))) (omega 
 -- ---- after a change
 
 -- a page in row f of a machine
-pub holder-of : {C : Type 0} {g : Geometry} {v m : List ℕ} {past : List StoredItem} {s : State} {k w : List Logged} (x : Ctx C g v m past s k w) (p f : ℕ) → 1 ≤ p → f < 16 → frameRow s f .page ≡ p
+pub holder-of : {C : Type 0} {g : Geometry} {v m : List ℕ} {past : List StoredItem} {s : State} {k w : List Logged}
+    (x : Ctx C g v m past s k w) (p f : ℕ) → 1 ≤ p → f < 16 → frameRow s f .page ≡ p
     → holder s p ≡ suc f
 holder-of {C} {g} {v} {m} {past} {s} {k} {w} x p f lo b e =
     let h : held s p ≡ true = is-held s p f (omega (arith, x .al .frames .size)) e in
     let fd = found-frame x p lo (rw h) in
-    let q : fd .row ≡ f = one-row x f (fd .row) b (omega (arith, fd .in-table, x .al .memory .high)) (λ z. omega (arith, sym e ∙ z)) (fd .page-is ∙ sym e) in
+    let q : fd .row ≡ f = one-row x f (fd .row) b (omega (arith, fd .in-table, x .al .memory .high)) (λ z. omega (arith, sym e ∙ z))
+    (fd .page-is ∙ sym e) in
     fd .holder-is ∙ ap suc q
 
-pub page-high : {C : Type 0} {g : Geometry} {v m : List ℕ} {past : List StoredItem} {s : State} {k w : List Logged} (x : Ctx C g v m past s k w) (p f : ℕ) → 1 ≤ p → f < 16 → frameRow s f .page ≡ p
+pub page-high : {C : Type 0} {g : Geometry} {v m : List ℕ} {past : List StoredItem} {s : State} {k w : List Logged}
+    (x : Ctx C g v m past s k w) (p f : ℕ) → 1 ≤ p → f < 16 → frameRow s f .page ≡ p
     → p ≤ g .pages
 page-high {C} {g} {v} {m} {past} {s} {k} {w} x p f lo b e =
     let nz : frameRow s f .page ≢ 0 = λ z. omega (arith, sym e ∙ z) in
     rw e at (x .al .frames .each f (x .al .frames .inside f b nz) nz .high)
 
 -- a page without a change is in no frame
-pub no-page : {C : Type 0} {g : Geometry} {v m : List ℕ} {past : List StoredItem} {s : State} {k : List Logged} (x : Ctx C g v m past s k []) (p j : ℕ) → 1 ≤ p → j < 16 → countOf p k ≡ 0 → frameRow s j .page ≢ p
+pub no-page : {C : Type 0} {g : Geometry} {v m : List ℕ} {past : List StoredItem} {s : State} {k : List Logged}
+    (x : Ctx C g v m past s k []) (p j : ℕ) → 1 ≤ p → j < 16 → countOf p k ≡ 0 → frameRow s j .page ≢ p
 no-page {C} {g} {v} {m} {past} {s} {k} x p j lo b z e =
     let nz : frameRow s j .page ≢ 0 = λ y. omega (arith, sym e ∙ y) in
     let fr = x .al .frames .each j (x .al .frames .inside j b nz) nz in
@@ -75,14 +79,16 @@ no-page {C} {g} {v} {m} {past} {s} {k} x p j lo b z e =
     omega (arith, fr .some)
 
 -- a Begin that is taken has its page in range
-pub begin-high : {C : Type 0} {g : Geometry} {v m : List ℕ} {past : List StoredItem} {s : State} {k w : List Logged} (x : Ctx C g v m past s k w) (p f : ℕ) → firstOf (beginRows v m s p f) ≡ 0 → p ≤ g .pages
+pub begin-high : {C : Type 0} {g : Geometry} {v m : List ℕ} {past : List StoredItem} {s : State} {k w : List Logged}
+    (x : Ctx C g v m past s k w) (p f : ℕ) → firstOf (beginRows v m s p f) ≡ 0 → p ≤ g .pages
 unfolding beginRows
 begin-high {C} {g} {v} {m} {past} {s} {k} {w} x p f e =
     let t = passed (beginRows v m s p f) (omega arith) e in
     let r : (1 ≤ p) × (p ≤ g .pages) = rw (geo x) at (in-range (geometryOf v .pages) p (t .1 .1 .1 .0)) in
     r .1
 
-module _ (C : Type 0) (g : Geometry) (t : Settings) (F16 : t .frames ≤ 16) (K1 : 1 ≤ t .every) (events : List ℕ) (ms : List FrameUse) (f p n : ℕ) (low′ : f < t .frames) (lo : 1 ≤ p) (hi : p ≤ g .pages) (p64 : p ≤ 64)
+module _ (C : Type 0) (g : Geometry) (t : Settings) (F16 : t .frames ≤ 16) (K1 : 1 ≤ t .every) (events : List ℕ) (ms : List FrameUse)
+    (f p n : ℕ) (low′ : f < t .frames) (lo : 1 ≤ p) (hi : p ≤ g .pages) (p64 : p ≤ 64)
     (l : List Figures) (size : length l ≡ 64) (count : pageRow l p .records ≡ n) (k : List Logged) where
   abbrev more : List Figures
   more = setRow l p (withRecord (pageRow l p))
@@ -100,27 +106,40 @@ module _ (C : Type 0) (g : Geometry) (t : Settings) (F16 : t .frames ≤ 16) (K1
   settled v s h ne =
       record {
         sim = h .sim;
-        backs = λ q a b. elim (ℕ-discrete q p) [ yes z ↦ rw (z, h .count) (omega (arith, h .before, mod-more n (t .every) K1 ne)) | no z ↦ h .others q a b z ];
+        backs = λ q a b. elim (ℕ-discrete q p)
+            [ yes z ↦ rw (z, h .count) (omega (arith, h .before, mod-more n (t .every) K1 ne)) | no z ↦ h .others q a b z ];
         quiet = h .quiet;
         row-is = h .row-is;
         alone = h .alone;
         mine = mine-dirty (t .victim) g v k p;
       }
 
-  pub backed : (r : Played) (c : Choice) → Stage C g r more k [] (λ v s. Changed t events ms g v s k f p n × Rows (setRow l p (withRecord (pageRow l p))) k)
+  pub backed : (r : Played) (c : Choice)
+      → Stage C g r more k [] (λ v s. Changed t events ms g v s k f p n × Rows (setRow l p (withRecord (pageRow l p))) k)
       → playCalls r (backUp t c p (suc n)) .refused ≡ false → Stage C g (playCalls r (backUp t c p (suc n))) final k [] Done′
   unfolding withChange playCalls
   backed r c a nr = byCases (eqb (suc n % t .every) 0)
       (λ z.
       let nr₁ : playCall (playCall r (backup p (c .slot))) note .refused ≡ false = rw z at nr in
-      let b = backup-step (a .ctx) t events ms f p (c .slot) n low′ F16 lo hi more (a .holds .1) (a .holds .0) (eqb-true (suc n % t .every) 0 z)
+      let b = backup-step (a .ctx) t events ms f p (c .slot) n low′ F16 lo hi more (a .holds .1) (a .holds .0)
+      (eqb-true (suc n % t .every) 0 z)
       (subst (λ (y : Played). playCall (playCall y (backup p (c .slot))) note .refused ≡ false) (a .run-is) nr₁) in
-      let q : setRow more p (withBackup (pageRow more p)) ≡ setRow l p (cond (eqb (withRecord (pageRow l p) .records % t .every) 0) (withBackup (withRecord (pageRow l p))) (withRecord (pageRow l p))) =
+      let q : setRow more p (withBackup (pageRow more p)) ≡ setRow l p
+      (cond (eqb (withRecord (pageRow l p) .records % t .every) 0) (withBackup (withRecord (pageRow l p))) (withRecord (pageRow l p))) =
       row-twice l p lo p64 size withRecord withBackup ∙ rw (next-count, z) in
       rw z (stage-as (ap (λ (y : Played). playCall (playCall y (backup p (c .slot))) note) (a .run-is)) q
-      (record { volume = b .volume; memory = b .memory; past = b .past; state = b .state; run-is = b .run-is; ctx = b .ctx; holds = (b .holds .0, subst (λ (y : List Figures). Rows y k) q (b .holds .1)) })))
+      (record {
+        volume = b .volume;
+        memory = b .memory;
+        past = b .past;
+        state = b .state;
+        run-is = b .run-is;
+        ctx = b .ctx;
+        holds = (b .holds .0, subst (λ (y : List Figures). Rows y k) q (b .holds .1));
+      })))
       (λ z.
-      let q : more ≡ setRow l p (cond (eqb (withRecord (pageRow l p) .records % t .every) 0) (withBackup (withRecord (pageRow l p))) (withRecord (pageRow l p))) = rw (next-count, z) in
+      let q : more ≡ setRow l p (cond (eqb (withRecord (pageRow l p) .records % t .every) 0) (withBackup (withRecord (pageRow l p)))
+      (withRecord (pageRow l p))) = rw (next-count, z) in
       rw z (stage-as refl q
       (record {
         volume = a .volume;
@@ -129,5 +148,8 @@ module _ (C : Type 0) (g : Geometry) (t : Settings) (F16 : t .frames ≤ 16) (K1
         state = a .state;
         run-is = a .run-is;
         ctx = a .ctx;
-        holds = (settled (a .volume) (a .state) (a .holds .0) (eqb-false (suc n % t .every) 0 z), subst (λ (y : List Figures). Rows y k) q (a .holds .1));
+        holds = (
+          settled (a .volume) (a .state) (a .holds .0) (eqb-false (suc n % t .every) 0 z),
+          subst (λ (y : List Figures). Rows y k) q (a .holds .1),
+        );
       })))

@@ -64,7 +64,8 @@ module _ (s : State) (p lsn slot number : ℕ) (lo : 1 ≤ p) (b : p ≤ length 
   unfolding notedState enterNote
   noted-there q one ne = ap (λ (y : Entry). y .backup) (getD-set-other (s .index) (p - 1) (q - 1) _ emptyEntry (λ z. ne (omega arith)))
 
-module _ {C : Type 0} {g : Geometry} {v m : List ℕ} {past : List StoredItem} {s : State} {k : List Logged} (x : Ctx C g v m past s k []) (t : Settings) (events : List ℕ) (ms : List FrameUse)
+module _ {C : Type 0} {g : Geometry} {v m : List ℕ} {past : List StoredItem} {s : State} {k : List Logged} (x : Ctx C g v m past s k [])
+    (t : Settings) (events : List ℕ) (ms : List FrameUse)
     (f p slot n : ℕ) (low : f < t .frames) (few : t .frames ≤ 16) (lo : 1 ≤ p) (hi : p ≤ g .pages) (fs : List Figures) (rows : Rows fs k)
     (h : Changed t events ms g v s k f p n) (turn : suc n % t .every ≡ 0)
     (nr : playCall (playCall (Run v m past s fs) (backup p slot)) note .refused ≡ false) where
@@ -119,29 +120,35 @@ module _ {C : Type 0} {g : Geometry} {v m : List ℕ} {past : List StoredItem} {
   pages₁ : (q : ℕ) → 1 ≤ q → q ≤ g .pages → item g (volumeAfter v (done .stored)) (pageAt q) ≡ item g v (pageAt q)
   unfolding volumeAfter done
   pages₁ q a b =
-      rw (geo x) (store-other g v (x .hs .vol) (slotAt slot) image (asked .slot-low, asked .slot-high) (sealed-size x p (asked .frame-of) (asked .forced-to)) (pageAt q) (a, b) (omega (arith, asked .slot-low)))
+      rw (geo x) (store-other g v (x .hs .vol) (slotAt slot) image (asked .slot-low, asked .slot-high)
+      (sealed-size x p (asked .frame-of) (asked .forced-to)) (pageAt q) (a, b) (omega (arith, asked .slot-low)))
 
   abbrev noteFor : Note
   noteFor = record { number = lastNote s + 1; page = p; kind = 2; slot = slot; lsn = imageLsn (frameBytes m (holder s p)) }
 
-  note₁ : Stage C g (playCall (Run (volumeAfter v (done .stored)) m (done .stored ∷ past) (done .state) fs₁) note) (setRow fs₁ p (oneNote (pageRow fs₁ p))) k []
-      (λ v′ s′. (s′ ≡ notedState (done .state) noteFor) × ((q : ℕ) → 1 ≤ q → q ≤ g .pages → item g v′ (pageAt q) ≡ item g (volumeAfter v (done .stored)) (pageAt q)))
+  note₁ : Stage C g (playCall (Run (volumeAfter v (done .stored)) m (done .stored ∷ past) (done .state) fs₁) note)
+      (setRow fs₁ p (oneNote (pageRow fs₁ p))) k []
+      (λ v′ s′. (s′ ≡ notedState (done .state) noteFor)
+      × ((q : ℕ) → 1 ≤ q → q ≤ g .pages → item g v′ (pageAt q) ≡ item g (volumeAfter v (done .stored)) (pageAt q)))
   unfolding done
   note₁ = note-step ctx₁ noteFor refl fs₁ (rw run₁ at nr)
 
   abbrev fs₂ : List Figures
   fs₂ = setRow fs p (withBackup (pageRow fs p))
 
-  after : (v′ : List ℕ) (s′ : State) → s′ ≡ notedState (done .state) noteFor → ((q : ℕ) → 1 ≤ q → q ≤ g .pages → item g v′ (pageAt q) ≡ item g (volumeAfter v (done .stored)) (pageAt q))
+  after : (v′ : List ℕ) (s′ : State) → s′ ≡ notedState (done .state) noteFor
+      → ((q : ℕ) → 1 ≤ q → q ≤ g .pages → item g v′ (pageAt q) ≡ item g (volumeAfter v (done .stored)) (pageAt q))
       → Arrived t events ms g v′ s′ k f p true
   unfolding done
   after v′ s′ es pg =
-      let fr : (j : ℕ) → frameRow s′ j ≡ frameRow s j = λ j. ap (λ (l : List Frame). getD l j emptyFrame) (ap (λ (y : State). y .frames) es ∙ noted-frames (done .state) noteFor) in
+      let fr : (j : ℕ) → frameRow s′ j ≡ frameRow s j =
+      λ j. ap (λ (l : List Frame). getD l j emptyFrame) (ap (λ (y : State). y .frames) es ∙ noted-frames (done .state) noteFor) in
       let size : p ≤ length (s .index) = omega (arith, x .al .index .size, p64) in
       record {
         sim = sim-keep t events ms g v v′ s s′ k f p p low (λ j b z. fr j) (λ q a b. pg q a b ∙ pages₁ q a b) (λ q z. inl z) (h .sim);
         backs = λ q a b. elim (ℕ-discrete q p) [
-          | yes z ↦ rw (z, es, noted-here (done .state) p lsn slot (lastNote s + 1) lo size, last, h .count, turn) (omega (arith, count-last p k (length k), h .count))
+          | yes z ↦ rw (z, es, noted-here (done .state) p lsn slot (lastNote s + 1) lo size, last, h .count, turn)
+              (omega (arith, count-last p k (length k), h .count))
           | no z ↦ rw (es, noted-there (done .state) p lsn slot (lastNote s + 1) lo size q a z) (h .others q a b z)
         ];
         quiet = ap (λ (y : State). y .note) es ∙ noted-quiet (done .state) noteFor;
@@ -150,14 +157,19 @@ module _ {C : Type 0} {g : Geometry} {v m : List ℕ} {past : List StoredItem} {
         mine = mine-dirty (t .victim) g v′ k p;
       }
 
-  pub backup-step : Stage C g (playCall (playCall (Run v m past s fs) (backup p slot)) note) fs₂ k [] (λ v′ s′. Arrived t events ms g v′ s′ k f p true × Rows fs₂ k)
+  pub backup-step : Stage C g (playCall (playCall (Run v m past s fs) (backup p slot)) note) fs₂ k []
+      (λ v′ s′. Arrived t events ms g v′ s′ k f p true × Rows fs₂ k)
   backup-step =
       record {
         volume = note₁ .volume;
         memory = note₁ .memory;
         past = note₁ .past;
         state = note₁ .state;
-        run-is = ap (λ (y : Played). playCall y note) run₁ ∙ (note₁ .run-is ∙ ap (λ (l : List Figures). Run (note₁ .volume) (note₁ .memory) (note₁ .past) (note₁ .state) l) (row-twice fs p lo p64 (rows .size) oneBackup oneNote));
+        run-is = ap (λ (y : Played). playCall y note) run₁ ∙ (note₁ .run-is ∙ ap (λ (l : List Figures). Run (note₁ .volume) (note₁ .memory)
+            (note₁ .past) (note₁ .state) l) (row-twice fs p lo p64 (rows .size) oneBackup oneNote));
         ctx = note₁ .ctx;
-        holds = (after (note₁ .volume) (note₁ .state) (note₁ .holds .0) (note₁ .holds .1), rows-kept fs p lo p64 (rows .size) k (withBackup (pageRow fs p)) refl rows);
+        holds = (
+          after (note₁ .volume) (note₁ .state) (note₁ .holds .0) (note₁ .holds .1),
+          rows-kept fs p lo p64 (rows .size) k (withBackup (pageRow fs p)) refl rows,
+        );
       }

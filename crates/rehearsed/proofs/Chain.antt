@@ -24,7 +24,7 @@ use Rattle.history.proofs.Leaf.{RecordIs}
 use Rattle.history.proofs.Records.{AllFair, recOf, recOf-is}
 use Rattle.history.proofs.Entries.{Mark, markAt, entryFrom, mark-ok}
 use Rattle.history.proofs.Views.{no-backup}
-use Rattle.history.proofs.Disk.{first, first-is, started}
+use Rattle.history.proofs.LogScan.{first, first-is, started}
 use Rattle.history.proofs.Context.{Ctx, sized, fair, few}
 use Rattle.rehearsed.proofs.Counts.{countAt, count-zero, count-hit, count-last, none-count}
 
@@ -32,7 +32,8 @@ use Rattle.rehearsed.proofs.Counts.{countAt, count-zero, count-hit, cou
 abbrev pub Begun : List Logged → Type 0
 Begun l = (i : ℕ) → i < length l → eqb (kindOf (at l i .change)) 1 ≡ true → lastAt (at l i .page) l i ≡ 0
 
-module _ (P : ℕ) (P64 : P ≤ 64) (l : List Logged) (fr : AllFair P l) (fw : length l ≤ topNumber) (begun : Begun l) (p : ℕ) (log : ℕ → List ℕ) (from f : ℕ) (from-is : from ≡ suc f)
+module _ (P : ℕ) (P64 : P ≤ 64) (l : List Logged) (fr : AllFair P l) (fw : length l ≤ topNumber) (begun : Begun l) (p : ℕ)
+    (log : ℕ → List ℕ) (from f : ℕ) (from-is : from ≡ suc f)
     (held : (i : ℕ) → i < length l → f ≤ i → log (suc i) ≡ recOf l i) (x : ℕ) (page-of : (j : ℕ) → x ≡ suc j → at l j .page ≡ p) where
   -- the walk's chain has the page's changes after number x
   abbrev Tells : Walk → ℕ → Type 0
@@ -68,7 +69,8 @@ module _ (P : ℕ) (P64 : P ≤ 64) (l : List Logged) (fr : AllFair P l) (fw : l
         go (suc j) q = last-ge p l m j (omega arith) (page-of j q)
 
     chained : (steps : ℕ) → x ≤ m → ((k : ℕ) → k < m → at l k .page ≡ p → x ≤ suc k → Tells (walk steps (suc k)) k)
-        → Tells (cond (isFormat (recordOf (recOf l m))) (stopAt Format (suc m ∷ [])) (behind (suc m ∷ []) (walk steps (recordOf (recOf l m) .prev)))) m
+        → Tells (cond (isFormat (recordOf (recOf l m))) (stopAt Format (suc m ∷ []))
+        (behind (suc m ∷ []) (walk steps (recordOf (recOf l m) .prev)))) m
     chained steps h ih =
         rw (rec .fields, e) (byCases (eqb (kindOf (at l m .change)) 1)
         (λ t. rw t (λ z.
@@ -77,7 +79,8 @@ module _ (P : ℕ) (P64 : P ≤ 64) (l : List Logged) (fr : AllFair P l) (fw : l
         omega (arith, count-hit p l m e, none-count p l m n, ap (countAt p l) x0, count-zero p l)))
         (λ t. rw t (go t (lastAt p l m) refl)))
       where
-        go : eqb (kindOf (at l m .change)) 1 ≡ false → (n : ℕ) → lastAt p l m ≡ n → Tells (behind (suc m ∷ []) (walk steps (lastAt p l m))) m
+        go : eqb (kindOf (at l m .change)) 1 ≡ false → (n : ℕ) → lastAt p l m ≡ n
+            → Tells (behind (suc m ∷ []) (walk steps (lastAt p l m))) m
         go t zero q = absurd (true-not-false (fr m b .first (rw e q)) t)
         go t (suc k) q =
             let le : lastAt p l m ≤ m = last-le p l m in
@@ -95,18 +98,21 @@ module _ (P : ℕ) (P64 : P ≤ 64) (l : List Logged) (fr : AllFair P l) (fw : l
       (λ y.
       let le : from ≤ suc m = ltb-false (suc m) from y in
       let ne : x ≢ suc m = eqb-false x (suc m) u in
-      rw y (rw (held m b (omega arith), read m b e) (chained m b e steps (omega arith) (λ k d q r. walk-tells steps k (omega arith) (omega arith) q r)))))))
+      rw y (rw (held m b (omega arith), read m b e)
+      (chained m b e steps (omega arith) (λ k d q r. walk-tells steps k (omega arith) (omega arith) q r)))))))
 
 -- ---- a page in a machine that is on, with no record pending
 
-module _ {C : Type 0} {g : Geometry} {v m : List ℕ} {past : List StoredItem} {s : State} {k : List Logged} (x : Ctx C g v m past s k []) (ok : C) (begun : Begun k)
+module _ {C : Type 0} {g : Geometry} {v m : List ℕ} {past : List StoredItem} {s : State} {k : List Logged} (x : Ctx C g v m past s k [])
+    (ok : C) (begun : Begun k)
     (p : ℕ) (lo : 1 ≤ p) (hi : p ≤ g .pages) where
   abbrev mark : Mark
   mark = markAt p (x .ns) (length (x .ns))
 
   -- a noted backup stands: it is the start where the index has one
   start-is : (a j : ℕ) → j < length k → at k j .page ≡ p → (f : ℕ)
-      → backupStart g p (viewOf g v f (entryFrom a (suc j) (markAt p (x .ns) (length (x .ns)))) p) ≡ markAt p (x .ns) (length (x .ns)) .backup
+      → backupStart g p (viewOf g v f (entryFrom a (suc j) (markAt p (x .ns) (length (x .ns)))) p) ≡ markAt p (x .ns)
+      (length (x .ns)) .backup
   start-is a j b e f = byCases (eqb (mark .slot) 0)
       (λ t.
       let z : mark .backup ≡ 0 = no-backup g v k (x .hs) (x .ns) (x .no) a j p lo hi b e (eqb-true (mark .slot) 0 t) in
@@ -138,18 +144,22 @@ module _ {C : Type 0} {g : Geometry} {v m : List ℕ} {past : List StoredItem} {
 
           go : (n : ℕ) → lastOf p k ≡ n → mark .backup ≡ 0
           go zero e = omega (arith, bound)
-          go (suc n) e = no-backup g v k (x .hs) (x .ns) (x .no) 0 n p lo hi (omega (arith, last-le p k (length k))) (last-page p k (length k) n e) z
+          go (suc n) e =
+              no-backup g v k (x .hs) (x .ns) (x .no) 0 n p lo hi (omega (arith, last-le p k (length k))) (last-page p k (length k) n e) z
 
   pub view-tells : (a j : ℕ) → j < length k → at k j .page ≡ p → lastOf p k ≡ suc j → validImage g p (item g v (pageAt p)) ≡ false
-      → isBelow (walkOf g p (viewOf g v (firstHeld g v (length k)) (entryFrom a (suc j) (markAt p (x .ns) (length (x .ns)))) p) .stop) ≡ false
+      → isBelow (walkOf g p
+      (viewOf g v (firstHeld g v (length k)) (entryFrom a (suc j) (markAt p (x .ns) (length (x .ns)))) p) .stop) ≡ false
       → length (walkOf g p (viewOf g v (firstHeld g v (length k)) (entryFrom a (suc j) (markAt p (x .ns) (length (x .ns)))) p) .chain)
       + countAt p k (markAt p (x .ns) (length (x .ns)) .backup) ≡ countAt p k (suc j)
   unfolding walkOf
   view-tells a j b e last bad =
       rw (bad, start-is a j b e (firstHeld g v (length k)))
-      (walk-tells (g .pages) (sized x .p-high) k (x .hs .fair) (omega (arith, few-k)) begun p _ (firstHeld g v (length k)) (first g v k (x .hs) (x .ns) (x .no))
+      (walk-tells (g .pages) (sized x .p-high) k (x .hs .fair) (omega (arith, few-k)) begun p _ (firstHeld g v (length k))
+      (first g v k (x .hs) (x .ns) (x .no))
       (first-is g v k (x .hs) (x .ns) (x .no)) (λ i c d. started g v k (x .hs) (x .ns) (x .no) .held i c d) (mark .backup) mark-page
-      (suc j) j (omega arith) b e (omega (arith, mark-ok (g .pages) (g .slots) k (x .ns) (x .no .fit) p (length (x .ns)) (omega arith) .backs)))
+      (suc j) j (omega arith) b e
+      (omega (arith, mark-ok (g .pages) (g .slots) k (x .ns) (x .no .fit) p (length (x .ns)) (omega arith) .backs)))
     where
       few-k : length k ≤ topNumber
       few-k = omega (arith, few x, ap length (x .al .log .split), length-nil)

@@ -56,13 +56,15 @@ begun-more k c f first i b t = elim (decLt i (length k)) [
       rw (q, atA k c, lastN k c (c .page)) (first (rw (q, atA k c) at t))
 ]
 
-pub sim-grow : (t : Settings) (events : List ℕ) (ms : List FrameUse) (g : Geometry) (v : List ℕ) (s : State) (k : List Logged) (f p : ℕ) (c : Logged) → c .page ≡ p
+pub sim-grow : (t : Settings) (events : List ℕ) (ms : List FrameUse) (g : Geometry) (v : List ℕ) (s : State) (k : List Logged) (f p : ℕ)
+    (c : Logged) → c .page ≡ p
     → (eqb (kindOf (c .change)) 1 ≡ true → lastOf (c .page) k ≡ 0) → Sim t events ms g v s k f p → Sim t events ms g v s (k ++ (c ∷ [])) f p
 sim-grow t events ms g v s k f p c cp first x =
     record { frames = x .frames; inside = x .inside; begun = begun-more k c (x .begun) first; disk = go (t .victim) (x .disk) }
   where
     go : (w : Victim) → OnDisk w g v s k f p → OnDisk w g v s (k ++ (c ∷ [])) f p
-    go Written h = λ q lo hi ne some. let e : lastOf q (k ++ (c ∷ [])) ≡ lastOf q k = number-miss k c q (λ z. ne (z ∙ cp)) in rw e (h q lo hi ne (rw e at some))
+    go Written h = λ q lo hi ne some. let e : lastOf q (k ++ (c ∷ [])) ≡ lastOf q k = number-miss k c q (λ z. ne (z ∙ cp)) in
+        rw e (h q lo hi ne (rw e at some))
     go LetGo h = h
 
 pub mine-dirty : (w : Victim) (g : Geometry) (v : List ℕ) (k : List Logged) (p : ℕ) → Mine w g v k p true
@@ -83,11 +85,13 @@ mod-more n k lo ne =
 module _ (s : State) (p f : ℕ) (size : length (s .frames) ≡ 16) (b : f < 16) where
   pub appended-row : frameRow (appendedState s p (suc f)) f ≡ record { page = p; dirty = true }
   unfolding appendedState
-  appended-row = let row : suc f - 1 ≡ f = omega arith in rw row (getD-set-same (s .frames) f (record { page = p; dirty = true }) emptyFrame (omega arith))
+  appended-row = let row : suc f - 1 ≡ f = omega arith in
+      rw row (getD-set-same (s .frames) f (record { page = p; dirty = true }) emptyFrame (omega arith))
 
   pub appended-other : (j : ℕ) → j ≢ f → frameRow (appendedState s p (suc f)) j ≡ frameRow s j
   unfolding appendedState
-  appended-other j n = let row : suc f - 1 ≡ f = omega arith in rw row (getD-set-other (s .frames) f j (record { page = p; dirty = true }) emptyFrame n)
+  appended-other j n = let row : suc f - 1 ≡ f = omega arith in
+      rw row (getD-set-other (s .frames) f j (record { page = p; dirty = true }) emptyFrame n)
 
   appended-backups : (q : ℕ) → entryOf (appendedState s p (suc f) .index) q .backup ≡ entryOf (s .index) q .backup
   unfolding appendedState
@@ -100,7 +104,8 @@ module _ (s : State) (p f : ℕ) (size : length (s .frames) ≡ 16) (b : f < 16)
 -- ---- the two calls
 
 -- a page has a change more, and its noted backup is as it was
-pub record Changed (t : Settings) (events : List ℕ) (ms : List FrameUse) (g : Geometry) (v : List ℕ) (s : State) (k : List Logged) (f p n : ℕ) : Type 0 where
+pub record Changed (t : Settings) (events : List ℕ) (ms : List FrameUse) (g : Geometry) (v : List ℕ) (s : State) (k : List Logged)
+    (f p n : ℕ) : Type 0 where
   pub sim : Sim t events ms g v s k f p
   pub quiet : s .note ≡ Absent
   pub row-is : frameRow s f ≡ record { page = p; dirty = true }
@@ -109,15 +114,18 @@ pub record Changed (t : Settings) (events : List ℕ) (ms : List FrameUse) (g : 
   pub before : countAt p k (entryOf (s .index) p .backup) + n % t .every ≡ n
   pub count : countOf p k ≡ suc n
 
-pub backup-low : {C : Type 0} {g : Geometry} {v m : List ℕ} {past : List StoredItem} {s : State} {k w : List Logged} (x : Ctx C g v m past s k w) (p : ℕ) → 1 ≤ p → p ≤ g .pages
+pub backup-low : {C : Type 0} {g : Geometry} {v m : List ℕ} {past : List StoredItem} {s : State} {k w : List Logged}
+    (x : Ctx C g v m past s k w) (p : ℕ) → 1 ≤ p → p ≤ g .pages
     → entryOf (s .index) p .backup ≤ length k
 backup-low {C} {g} {v} {m} {past} {s} {k} {w} x p lo hi =
     let e = ap (λ (y : Entry). y .backup) (entry-is x p lo hi) in
     omega (arith, mark-ok (g .pages) (g .slots) k (x .ns) (x .no .fit) p (length (x .ns)) (omega arith) .backs, last-le p k (length k))
 
-module _ {C : Type 0} {g : Geometry} {v m : List ℕ} {past : List StoredItem} {s : State} {k : List Logged} (x : Ctx C g v m past s k []) (t : Settings) (events : List ℕ) (ms : List FrameUse)
+module _ {C : Type 0} {g : Geometry} {v m : List ℕ} {past : List StoredItem} {s : State} {k : List Logged} (x : Ctx C g v m past s k [])
+    (t : Settings) (events : List ℕ) (ms : List FrameUse)
     (f p but : ℕ) (low : f < t .frames) (few : t .frames ≤ 16) (lo : 1 ≤ p) (hi : p ≤ g .pages) (fs : List Figures) (rows : Rows fs k)
-    (sim : Sim t events ms g v s k f but) (within-but : (q : ℕ) → q ≢ p → q ≢ but ⊎ (q ≡ 0)) (bk : Backups t g s k) (quiet : s .note ≡ Absent)
+    (sim : Sim t events ms g v s k f but) (within-but : (q : ℕ) → q ≢ p → q ≢ but ⊎ (q ≡ 0)) (bk : Backups t g s k)
+    (quiet : s .note ≡ Absent)
     (alone : (j : ℕ) → j < 16 → j ≢ f → frameRow s j .page ≢ p)
     (c : Logged) (cp : c .page ≡ p) (first : eqb (kindOf (c .change)) 1 ≡ true → lastOf (c .page) k ≡ 0) where
   abbrev k′ : List Logged
@@ -127,7 +135,8 @@ module _ {C : Type 0} {g : Geometry} {v m : List ℕ} {past : List StoredItem} {
   fs′ = setRow fs p (withRecord (pageRow fs p))
 
   -- after the call that adds the record comes the Force
-  pub changed-step : (r : Played) → Stage C g r fs k (c ∷ []) (λ v₁ s₁. (v₁ ≡ v) × (s₁ ≡ appendedState s p (suc f))) → playCall r force .refused ≡ false
+  pub changed-step : (r : Played) → Stage C g r fs k (c ∷ []) (λ v₁ s₁. (v₁ ≡ v) × (s₁ ≡ appendedState s p (suc f)))
+      → playCall r force .refused ≡ false
       → Stage C g (playCall r force) fs′ k′ [] (λ v′ s′. Changed t events ms g v′ s′ k′ f p (countOf p k) × Rows fs′ k′)
   changed-step r a nr =
       let no₁ : playCall (Run (a .volume) (a .memory) (a .past) (a .state) fs) force .refused ≡ false = rw (a .run-is) at nr in
@@ -137,7 +146,8 @@ module _ {C : Type 0} {g : Geometry} {v m : List ℕ} {past : List StoredItem} {
         memory = b .memory;
         past = b .past;
         state = b .state;
-        run-is = ap (λ (y : Played). playCall y force) (a .run-is) ∙ (b .run-is ∙ ap (λ (q : ℕ). Run (b .volume) (b .memory) (b .past) (b .state) (setRow fs q (withRecord (pageRow fs q)))) cp);
+        run-is = ap (λ (y : Played). playCall y force) (a .run-is)
+            ∙ (b .run-is ∙ ap (λ (q : ℕ). Run (b .volume) (b .memory) (b .past) (b .state) (setRow fs q (withRecord (pageRow fs q)))) cp);
         ctx = b .ctx;
         holds = (
           after (a .volume) (b .volume) (a .state) (b .state) (a .holds .0) (a .holds .1) (b .holds),
@@ -151,17 +161,21 @@ module _ {C : Type 0} {g : Geometry} {v m : List ℕ} {past : List StoredItem} {
       f16 : f < 16
       f16 = omega arith
 
-      same-count : (q : ℕ) → 1 ≤ q → q ≤ g .pages → countAt q (k ++ (c ∷ [])) (entryOf (s .index) q .backup) ≡ countAt q k (entryOf (s .index) q .backup)
+      same-count : (q : ℕ) → 1 ≤ q → q ≤ g .pages
+          → countAt q (k ++ (c ∷ [])) (entryOf (s .index) q .backup) ≡ countAt q k (entryOf (s .index) q .backup)
       same-count q a b = count-append q k (c ∷ []) (entryOf (s .index) q .backup) (backup-low x q a b)
 
-      after : (v₁ v₂ : List ℕ) (s₁ s₂ : State) → v₁ ≡ v → s₁ ≡ appendedState s p (suc f) → Forced g v₁ v₂ s₁ s₂ → Changed t events ms g v₂ s₂ (k ++ (c ∷ [])) f p (countOf p k)
+      after : (v₁ v₂ : List ℕ) (s₁ s₂ : State) → v₁ ≡ v → s₁ ≡ appendedState s p (suc f) → Forced g v₁ v₂ s₁ s₂
+          → Changed t events ms g v₂ s₂ (k ++ (c ∷ [])) f p (countOf p k)
       after v₁ v₂ s₁ s₂ ev es h =
-          let rowj : (j : ℕ) → frameRow s₂ j ≡ frameRow (appendedState s p (suc f)) j = λ j. ap (λ (l : List Frame). getD l j emptyFrame) (h .frames-stay ∙ ap (λ (y : State). y .frames) es) in
+          let rowj : (j : ℕ) → frameRow s₂ j ≡ frameRow (appendedState s p (suc f)) j =
+          λ j. ap (λ (l : List Frame). getD l j emptyFrame) (h .frames-stay ∙ ap (λ (y : State). y .frames) es) in
           let bkup : (q : ℕ) → entryOf (s₂ .index) q .backup ≡ entryOf (s .index) q .backup =
           λ q. h .backups-stay q ∙ (ap (λ (y : State). entryOf (y .index) q .backup) es ∙ appended-backups s p f size f16 q) in
           record {
             sim = sim-grow t events ms g v₂ s₂ k f p c cp first
-                (sim-keep t events ms g v v₂ s s₂ k f but p low (λ j b n. rowj j ∙ appended-other s p f size f16 j n) (λ q l u. h .pages-stay q l u ∙ ap (λ (y : List ℕ). item g y (pageAt q)) ev) within-but sim);
+                (sim-keep t events ms g v v₂ s s₂ k f but p low (λ j b n. rowj j ∙ appended-other s p f size f16 j n)
+                (λ q l u. h .pages-stay q l u ∙ ap (λ (y : List ℕ). item g y (pageAt q)) ev) within-but sim);
             quiet = h .note-stays ∙ (ap (λ (y : State). y .note) es ∙ (appended-note s p f size f16 ∙ quiet));
             row-is = rowj f ∙ appended-row s p f size f16;
             alone = λ j b n. rw (rowj j ∙ appended-other s p f size f16 j n) (alone j b n);
@@ -188,15 +202,18 @@ change-done : (v m : List ℕ) (s : State) (p : ℕ) (c : Change) (payload : Lis
     ≡ record {
       answer = Done;
       state = appendedState s p (holder s p);
-      memory = appendedMemory m s p c payload (holder s p) (changedImage (frameBytes m (holder s p)) (lastNumber s + 1) (applyChange c payload (imageBody (frameBytes m (holder s p)))));
+      memory = appendedMemory m s p c payload (holder s p)
+          (changedImage (frameBytes m (holder s p)) (lastNumber s + 1) (applyChange c payload (imageBody (frameBytes m (holder s p)))));
       stored = nothing;
     }
 unfolding changeCall
 change-done v m s p c payload e = rw e
 
-module _ {C : Type 0} {g : Geometry} {v m : List ℕ} {past : List StoredItem} {s : State} {k : List Logged} (x : Ctx C g v m past s k []) (fs : List Figures) (p f : ℕ) where
+module _ {C : Type 0} {g : Geometry} {v m : List ℕ} {past : List StoredItem} {s : State} {k : List Logged} (x : Ctx C g v m past s k [])
+    (fs : List Figures) (p f : ℕ) where
   pub begin-step : (fill : ℕ) → playCall (Run v m past s fs) (begin p (suc f) fill) .refused ≡ false
-      → Stage C g (playCall (Run v m past s fs) (begin p (suc f) fill)) fs k (loggedChange p (Format fill) [] ∷ []) (λ v₁ s₁. (v₁ ≡ v) × (s₁ ≡ appendedState s p (suc f)))
+      → Stage C g (playCall (Run v m past s fs) (begin p (suc f) fill)) fs k (loggedChange p (Format fill) [] ∷ [])
+      (λ v₁ s₁. (v₁ ≡ v) × (s₁ ≡ appendedState s p (suc f)))
   unfolding volumeAfter stepCall
   begin-step fill nr =
       record {
@@ -221,8 +238,10 @@ module _ {C : Type 0} {g : Geometry} {v m : List ℕ} {past : List StoredItem} {
       done-is : beginOf v m s p (suc f) fill ≡ done
       done-is = begin-done v m s p (suc f) fill (rows-none v m past s fs (begin p (suc f) fill) nr)
 
-  pub put-step : holder s p ≡ suc f → (o n : ℕ) (payload : List ℕ) → length payload ≡ 44 → playCall (Run v m past s fs) (change p (Put o n) payload) .refused ≡ false
-      → Stage C g (playCall (Run v m past s fs) (change p (Put o n) payload)) fs k (loggedChange p (Put o n) payload ∷ []) (λ v₁ s₁. (v₁ ≡ v) × (s₁ ≡ appendedState s p (suc f)))
+  pub put-step : holder s p ≡ suc f → (o n : ℕ) (payload : List ℕ) → length payload ≡ 44
+      → playCall (Run v m past s fs) (change p (Put o n) payload) .refused ≡ false
+      → Stage C g (playCall (Run v m past s fs) (change p (Put o n) payload)) fs k (loggedChange p (Put o n) payload ∷ [])
+      (λ v₁ s₁. (v₁ ≡ v) × (s₁ ≡ appendedState s p (suc f)))
   unfolding volumeAfter stepCall
   put-step h o n payload size nr =
       record {
@@ -231,7 +250,8 @@ module _ {C : Type 0} {g : Geometry} {v m : List ℕ} {past : List StoredItem} {
         past = nothing ∷ past;
         state = done .state;
         run-is = run-as v m past s fs (change p (Put o n) payload) nr refl done done-is;
-        ctx = ctx-as v m past s fs (change p (Put o n) payload) nr x refl (eq-eqb (length payload) 44 size) done done-is k (loggedChange p (Put o n) payload ∷ []) refl;
+        ctx = ctx-as v m past s fs (change p (Put o n) payload) nr x refl (eq-eqb (length payload) 44 size) done done-is k
+            (loggedChange p (Put o n) payload ∷ []) refl;
         holds = (refl, ap (appendedState s p) h);
       }
     where
@@ -241,7 +261,8 @@ module _ {C : Type 0} {g : Geometry} {v m : List ℕ} {past : List StoredItem} {
             answer = Done;
             state = appendedState s p (holder s p);
             memory = appendedMemory m s p (Put o n) payload (holder s p)
-                (changedImage (frameBytes m (holder s p)) (lastNumber s + 1) (applyChange (Put o n) payload (imageBody (frameBytes m (holder s p)))));
+                (changedImage (frameBytes m (holder s p)) (lastNumber s + 1)
+                (applyChange (Put o n) payload (imageBody (frameBytes m (holder s p)))));
             stored = nothing;
           }
 

@@ -66,4 +66,5 @@ module _ (l : List Logged) (c : Logged) where
 
   pub count-other : (q : ℕ) → q ≢ c .page → countOf q (l ++ (c ∷ [])) ≡ countOf q l
   count-other q ne =
-      rw (lenA l c) (count-miss q (l ++ (c ∷ [])) (length l) (λ z. ne (sym z ∙ ap (λ (y : Logged). y .page) (atA l c))) ∙ count-append q l (c ∷ []) (length l) (omega arith))
+      rw (lenA l c) (count-miss q (l ++ (c ∷ [])) (length l) (λ z. ne (sym z ∙ ap (λ (y : Logged). y .page) (atA l c)))
+      ∙ count-append q l (c ∷ []) (length l) (omega arith))

@@ -6,17 +6,15 @@ use mathlib.Core.List.{List, []}
 use Prim.Native.Nat.{ℕ, suc, _-_, _≤_, _<_}
 use native.Mathlib.Omega.{arith}
 use native.Mathlib.Decide.{decLt}
-use lib.ListN.{length}
 use lib.Dec.{eqb}
-use borrow.Author.Tests.{eq-eqb, ne-eqb, lt-ltb}
+use borrow.Author.Tests.{ne-eqb, lt-ltb}
 use Rattle.laws.proofs.Tables.{byCases}
 use Rattle.laws.proofs.Frames.{not-held}
-use Rattle.model.specs.Index.{entryOf}
 use Rattle.model.specs.State.{frameRow, held, blank}
 use Rattle.model.specs.Calls.{StoredItem, load, write, release, note}
 use Rattle.model.specs.AbstractLog.{Logged}
 use Rattle.model.specs.Rehearsal.{isWritten, useRow, pageRow, setRow, withLoad, withImage, holding, leastUsed, evicted, broughtIn, replayedBy, foundIn, missing, touched}
-use Rattle.model.specs.RehearsalRun.{changesOf, victimRow, makeWay, Played, playCall, playCalls}
+use Rattle.model.specs.RehearsalRun.{changesOf, victimRow, evictionCalls, Played, playCall, playCalls}
 use Rattle.model.specs.declared.geometry.Geometry.{Geometry}
 use Rattle.model.specs.declared.state.PendingNote.the-variants.{Absent}
 use Rattle.model.specs.declared.state.State.{State}
@@ -28,10 +26,10 @@ use Rattle.model.specs.declared.rehearsal.Figures.{Figures}
 use Rattle.model.specs.declared.rehearsal.Rehearsal.{Rehearsal}
 use Rattle.history.proofs.Logs.{lastOf}
 use Rattle.history.proofs.Context.{Ctx, Found, found-frame}
-use Rattle.rehearsed.proofs.Counts.{countOf, count-none, none-count}
+use Rattle.rehearsed.proofs.Counts.{countOf}
 use Rattle.rehearsed.proofs.Searches.{holding-none, holding-one, stamped, victim-is}
 use Rattle.rehearsed.proofs.Play.{Run, Stage, call-stays}
-use Rattle.rehearsed.proofs.Relation.{DirtyIn, OnDisk, Mine, Sim, Backups, Arrived, Rows, last-is, one-row}
+use Rattle.rehearsed.proofs.Relation.{DirtyIn, OnDisk, Mine, Sim, Backups, Arrived, Rows, last-is, is-blank, not-blank, one-row}
 use Rattle.rehearsed.proofs.LoadStep.{load-step}
 use Rattle.rehearsed.proofs.AwayStep.{Away, away-clean, away-release, away-write}
 
@@ -44,7 +42,8 @@ pub record Full (t : Settings) (events : List ℕ) (mo : Rehearsal) (g : Geometr
   pub rows : Rows (mo .pages) k
   pub changes : (p : ℕ) → 1 ≤ p → p ≤ 64 → changesOf p events ≡ countOf p k
 
-pub stage-as : {C : Type 0} {g : Geometry} {r r′ : Played} {fs fs′ : List Figures} {k w : List Logged} {Q : List ℕ → State → Type 0} → r′ ≡ r → fs ≡ fs′ → Stage C g r fs k w Q → Stage C g r′ fs′ k w Q
+pub stage-as : {C : Type 0} {g : Geometry} {r r′ : Played} {fs fs′ : List Figures} {k w : List Logged} {Q : List ℕ → State → Type 0}
+    → r′ ≡ r → fs ≡ fs′ → Stage C g r fs k w Q → Stage C g r′ fs′ k w Q
 stage-as e q a =
     record {
       volume = a .volume;
@@ -58,33 +57,53 @@ stage-as e q a =
 
 -- ---- the page of a frame makes way
 
-gone-as : {C : Type 0} {g : Geometry} {v m : List ℕ} {past : List StoredItem} {s : State} {k : List Logged} (x : Ctx C g v m past s k []) (t : Settings) (events : List ℕ) (mo : Rehearsal) (f : ℕ)
-    (r r′ : Played) (l l′ : List Figures) → r′ ≡ r → l ≡ l′ → Stage C g r l k [] (λ v′ s′. Away t events (mo .frames) g v′ s′ k f l) → Stage C g r′ l′ k [] (λ v′ s′. Away t events (mo .frames) g v′ s′ k f l′)
+gone-as : {C : Type 0} {g : Geometry} {v m : List ℕ} {past : List StoredItem} {s : State} {k : List Logged} (x : Ctx C g v m past s k [])
+    (t : Settings) (events : List ℕ) (mo : Rehearsal) (f : ℕ)
+    (r r′ : Played) (l l′ : List Figures) → r′ ≡ r → l ≡ l′ → Stage C g r l k [] (λ v′ s′. Away t events (mo .frames) g v′ s′ k f
+    (frameRow s f .page) l) → Stage C g r′ l′ k [] (λ v′ s′. Away t events (mo .frames) g v′ s′ k f (frameRow s f .page) l′)
 gone-as {C} {g} {v} {m} {past} {s} {k} x t events mo f r r′ l l′ e q a =
-    subst (λ (y : Played). Stage C g y l′ k [] (λ v′ s′. Away t events (mo .frames) g v′ s′ k f l′)) (sym e)
-    (subst (λ (y : List Figures). Stage C g r y k [] (λ v′ s′. Away t events (mo .frames) g v′ s′ k f y)) q a)
+    subst (λ (y : Played). Stage C g y l′ k [] (λ v′ s′. Away t events (mo .frames) g v′ s′ k f (frameRow s f .page) l′)) (sym e)
+    (subst (λ (y : List Figures). Stage C g r y k [] (λ v′ s′. Away t events (mo .frames) g v′ s′ k f (frameRow s f .page) y)) q a)
 
-module _ {C : Type 0} {g : Geometry} {v m : List ℕ} {past : List StoredItem} {s : State} {k : List Logged} (x : Ctx C g v m past s k []) (t : Settings) (F16 : t .frames ≤ 16) (events : List ℕ) (mo : Rehearsal)
-    (f : ℕ) (low : f < t .frames) (al : useRow (mo .frames) f ≡ stamped events (frameRow s f)) (sim : Sim t events (mo .frames) g v s k 16 0) (bk : Backups t g s k) (quiet : s .note ≡ Absent)
+module _ {C : Type 0} {g : Geometry} {v m : List ℕ} {past : List StoredItem} {s : State} {k : List Logged} (x : Ctx C g v m past s k [])
+    (t : Settings) (F16 : t .frames ≤ 16) (events : List ℕ) (mo : Rehearsal)
+    (f : ℕ) (low : f < t .frames) (al : useRow (mo .frames) f ≡ stamped events (frameRow s f))
+    (sim : Sim t events (mo .frames) g v s k 16 0) (bk : Backups t g s k) (quiet : s .note ≡ Absent)
     (rows : Rows (mo .pages) k) where
-  make-way : (d : Bool) → frameRow s f .dirty ≡ d → (w : Victim) → t .victim ≡ w → playCalls (Run v m past s (mo .pages)) (makeWay t (frameRow s f)) .refused ≡ false
-      → Stage C g (playCalls (Run v m past s (mo .pages)) (makeWay t (frameRow s f))) (evicted t mo f) k [] (λ v′ s′. Away t events (mo .frames) g v′ s′ k f (evicted t mo f))
+  eviction : (d : Bool) → frameRow s f .dirty ≡ d → (w : Victim) → t .victim ≡ w
+      → playCalls (Run v m past s (mo .pages)) (evictionCalls t (frameRow s f)) .refused ≡ false
+      → Stage C g (playCalls (Run v m past s (mo .pages)) (evictionCalls t (frameRow s f))) (evicted t mo f) k []
+      (λ v′ s′. Away t events (mo .frames) g v′ s′ k f (frameRow s f .page) (evicted t mo f))
   unfolding evicted playCalls
-  make-way false dd w tv nr =
-      gone-as x t events mo f (Run v m past s (mo .pages)) (playCalls (Run v m past s (mo .pages)) (makeWay t (frameRow s f))) (mo .pages) (evicted t mo f) (rw dd) (rw (al, dd) (byCases (isWritten (t .victim)) (λ z. rw z) (λ z. rw z)))
-      (record { volume = v; memory = m; past = past; state = s; run-is = refl; ctx = x; holds = away-clean x t events (mo .frames) f low F16 (mo .pages) rows sim bk quiet dd })
-  make-way true dd Written tv nr =
-      gone-as x t events mo f (playCall (playCall (Run v m past s (mo .pages)) (write (frameRow s f .page))) note) (playCalls (Run v m past s (mo .pages)) (makeWay t (frameRow s f)))
-      (setRow (mo .pages) (frameRow s f .page) (withImage (pageRow (mo .pages) (frameRow s f .page)))) (evicted t mo f) (rw (dd, tv)) (rw (al, dd, tv))
+  eviction false dd w tv nr =
+      gone-as x t events mo f (Run v m past s (mo .pages)) (playCalls (Run v m past s (mo .pages)) (evictionCalls t (frameRow s f)))
+      (mo .pages) (evicted t mo f) (rw dd) (rw (al, dd) (byCases (isWritten (t .victim)) (λ z. rw z) (λ z. rw z)))
+      (record {
+        volume = v;
+        memory = m;
+        past = past;
+        state = s;
+        run-is = refl;
+        ctx = x;
+        holds = away-clean x t events (mo .frames) f low F16 (mo .pages) rows sim bk quiet dd;
+      })
+  eviction true dd Written tv nr =
+      gone-as x t events mo f (playCall (playCall (Run v m past s (mo .pages)) (write (frameRow s f .page))) note)
+      (playCalls (Run v m past s (mo .pages)) (evictionCalls t (frameRow s f)))
+      (setRow (mo .pages) (frameRow s f .page) (withImage (pageRow (mo .pages) (frameRow s f .page)))) (evicted t mo f)
+      (rw (dd, tv)) (rw (al, dd, tv))
       (away-write x t events (mo .frames) f low F16 (mo .pages) rows sim bk quiet dd tv (rw (dd, tv) at nr))
-  make-way true dd LetGo tv nr =
-      gone-as x t events mo f (playCall (Run v m past s (mo .pages)) (release (frameRow s f .page))) (playCalls (Run v m past s (mo .pages)) (makeWay t (frameRow s f))) (mo .pages) (evicted t mo f) (rw (dd, tv)) (rw (al, tv))
+  eviction true dd LetGo tv nr =
+      gone-as x t events mo f (playCall (Run v m past s (mo .pages)) (release (frameRow s f .page)))
+      (playCalls (Run v m past s (mo .pages)) (evictionCalls t (frameRow s f))) (mo .pages) (evicted t mo f) (rw (dd, tv)) (rw (al, tv))
       (away-release x t events (mo .frames) f low F16 (mo .pages) rows sim bk quiet dd tv (rw (dd, tv) at nr))
 
 -- ---- the page of the event
 
-module _ {C : Type 0} {g : Geometry} {v m : List ℕ} {past : List StoredItem} {s : State} {k : List Logged} (x : Ctx C g v m past s k []) (ok : C) (t : Settings)
-    (F1 : 1 ≤ t .frames) (F16 : t .frames ≤ 16) (K1 : 1 ≤ t .every) (events : List ℕ) (mo : Rehearsal) (full : Full t events mo g v s k) (p : ℕ) (lo : 1 ≤ p) (hi : p ≤ 64) where
+module _ {C : Type 0} {g : Geometry} {v m : List ℕ} {past : List StoredItem} {s : State} {k : List Logged}
+    (x : Ctx C g v m past s k []) (ok : C) (t : Settings)
+    (F1 : 1 ≤ t .frames) (F16 : t .frames ≤ 16) (K1 : 1 ≤ t .every) (events : List ℕ) (mo : Rehearsal) (full : Full t events mo g v s k)
+    (p : ℕ) (lo : 1 ≤ p) (hi : p ≤ 64) where
   abbrev fs : List Figures
   fs = mo .pages
 
@@ -104,10 +123,10 @@ module _ {C : Type 0} {g : Geometry} {v m : List ℕ} {past : List StoredItem} {
   row-count = full .rows .records p lo hi
 
   pub blank-yes : countOf p k ≡ 0 → blank s p ≡ true
-  blank-yes z = eq-eqb (entryOf (s .index) p .last) 0 (last-is x p lo hi ∙ count-none p k (length k) z)
+  blank-yes = is-blank x p lo hi
 
   pub blank-not : countOf p k ≢ 0 → blank s p ≡ false
-  blank-not nz = ne-eqb (entryOf (s .index) p .last) 0 (λ z. nz (none-count p k (length k) (sym (last-is x p lo hi) ∙ z)))
+  blank-not = not-blank x p lo hi
 
   -- a page in a frame has a change
   pub in-frame : (j : ℕ) → j < 16 → frameRow s j .page ≡ p → (p ≤ g .pages) × (lastOf p k ≢ 0)
@@ -141,7 +160,8 @@ module _ {C : Type 0} {g : Geometry} {v m : List ℕ} {past : List StoredItem} {
     holding-is : holding (mo .frames) p (t .frames) ≡ suc (fo .row)
     holding-is =
         holding-one ms p (t .frames) f low (alike-page f f16 ∙ fo .page-is)
-        (λ i b e. one-row x f i f16 (omega arith) (λ z. omega (arith, sym (fo .page-is) ∙ z)) (sym (alike-page i (omega arith)) ∙ (e ∙ sym (fo .page-is))))
+        (λ i b e. one-row x f i f16 (omega arith) (λ z. omega (arith, sym (fo .page-is) ∙ z))
+        (sym (alike-page i (omega arith)) ∙ (e ∙ sym (fo .page-is))))
 
     pub touched-found : (i : ℕ) (c : Bool) → touched t i mo p c ≡ foundIn i mo p c (fo .row)
     unfolding touched
@@ -165,14 +185,21 @@ module _ {C : Type 0} {g : Geometry} {v m : List ℕ} {past : List StoredItem} {
       where
         go : (w : Victim) → OnDisk w g v s k 16 0 → OnDisk w g v s k f p
         go Written d = λ q a b ne some. ⊎-elim
-            (λ (y : DirtyIn s q 16). inl (record { row = y .row; below = y .below; other = λ z. ne (sym (y .page-is) ∙ (ap (λ (i : ℕ). frameRow s i .page) z ∙ fo .page-is)); page-is = y .page-is; dirty-is = y .dirty-is }))
+            (λ (y : DirtyIn s q 16). inl (record {
+              row = y .row;
+              below = y .below;
+              other = λ z. ne (sym (y .page-is) ∙ (ap (λ (i : ℕ). frameRow s i .page) z ∙ fo .page-is));
+              page-is = y .page-is;
+              dirty-is = y .dirty-is;
+            }))
             inr (d q a b (λ z. omega arith) some)
         go LetGo d = (d .0, λ j b n nz. d .1 j b (λ z. omega arith) nz)
 
         own : (w : Victim) → OnDisk w g v s k 16 0 → Mine w g v k p (frameRow s f .dirty)
         own Written d = ⊎-elim
             (λ (y : DirtyIn s p 16).
-            let e : y .row ≡ f = one-row x f (y .row) f16 (y .below) (λ z. omega (arith, sym (fo .page-is) ∙ z)) (y .page-is ∙ sym (fo .page-is)) in
+            let e : y .row ≡ f =
+            one-row x f (y .row) f16 (y .below) (λ z. omega (arith, sym (fo .page-is) ∙ z)) (y .page-is ∙ sym (fo .page-is)) in
             inl (ap (λ (i : ℕ). frameRow s i .dirty) (sym e) ∙ y .dirty-is))
             inr (d p lo (in-frame f f16 (fo .page-is) .0) (λ z. omega arith) (in-frame f f16 (fo .page-is) .1))
         own LetGo d = d .1 f f16 (λ z. omega (arith, f16)) (λ z. omega (arith, sym (fo .page-is) ∙ z))
@@ -202,26 +229,41 @@ module _ {C : Type 0} {g : Geometry} {v m : List ℕ} {past : List StoredItem} {
 
     pub touched-missing : (i : ℕ) (c : Bool) → touched t i mo p c ≡ missing t i mo p c row
     unfolding touched row
-    touched-missing i c = let e : holding (mo .frames) p (t .frames) ≡ 0 = holding-none ms p (t .frames) (λ j b z. absent j (omega arith) (sym (alike-page j (omega arith)) ∙ z)) in rw e
+    touched-missing i c = let e : holding (mo .frames) p (t .frames)
+        ≡ 0 = holding-none ms p (t .frames) (λ j b z. absent j (omega arith) (sym (alike-page j (omega arith)) ∙ z)) in rw e
 
     -- the page there makes way
-    pub made-way : playCalls (Run v m past s (mo .pages)) (makeWay t (frameRow s row)) .refused ≡ false
-        → Stage C g (playCalls (Run v m past s (mo .pages)) (makeWay t (frameRow s row))) (evicted t mo row) k [] (λ v′ s′. Away t events (mo .frames) g v′ s′ k row (evicted t mo row))
-    made-way =
-        make-way x t F16 events mo row row-low (alike row row16) (full .sim) (full .backs) (full .quiet) (full .rows) (frameRow s row .dirty) refl (t .victim) refl
+    pub eviction-stage : playCalls (Run v m past s (mo .pages)) (evictionCalls t (frameRow s row)) .refused ≡ false
+        → Stage C g (playCalls (Run v m past s (mo .pages)) (evictionCalls t (frameRow s row))) (evicted t mo row) k []
+        (λ v′ s′. Away t events (mo .frames) g v′ s′ k row (frameRow s row .page) (evicted t mo row))
+    eviction-stage =
+        eviction x t F16 events mo row row-low (alike row row16) (full .sim) (full .backs) (full .quiet) (full .rows)
+        (frameRow s row .dirty) refl (t .victim) refl
 
     -- the page there makes way, and a page with changes is loaded
-    pub loaded : countOf p k ≢ 0 → playCall (playCalls (Run v m past s (mo .pages)) (makeWay t (frameRow s row))) (load p (suc row)) .refused ≡ false
-        → Stage C g (playCall (playCalls (Run v m past s (mo .pages)) (makeWay t (frameRow s row))) (load p (suc row))) (broughtIn t (evicted t mo row) p) k []
+    pub loaded : countOf p k ≢ 0
+        → playCall (playCalls (Run v m past s (mo .pages)) (evictionCalls t (frameRow s row))) (load p (suc row)) .refused ≡ false
+        → Stage C g (playCall (playCalls (Run v m past s (mo .pages)) (evictionCalls t (frameRow s row))) (load p (suc row)))
+        (broughtIn t (evicted t mo row) p) k []
         (λ v′ s′. Arrived t events (mo .frames) g v′ s′ k row p (not (isWritten (t .victim))) × Rows (broughtIn t (evicted t mo row) p) k)
     unfolding broughtIn
     loaded nz nr =
-        let r = playCalls (Run v m past s (mo .pages)) (makeWay t (frameRow s row)) in
-        let a = made-way (call-stays r (load p (suc row)) nr) in
+        let r = playCalls (Run v m past s (mo .pages)) (evictionCalls t (frameRow s row)) in
+        let a = eviction-stage (call-stays r (load p (suc row)) nr) in
         let l = evicted t mo row in
-        let b = load-step (a .ctx) ok t events ms row p row-low F16 l (subst (λ (y : Played). playCall y (load p (suc row)) .refused ≡ false) (a .run-is) nr) (a .holds .sim) (a .holds .backs) (a .holds .quiet) (a .holds .rows) in
+        let b = load-step (a .ctx) ok t events ms row p row-low F16 l (subst (λ (y : Played). playCall y
+        (load p (suc row)) .refused ≡ false) (a .run-is) nr) (a .holds .sim) (a .holds .backs) (a .holds .quiet) (a .holds .rows) in
         let c : pageRow l p .records ≡ countOf p k = a .holds .rows .records p lo hi in
         let z : eqb (pageRow l p .records) 0 ≡ false = ne-eqb (pageRow l p .records) 0 (λ y. nz (sym c ∙ y)) in
-        let q : setRow l p (withLoad (pageRow l p) (replayedBy t (countOf p k))) ≡ cond (eqb (pageRow l p .records) 0) l (setRow l p (withLoad (pageRow l p) (replayedBy t (pageRow l p .records)))) = rw (z, c) in
+        let q : setRow l p (withLoad (pageRow l p) (replayedBy t (countOf p k))) ≡ cond (eqb (pageRow l p .records) 0) l
+        (setRow l p (withLoad (pageRow l p) (replayedBy t (pageRow l p .records)))) = rw (z, c) in
         stage-as (ap (λ (y : Played). playCall y (load p (suc row))) (a .run-is)) q
-        (record { volume = b .volume; memory = b .memory; past = b .past; state = b .state; run-is = b .run-is; ctx = b .ctx; holds = (b .holds .0, subst (λ (y : List Figures). Rows y k) q (b .holds .1)) })
+        (record {
+          volume = b .volume;
+          memory = b .memory;
+          past = b .past;
+          state = b .state;
+          run-is = b .run-is;
+          ctx = b .ctx;
+          holds = (b .holds .0, subst (λ (y : List Figures). Rows y k) q (b .holds .1));
+        })

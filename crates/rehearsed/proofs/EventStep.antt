@@ -1,22 +1,21 @@
 -- One event, whole: a read, or a change with its Force and its backup.
 use mathlib.Core.Path.{_≡_, refl, sym, ap, _∙_, subst}
-use mathlib.Core.Logic.{_≢_, _⊎_, inl, inr}
+use mathlib.Core.Logic.{_≢_}
 use mathlib.Core.Bool.{Bool, true, false, not}
 use mathlib.Core.List.{List, [], _∷_, _++_}
-use Prim.Native.Nat.{ℕ, zero, suc, _+_, _≤_, _<_}
+use Prim.Native.Nat.{ℕ, suc, _+_, _≤_, _<_}
 use native.Mathlib.Omega.{arith}
 use native.Mathlib.Decide.{ℕ-discrete}
 use lib.ListN.{length, set}
 use lib.Dec.{eqb}
 use borrow.Author.Tests.{eq-eqb, ne-eqb}
-use Rattle.laws.proofs.Tables.{byCases, true-not-false}
+use Rattle.laws.proofs.Tables.{byCases}
 use Rattle.model.specs.State.{frameRow, held, blank}
-use Rattle.model.specs.Calls.{StoredItem, Call, begin, load, change, force, backup}
-use Rattle.model.specs.AbstractLog.{Logged, loggedChange}
-use Rattle.model.specs.Rehearsal.{accessOf, pageIn, isWritten, pageRow, setRow, withRecord, withChange, evicted, broughtIn, foundIn, touched, changed, stepOn}
-use Rattle.model.specs.RehearsalRun.{Choice, changesOf, makeWay, bringIn, backUp, callsOf, Played, playCall, playCalls}
+use Rattle.model.specs.Calls.{StoredItem, Call, begin, load, force}
+use Rattle.model.specs.AbstractLog.{Logged}
+use Rattle.model.specs.Rehearsal.{accessOf, pageIn, isWritten, pageRow, setRow, withChange, evicted, broughtIn, foundIn, touched, changed, stepOn}
+use Rattle.model.specs.RehearsalRun.{Choice, evictionCalls, backUp, callsOf, Played, playCall, playCalls}
 use Rattle.model.specs.declared.geometry.Geometry.{Geometry}
-use Rattle.model.specs.declared.change.Change.the-variants.{Format, Put}
 use Rattle.model.specs.declared.state.State.{State}
 use Rattle.model.specs.declared.rehearsal.Settings.{Settings}
 use Rattle.model.specs.declared.rehearsal.Access.{Access}
@@ -25,11 +24,11 @@ use Rattle.model.specs.declared.rehearsal.Figures.{Figures}
 use Rattle.model.specs.declared.rehearsal.Rehearsal.{Rehearsal}
 use Rattle.history.proofs.Context.{Ctx}
 use Rattle.rehearsed.proofs.Counts.{countOf, count-none, count-new, count-other}
-use Rattle.rehearsed.proofs.Play.{Run, Stage, call-stays, calls-stay, calls-append, rows-none}
+use Rattle.rehearsed.proofs.Play.{Run, Stage, call-stays, calls-stay}
 use Rattle.rehearsed.proofs.Relation.{Arrived, Rows, alike-idle, sim-used}
-use Rattle.rehearsed.proofs.ChangeStep.{Changed, changed-step, begin-step, put-step}
-use Rattle.rehearsed.proofs.Event.{Full, stage-as, in-frame, blank-yes, blank-not, row-count, fo, f16, low, touched-found, arrived-found, row, row-low, row-victim, alike, touched-missing, made-way, loaded}
-use Rattle.rehearsed.proofs.Backed.{changes-read, changes-hit, changes-miss, holder-of, page-high, no-page, begin-high, backed}
+use Rattle.rehearsed.proofs.Event.{Full, in-frame, blank-yes, blank-not, row-count, fo, f16, low, touched-found, arrived-found, row, row-low, alike, touched-missing, eviction-stage, loaded}
+use Rattle.rehearsed.proofs.Backed.{changes-read, changes-hit, changes-miss, page-high, backed}
+use Rattle.rehearsed.proofs.EventCalls.{putOf, putLogged, beginLogged, put-on, found-calls, read-calls, loaded-calls, begun-calls, begin-on}
 
 -- ---- the event
 
@@ -38,8 +37,10 @@ pub record After (C : Type 0) (g : Geometry) (t : Settings) (events : List ℕ) 
   pub log : List Logged
   pub stage : Stage C g r (mo .pages) log [] (λ v s. Full t events mo g v s log)
 
-module _ {C : Type 0} {g : Geometry} {v m : List ℕ} {past : List StoredItem} {s : State} {k : List Logged} (x : Ctx C g v m past s k []) (ok : C) (t : Settings)
-    (F1 : 1 ≤ t .frames) (F16 : t .frames ≤ 16) (K1 : 1 ≤ t .every) (events : List ℕ) (mo : Rehearsal) (full : Full t events mo g v s k) (p : ℕ) (lo : 1 ≤ p) (hi : p ≤ 64)
+module _ {C : Type 0} {g : Geometry} {v m : List ℕ} {past : List StoredItem} {s : State} {k : List Logged}
+    (x : Ctx C g v m past s k []) (ok : C) (t : Settings)
+    (F1 : 1 ≤ t .frames) (F16 : t .frames ≤ 16) (K1 : 1 ≤ t .every) (events : List ℕ) (mo : Rehearsal) (full : Full t events mo g v s k)
+    (p : ℕ) (lo : 1 ≤ p) (hi : p ≤ 64)
     (e : ℕ) (c : Choice) (pays : length (c .payload) ≡ 44) where
   abbrev i : ℕ
   i = suc (length events)
@@ -48,8 +49,10 @@ module _ {C : Type 0} {g : Geometry} {v m : List ℕ} {past : List StoredItem} {
   run = Run v m past s (mo .pages)
 
   -- the end of a read
-  read-end : (ea : accessOf e ≡ Read p) (r : Played) (f : ℕ) (d : Bool) (l : List Figures) → f < t .frames → touched t i mo p false ≡ record { frames = set (mo .frames) f (record { page = p; used = i; dirty = d }); pages = l }
-      → Stage C g r l k [] (λ v′ s′. Arrived t events (mo .frames) g v′ s′ k f p d × Rows l k) → After C g t (e ∷ events) (touched t i mo p false) r
+  read-end : (ea : accessOf e ≡ Read p) (r : Played) (f : ℕ) (d : Bool) (l : List Figures) → f < t .frames
+      → touched t i mo p false ≡ record { frames = set (mo .frames) f (record { page = p; used = i; dirty = d }); pages = l }
+      → Stage C g r l k [] (λ v′ s′. Arrived t events (mo .frames) g v′ s′ k f p d × Rows l k)
+      → After C g t (e ∷ events) (touched t i mo p false) r
   read-end ea r f d l b q a =
       subst (λ (y : Rehearsal). After C g t (e ∷ events) y r) (sym q) (record {
         log = k;
@@ -63,7 +66,8 @@ module _ {C : Type 0} {g : Geometry} {v m : List ℕ} {past : List StoredItem} {
           holds =
               let h = a .holds .0 in
               record {
-                sim = sim-used t events (mo .frames) g (a .volume) (a .state) k e p f d (ap pageIn ea) (omega arith) (h .row-is) (h .alone) (h .sim) (h .mine);
+                sim = sim-used t events (mo .frames) g (a .volume) (a .state) k e p f d (ap pageIn ea) (omega arith) (h .row-is)
+                    (h .alone) (h .sim) (h .mine);
                 backs = h .backs;
                 quiet = h .quiet;
                 rows = a .holds .1;
@@ -76,11 +80,13 @@ module _ {C : Type 0} {g : Geometry} {v m : List ℕ} {past : List StoredItem} {
   change-end : (ea : accessOf e ≡ Change p) (r : Played) (f : ℕ) (l : List Figures) (ch : Logged) → ch .page ≡ p → f < t .frames
       → touched t i mo p true ≡ record { frames = set (mo .frames) f (record { page = p; used = i; dirty = true }); pages = l }
       → Stage C g r (setRow l p (withChange (t .every) (pageRow l p))) (k ++ (ch ∷ [])) []
-      (λ v′ s′. Arrived t events (mo .frames) g v′ s′ (k ++ (ch ∷ [])) f p true × Rows (setRow l p (withChange (t .every) (pageRow l p))) (k ++ (ch ∷ [])))
+      (λ v′ s′. Arrived t events (mo .frames) g v′ s′ (k ++ (ch ∷ [])) f p true
+      × Rows (setRow l p (withChange (t .every) (pageRow l p))) (k ++ (ch ∷ [])))
       → After C g t (e ∷ events) (changed t (touched t i mo p true) p) r
   unfolding changed
   change-end ea r f l ch cp b q a =
-      subst (λ (y : Rehearsal). After C g t (e ∷ events) (record { frames = y .frames; pages = setRow (y .pages) p (withChange (t .every) (pageRow (y .pages) p)) }) r) (sym q) (record {
+      subst (λ (y : Rehearsal). After C g t (e ∷ events)
+      (record { frames = y .frames; pages = setRow (y .pages) p (withChange (t .every) (pageRow (y .pages) p)) }) r) (sym q) (record {
         log = k ++ (ch ∷ []);
         stage = record {
           volume = a .volume;
@@ -92,12 +98,14 @@ module _ {C : Type 0} {g : Geometry} {v m : List ℕ} {past : List StoredItem} {
           holds =
               let h = a .holds .0 in
               record {
-                sim = sim-used t events (mo .frames) g (a .volume) (a .state) (k ++ (ch ∷ [])) e p f true (ap pageIn ea) (omega arith) (h .row-is) (h .alone) (h .sim) (h .mine);
+                sim = sim-used t events (mo .frames) g (a .volume) (a .state) (k ++ (ch ∷ [])) e p f true (ap pageIn ea) (omega arith)
+                    (h .row-is) (h .alone) (h .sim) (h .mine);
                 backs = h .backs;
                 quiet = h .quiet;
                 rows = a .holds .1;
                 changes = λ r a₁ b₁. elim (ℕ-discrete r p) [
-                  | yes z ↦ rw z (changes-hit e p events ea ∙ (ap suc (full .changes p lo hi) ∙ sym (subst (λ (y : ℕ). countOf y (k ++ (ch ∷ [])) ≡ suc (countOf y k)) cp (count-new k ch))))
+                  | yes z ↦ rw z (changes-hit e p events ea ∙ (ap suc (full .changes p lo hi)
+                      ∙ sym (subst (λ (y : ℕ). countOf y (k ++ (ch ∷ [])) ≡ suc (countOf y k)) cp (count-new k ch))))
                   | no z ↦ changes-miss e p events r ea z ∙ (full .changes r a₁ b₁ ∙ sym (count-other k ch r (λ y. z (y ∙ cp))))
                 ];
               };
@@ -118,7 +126,8 @@ module _ {C : Type 0} {g : Geometry} {v m : List ℕ} {past : List StoredItem} {
           ctx = x;
           holds = record {
             sim = record {
-              frames = alike-idle events (mo .frames) s e (full .sim .frames) (λ j b q. in-frame x ok t F1 F16 K1 events mo full p lo hi j b (q ∙ ap pageIn ea) .1 (count-none p k (length k) z));
+              frames = alike-idle events (mo .frames) s e (full .sim .frames)
+                  (λ j b q. in-frame x ok t F1 F16 K1 events mo full p lo hi j b (q ∙ ap pageIn ea) .1 (count-none p k (length k) z));
               inside = full .sim .inside;
               begun = full .sim .begun;
               disk = full .sim .disk;
@@ -131,29 +140,10 @@ module _ {C : Type 0} {g : Geometry} {v m : List ℕ} {past : List StoredItem} {
         };
       }
 
-  -- a put and its Force, of a page that is in row f
-  put-on : (r : Played) (f : ℕ) (d : Bool) (l : List Figures) → f < t .frames → Stage C g r l k [] (λ v′ s′. Arrived t events (mo .frames) g v′ s′ k f p d × Rows l k)
-      → playCall (playCall r (change p (Put (c .offset) (c .length)) (c .payload))) force .refused ≡ false
-      → Stage C g (playCall (playCall r (change p (Put (c .offset) (c .length)) (c .payload))) force) (setRow l p (withRecord (pageRow l p))) (k ++ (loggedChange p (Put (c .offset) (c .length)) (c .payload) ∷ [])) []
-      (λ v′ s′. Changed t events (mo .frames) g v′ s′ (k ++ (loggedChange p (Put (c .offset) (c .length)) (c .payload) ∷ [])) f p (countOf p k)
-      × Rows (setRow l p (withRecord (pageRow l p))) (k ++ (loggedChange p (Put (c .offset) (c .length)) (c .payload) ∷ [])))
-  put-on r f d l b a nr =
-      let put = change p (Put (c .offset) (c .length)) (c .payload) in
-      let h = a .holds .0 in
-      let pg = ap (λ y. y .page) (h .row-is) in
-      let nr₁ : playCall r put .refused ≡ false = call-stays (playCall r put) force nr in
-      let st = put-step (a .ctx) l p f (holder-of (a .ctx) p f lo (omega arith) pg) (c .offset) (c .length) (c .payload) pays (subst (λ (y : Played). playCall y put .refused ≡ false) (a .run-is) nr₁) in
-      changed-step (a .ctx) t events (mo .frames) f p p b F16 lo (page-high (a .ctx) p f lo (omega arith) pg) l (a .holds .1) (h .sim) (λ q z. inl z) (h .backs) (h .quiet) (h .alone)
-      (loggedChange p (Put (c .offset) (c .length)) (c .payload)) refl (λ z. absurd (true-not-false z refl)) (playCall r put)
-      (stage-as (ap (λ (y : Played). playCall y put) (a .run-is)) refl st) nr
-
   -- ---- a change
 
   abbrev put : Call
-  put = change p (Put (c .offset) (c .length)) (c .payload)
-
-  abbrev putLogged : Logged
-  putLogged = loggedChange p (Put (c .offset) (c .length)) (c .payload)
+  put = putOf c p
 
   abbrev bu : List Call
   bu = backUp t c p (suc (countOf p k))
@@ -162,22 +152,22 @@ module _ {C : Type 0} {g : Geometry} {v m : List ℕ} {past : List StoredItem} {
   put-end : (ea : accessOf e ≡ Change p) (r : Played) (f : ℕ) (d : Bool) (l : List Figures) → f < t .frames
       → touched t i mo p true ≡ record { frames = set (mo .frames) f (record { page = p; used = i; dirty = true }); pages = l }
       → Stage C g r l k [] (λ v′ s′. Arrived t events (mo .frames) g v′ s′ k f p d × Rows l k)
-      → playCalls (playCall (playCall r put) force) bu .refused ≡ false → After C g t (e ∷ events) (changed t (touched t i mo p true) p) (playCalls (playCall (playCall r put) force) bu)
+      → playCalls (playCall (playCall r put) force) bu .refused ≡ false
+      → After C g t (e ∷ events) (changed t (touched t i mo p true) p) (playCalls (playCall (playCall r put) force) bu)
   put-end ea r f d l b q a nr =
       let h = a .holds .0 in
       let pg = ap (λ y. y .page) (h .row-is) in
-      let a₁ = put-on r f d l b a (calls-stay bu (playCall (playCall r put) force) nr) in
-      change-end ea (playCalls (playCall (playCall r put) force) bu) f l putLogged refl b q
-      (backed C g t F16 K1 events (mo .frames) f p (countOf p k) b lo (page-high (a .ctx) p f lo (omega arith) pg) hi l (a .holds .1 .size) (a .holds .1 .records p lo hi) (k ++ (putLogged ∷ []))
+      let a₁ = put-on x ok t F1 F16 K1 events mo full p lo hi c pays r f d l b a (calls-stay bu (playCall (playCall r put) force) nr) in
+      change-end ea (playCalls (playCall (playCall r put) force) bu) f l (putLogged c p) refl b q
+      (backed C g t F16 K1 events (mo .frames) f p (countOf p k) b lo (page-high (a .ctx) p f lo (omega arith) pg) hi l (a .holds .1 .size)
+      (a .holds .1 .records p lo hi) (k ++ (putLogged c p ∷ []))
       (playCall (playCall r put) force) c a₁ nr)
-
-  changes-now : changesOf p events ≡ countOf p k
-  changes-now = full .changes p lo hi
 
   abbrev calls : List Call
   calls = callsOf t c events s (Change p)
 
-  module _ (ea : accessOf e ≡ Change p) (nr : playCalls (Run v m past s (mo .pages)) (callsOf t c events s (Change p)) .refused ≡ false) where
+  module _ (ea : accessOf e ≡ Change p)
+      (nr : playCalls (Run v m past s (mo .pages)) (callsOf t c events s (Change p)) .refused ≡ false) where
     abbrev End : Played → Type 0
     End r = After C g t (e ∷ events) (changed t (touched t i mo p true) p) r
 
@@ -185,76 +175,70 @@ module _ {C : Type 0} {g : Geometry} {v m : List ℕ} {past : List StoredItem} {
     end-as r q f = subst (λ (y : Played). End y) (sym q) (f (subst (λ (y : Played). y .refused ≡ false) q nr))
 
     change-found : (h : held s p ≡ true) → End (playCalls (Run v m past s (mo .pages)) (callsOf t c events s (Change p)))
-    unfolding callsOf playCalls
     change-found h =
         let f = fo x ok t F1 F16 K1 events mo full p lo hi h .row in
-        let inf = in-frame x ok t F1 F16 K1 events mo full p lo hi f (f16 x ok t F1 F16 K1 events mo full p lo hi h) (fo x ok t F1 F16 K1 events mo full p lo hi h .page-is) in
-        let nb : blank s p ≡ false = blank-not x ok t F1 F16 K1 events mo full p lo hi (λ z. inf .1 (count-none p k (length k) z)) in
-        end-as (playCalls (playCall (playCall run put) force) bu) (rw (h, nb, changes-now))
-        (put-end ea run f (frameRow s f .dirty) (mo .pages) (low x ok t F1 F16 K1 events mo full p lo hi h) (touched-found x ok t F1 F16 K1 events mo full p lo hi h i true)
-        (record { volume = v; memory = m; past = past; state = s; run-is = refl; ctx = x; holds = (arrived-found x ok t F1 F16 K1 events mo full p lo hi h, full .rows) }))
+        end-as (playCalls (playCall (playCall run put) force) bu) (found-calls x ok t F1 F16 K1 events mo full p lo hi c pays h)
+        (put-end ea run f (frameRow s f .dirty) (mo .pages) (low x ok t F1 F16 K1 events mo full p lo hi h)
+        (touched-found x ok t F1 F16 K1 events mo full p lo hi h i true)
+        (record {
+          volume = v;
+          memory = m;
+          past = past;
+          state = s;
+          run-is = refl;
+          ctx = x;
+          holds = (arrived-found x ok t F1 F16 K1 events mo full p lo hi h, full .rows);
+        }))
 
     module _ (h : held s p ≡ false) where
       abbrev f : ℕ
       f = row x ok t F1 F16 K1 events mo full p lo hi h
 
       abbrev mw : List Call
-      mw = makeWay t (frameRow s f)
+      mw = evictionCalls t (frameRow s f)
 
       f-low : row x ok t F1 F16 K1 events mo full p lo hi h < t .frames
       f-low = row-low x ok t F1 F16 K1 events mo full p lo hi h
 
-      -- the page makes way, a call, and the rest
-      after-way : (d : Call) (rest : List Call) → playCalls run ((mw ++ (d ∷ [])) ++ rest) ≡ playCalls (playCall (playCalls run mw) d) rest
-      unfolding playCalls
-      after-way d rest = calls-append (mw ++ (d ∷ [])) rest run ∙ ap (λ (y : Played). playCalls y rest) (calls-append mw (d ∷ []) run)
-
       change-loaded : countOf p k ≢ 0 → End (playCalls (Run v m past s (mo .pages)) (callsOf t c events s (Change p)))
-      unfolding callsOf bringIn playCalls
       change-loaded nz =
-          let nb : blank s p ≡ false = blank-not x ok t F1 F16 K1 events mo full p lo hi nz in
           let ld = load p (suc f) in
-          let is : callsOf t c events s (Change p) ≡ (mw ++ (ld ∷ [])) ++ (put ∷ force ∷ bu) = rw (h, nb, changes-now, row-victim x ok t F1 F16 K1 events mo full p lo hi h) in
-          end-as (playCalls (playCall (playCall (playCall (playCalls run mw) ld) put) force) bu) (ap (playCalls run) is ∙ after-way ld (put ∷ force ∷ bu))
-          (λ n. put-end ea (playCall (playCalls run mw) ld) f (not (isWritten (t .victim))) (broughtIn t (evicted t mo f) p) f-low (touched-missing x ok t F1 F16 K1 events mo full p lo hi h i true)
-          (loaded x ok t F1 F16 K1 events mo full p lo hi h nz (call-stays (playCall (playCalls run mw) ld) put (call-stays (playCall (playCall (playCalls run mw) ld) put) force
+          end-as (playCalls (playCall (playCall (playCall (playCalls run mw) ld) put) force) bu)
+          (loaded-calls x ok t F1 F16 K1 events mo full p lo hi c pays h nz)
+          (λ n. put-end ea (playCall (playCalls run mw) ld) f (not (isWritten (t .victim))) (broughtIn t (evicted t mo f) p) f-low
+          (touched-missing x ok t F1 F16 K1 events mo full p lo hi h i true)
+          (loaded x ok t F1 F16 K1 events mo full p lo hi h nz
+          (call-stays (playCall (playCalls run mw) ld) put (call-stays (playCall (playCall (playCalls run mw) ld) put) force
           (calls-stay bu (playCall (playCall (playCall (playCalls run mw) ld) put) force) n)))) n)
 
       change-begun : countOf p k ≡ 0 → End (playCalls (Run v m past s (mo .pages)) (callsOf t c events s (Change p)))
-      unfolding callsOf bringIn playCalls broughtIn
-      change-begun z =
-          let yb : blank s p ≡ true = blank-yes x ok t F1 F16 K1 events mo full p lo hi z in
-          let bg = begin p (suc f) (c .fill) in
-          let is : callsOf t c events s (Change p) ≡ (mw ++ (bg ∷ [])) ++ (force ∷ bu) = rw (h, yb, changes-now, row-victim x ok t F1 F16 K1 events mo full p lo hi h) in
-          end-as (playCalls (playCall (playCall (playCalls run mw) bg) force) bu) (ap (playCalls run) is ∙ after-way bg (force ∷ bu)) (λ n. begun z n)
+      unfolding broughtIn
+      change-begun z = end-as (playCalls (playCall (playCall (playCalls run mw) (begin p (suc f) (c .fill))) force) bu)
+          (begun-calls x ok t F1 F16 K1 events mo full p lo hi c pays h z) begun
         where
-          pick : (q : ℕ) → q ≢ 0 ⊎ (q ≡ 0)
-          pick zero = inr refl
-          pick (suc q) = inl (λ y. omega arith)
-
-          begun : countOf p k ≡ 0 → playCalls (playCall (playCall (playCalls run mw) (begin p (suc f) (c .fill))) force) bu .refused ≡ false
+          begun : playCalls (playCall (playCall (playCalls run mw) (begin p (suc f) (c .fill))) force) bu .refused ≡ false
               → End (playCalls (playCall (playCall (playCalls run mw) (begin p (suc f) (c .fill))) force) bu)
-          begun z n =
-              let bg = begin p (suc f) (c .fill) in
-              let ch = loggedChange p (Format (c .fill)) [] in
+          begun n =
+              let r = playCall (playCall (playCalls run mw) (begin p (suc f) (c .fill))) force in
               let l = evicted t mo f in
-              let n₁ = calls-stay bu (playCall (playCall (playCalls run mw) bg) force) n in
-              let n₂ = call-stays (playCall (playCalls run mw) bg) force n₁ in
-              let a = made-way x ok t F1 F16 K1 events mo full p lo hi h (call-stays (playCalls run mw) bg n₂) in
-              let n₃ : playCall (Run (a .volume) (a .memory) (a .past) (a .state) l) bg .refused ≡ false = subst (λ (y : Played). playCall y bg .refused ≡ false) (a .run-is) n₂ in
-              let pg : p ≤ g .pages = begin-high (a .ctx) p (suc f) (rows-none (a .volume) (a .memory) (a .past) (a .state) l bg n₃) in
-              let b = changed-step (a .ctx) t events (mo .frames) f p 0 f-low F16 lo pg l (a .holds .rows) (a .holds .sim) (λ q y. pick q) (a .holds .backs) (a .holds .quiet)
-              (λ j b y. no-page (a .ctx) p j lo b z) ch refl (λ y. count-none p k (length k) z) (playCall (playCalls run mw) bg)
-              (stage-as (ap (λ (y : Played). playCall y bg) (a .run-is)) refl (begin-step (a .ctx) l p f (c .fill) n₃)) n₁ in
+              let n₁ = calls-stay bu r n in
+              let a = eviction-stage x ok t F1 F16 K1 events mo full p lo hi h (call-stays (playCalls run mw) (begin p (suc f) (c .fill))
+              (call-stays (playCall (playCalls run mw) (begin p (suc f) (c .fill))) force n₁)) in
+              let b = begin-on x ok t F1 F16 K1 events mo full p lo hi c pays h z n₁ in
+              let pg : p ≤ g .pages = page-high (b .ctx) p f lo (omega (arith, f-low)) (ap (λ y. y .page) (b .holds .0 .row-is)) in
               let cnt : pageRow l p .records ≡ countOf p k = a .holds .rows .records p lo hi in
-              let same : broughtIn t l p ≡ l = let y : eqb (pageRow l p .records) 0 ≡ true = eq-eqb (pageRow l p .records) 0 (cnt ∙ z) in rw y in
-              change-end ea (playCalls (playCall (playCall (playCalls run mw) bg) force) bu) f l ch refl f-low
+              let same : broughtIn t l p ≡ l =
+              let y : eqb (pageRow l p .records) 0 ≡ true = eq-eqb (pageRow l p .records) 0 (cnt ∙ z) in rw y in
+              change-end ea (playCalls r bu) f l (beginLogged c p) refl f-low
               (touched-missing x ok t F1 F16 K1 events mo full p lo hi h i true
-              ∙ ap (λ (y : List Figures). record { frames = set (mo .frames) f (record { page = p; used = i; dirty = true }); pages = y }) same)
-              (backed C g t F16 K1 events (mo .frames) f p (countOf p k) f-low lo pg hi l (a .holds .rows .size) cnt (k ++ (ch ∷ [])) (playCall (playCall (playCalls run mw) bg) force) c b n)
+              ∙ ap (λ (y : List Figures). record { frames = set (mo .frames) f (record { page = p; used = i; dirty = true }); pages = y })
+              same)
+              (backed C g t F16 K1 events (mo .frames) f p (countOf p k) f-low lo pg hi l (a .holds .rows .size) cnt
+              (k ++ (beginLogged c p ∷ [])) r c b n)
 
     pub change-event : End (playCalls (Run v m past s (mo .pages)) (callsOf t c events s (Change p)))
-    change-event = byCases (held s p) change-found (λ h. elim (ℕ-discrete (countOf p k) 0) [ yes z ↦ change-begun h z | no z ↦ change-loaded h z ])
+    change-event =
+        byCases (held s p) change-found (λ h. elim (ℕ-discrete (countOf p k) 0) [ yes z ↦ change-begun h z | no z ↦ change-loaded h z ])
 
   -- ---- a read
 
@@ -262,7 +246,8 @@ module _ {C : Type 0} {g : Geometry} {v m : List ℕ} {past : List StoredItem} {
     abbrev Ends : Played → Type 0
     Ends r = After C g t (e ∷ events) (touched t i mo p false) r
 
-    ends-as : (r : Played) → playCalls run (callsOf t c events s (Read p)) ≡ r → (r .refused ≡ false → Ends r) → Ends (playCalls run (callsOf t c events s (Read p)))
+    ends-as : (r : Played) → playCalls run (callsOf t c events s (Read p)) ≡ r → (r .refused ≡ false → Ends r)
+        → Ends (playCalls run (callsOf t c events s (Read p)))
     ends-as r q f = subst (λ (y : Played). Ends y) (sym q) (f (subst (λ (y : Played). y .refused ≡ false) q nr))
 
     read-found : countOf p k ≢ 0 → (h : held s p ≡ true) → Ends (playCalls (Run v m past s (mo .pages)) (callsOf t c events s (Read p)))
@@ -271,37 +256,48 @@ module _ {C : Type 0} {g : Geometry} {v m : List ℕ} {past : List StoredItem} {
         let f = fo x ok t F1 F16 K1 events mo full p lo hi h .row in
         let nb : blank s p ≡ false = blank-not x ok t F1 F16 K1 events mo full p lo hi nz in
         ends-as run (rw (nb, h)) (λ n. read-end ea run f (frameRow s f .dirty) (mo .pages) (low x ok t F1 F16 K1 events mo full p lo hi h)
-        (touched-found x ok t F1 F16 K1 events mo full p lo hi h i false ∙ same (fo x ok t F1 F16 K1 events mo full p lo hi h .row) (f16 x ok t F1 F16 K1 events mo full p lo hi h))
-        (record { volume = v; memory = m; past = past; state = s; run-is = refl; ctx = x; holds = (arrived-found x ok t F1 F16 K1 events mo full p lo hi h, full .rows) }))
+        (touched-found x ok t F1 F16 K1 events mo full p lo hi h i false
+        ∙ same (fo x ok t F1 F16 K1 events mo full p lo hi h .row) (f16 x ok t F1 F16 K1 events mo full p lo hi h))
+        (record {
+          volume = v;
+          memory = m;
+          past = past;
+          state = s;
+          run-is = refl;
+          ctx = x;
+          holds = (arrived-found x ok t F1 F16 K1 events mo full p lo hi h, full .rows);
+        }))
       where
-        same : (f : ℕ) → f < 16 → foundIn i mo p false f ≡ record { frames = set (mo .frames) f (record { page = p; used = i; dirty = frameRow s f .dirty }); pages = mo .pages }
+        same : (f : ℕ) → f < 16 → foundIn i mo p false f
+            ≡ record { frames = set (mo .frames) f (record { page = p; used = i; dirty = frameRow s f .dirty }); pages = mo .pages }
         same f b = rw (alike x ok t F1 F16 K1 events mo full p lo hi f b)
 
     read-loaded : countOf p k ≢ 0 → (h : held s p ≡ false) → Ends (playCalls (Run v m past s (mo .pages)) (callsOf t c events s (Read p)))
-    unfolding callsOf bringIn playCalls
     read-loaded nz h =
         let f = row x ok t F1 F16 K1 events mo full p lo hi h in
-        let mw = makeWay t (frameRow s f) in
-        let ld = load p (suc f) in
-        let nb : blank s p ≡ false = blank-not x ok t F1 F16 K1 events mo full p lo hi nz in
-        let is : callsOf t c events s (Read p) ≡ mw ++ (ld ∷ []) = rw (nb, h, row-victim x ok t F1 F16 K1 events mo full p lo hi h) in
-        ends-as (playCall (playCalls run mw) ld) (ap (playCalls run) is ∙ calls-append mw (ld ∷ []) run)
-        (λ n. read-end ea (playCall (playCalls run mw) ld) f (not (isWritten (t .victim))) (broughtIn t (evicted t mo f) p) (row-low x ok t F1 F16 K1 events mo full p lo hi h)
+        let r = playCall (playCalls run (evictionCalls t (frameRow s f))) (load p (suc f)) in
+        ends-as r (read-calls x ok t F1 F16 K1 events mo full p lo hi c pays h nz)
+        (λ n. read-end ea r f (not (isWritten (t .victim))) (broughtIn t (evicted t mo f) p)
+        (row-low x ok t F1 F16 K1 events mo full p lo hi h)
         (touched-missing x ok t F1 F16 K1 events mo full p lo hi h i false) (loaded x ok t F1 F16 K1 events mo full p lo hi h nz n))
 
-    pub read-event : After C g t (e ∷ events) (stepOn t i mo (Read p)) (playCalls (Run v m past s (mo .pages)) (callsOf t c events s (Read p)))
+    pub read-event : After C g t (e ∷ events) (stepOn t i mo (Read p))
+        (playCalls (Run v m past s (mo .pages)) (callsOf t c events s (Read p)))
     unfolding stepOn callsOf playCalls
     read-event = elim (ℕ-discrete (countOf p k) 0) [
       | yes z ↦
-          let y : eqb (pageRow (mo .pages) p .records) 0 ≡ true = eq-eqb (pageRow (mo .pages) p .records) 0 (row-count x ok t F1 F16 K1 events mo full p lo hi ∙ z) in
+          let y : eqb (pageRow (mo .pages) p .records) 0 ≡ true =
+          eq-eqb (pageRow (mo .pages) p .records) 0 (row-count x ok t F1 F16 K1 events mo full p lo hi ∙ z) in
           let b : blank s p ≡ true = blank-yes x ok t F1 F16 K1 events mo full p lo hi z in
           rw (y, b) (read-blank ea z)
       | no nz ↦
-          let y : eqb (pageRow (mo .pages) p .records) 0 ≡ false = ne-eqb (pageRow (mo .pages) p .records) 0 (λ q. nz (sym (row-count x ok t F1 F16 K1 events mo full p lo hi) ∙ q)) in
+          let y : eqb (pageRow (mo .pages) p .records) 0 ≡ false =
+          ne-eqb (pageRow (mo .pages) p .records) 0 (λ q. nz (sym (row-count x ok t F1 F16 K1 events mo full p lo hi) ∙ q)) in
           rw y (byCases (held s p) (read-found nz) (read-loaded nz))
     ]
 
-  pub event : (a : Access) → accessOf e ≡ a → pageIn a ≡ p → playCalls (Run v m past s (mo .pages)) (callsOf t c events s a) .refused ≡ false
+  pub event : (a : Access) → accessOf e ≡ a → pageIn a ≡ p
+      → playCalls (Run v m past s (mo .pages)) (callsOf t c events s a) .refused ≡ false
       → After C g t (e ∷ events) (stepOn t i mo a) (playCalls (Run v m past s (mo .pages)) (callsOf t c events s a))
   unfolding stepOn
   event (Read q) ea qp nr =

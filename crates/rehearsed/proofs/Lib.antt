@@ -3,6 +3,7 @@ pub mod Chain
 pub mod Searches
 pub mod Play
 pub mod Relation
+pub mod Taken
 pub mod LoadStep
 pub mod StoreSteps
 pub mod ChangeStep
@@ -10,5 +11,14 @@ pub mod BackupStep
 pub mod AwayStep
 pub mod Event
 pub mod Backed
+pub mod EventCalls
 pub mod EventStep
+pub mod Totals
+pub mod Slots
+pub mod Tally
+pub mod Going
+pub mod StepRoom
+pub mod EventRoom
 pub mod Theorem
+pub mod Room
+pub mod Instance

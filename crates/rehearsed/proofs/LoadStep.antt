@@ -1,5 +1,5 @@
--- A Load: with written victims it is Good and replays nothing; with victims let go it is Failed and replays the page's changes since its last
--- noted backup.
+-- A Load: with written victims it is Good and replays nothing; with victims let go it is Failed and replays the page's changes since its
+-- last noted backup.
 use mathlib.Core.Path.{_≡_, refl, sym, ap, _∙_}
 use mathlib.Core.Logic.{_≢_, _⊎_, inl, inr, ⊎-elim}
 use mathlib.Core.Bool.{true, false, cond, not}
@@ -41,7 +41,8 @@ use Rattle.rehearsed.proofs.Play.{Run, Stage, rows-none, run-as, ctx-as
 use Rattle.rehearsed.proofs.Relation.{Current, OnDisk, Mine, Sim, Backups, Arrived, Rows, rows-kept, sim-keep, durable-is}
 
 -- a valid own image with the page's last number
-module _ (g : Geometry) (p : ℕ) (w : View) (j : ℕ) (d : w .durable ≡ suc j) (t : validImage g p (w .own) ≡ true) (e : imageLsn (w .own) ≡ suc j) where
+module _ (g : Geometry) (p : ℕ) (w : View) (j : ℕ) (d : w .durable ≡ suc j) (t : validImage g p (w .own) ≡ true)
+    (e : imageLsn (w .own) ≡ suc j) where
   own-count : repairOf g p w .count ≡ 0
   unfolding repairOf walkOf walkFrom
   own-count = rw (d, t, e, eq-eqb (suc j) (suc j) refl)
@@ -54,7 +55,8 @@ bad-class : (g : Geometry) (p : ℕ) (w : View) → validImage g p (w .own) ≡ 
 unfolding classOf
 bad-class g p w t = rw t
 
-module _ {C : Type 0} {g : Geometry} {v m : List ℕ} {past : List StoredItem} {s : State} {k : List Logged} (x : Ctx C g v m past s k []) (ok : C) (t : Settings)
+module _ {C : Type 0} {g : Geometry} {v m : List ℕ} {past : List StoredItem} {s : State} {k : List Logged}
+    (x : Ctx C g v m past s k []) (ok : C) (t : Settings)
     (events : List ℕ) (ms : List FrameUse) (f p : ℕ) (low : f < t .frames) (few : t .frames ≤ 16) (fs : List Figures)
     (no : playCall (Run v m past s fs) (load p (suc f)) .refused ≡ false) where
   rows0 : firstOf (loadRows v m s p (suc f)) ≡ 0
@@ -76,7 +78,8 @@ module _ {C : Type 0} {g : Geometry} {v m : List ℕ} {past : List StoredItem} {
   some : lastOf p k ≢ 0
   some z = l .some (l .settled ∙ (durable-last x p (l .low) (l .high) ∙ z))
 
-  tells : validImage g p (item g v (pageAt p)) ≡ false → (begun : Begun k) → repairOf g p view .count + countAt p k (entryOf (s .index) p .backup) ≡ countOf p k
+  tells : validImage g p (item g v (pageAt p)) ≡ false
+      → (begun : Begun k) → repairOf g p view .count + countAt p k (entryOf (s .index) p .backup) ≡ countOf p k
   unfolding repairOf
   tells bad begun = go (lastOf p k) refl
     where
@@ -87,7 +90,8 @@ module _ {C : Type 0} {g : Geometry} {v m : List ℕ} {past : List StoredItem} {
           let b : suc j ≤ length k = omega (arith, last-le p k (length k)) in
           let above = rw (x .al .log .durable-is, entry-is x p (l .low) (l .high), d) at (loads-above x p (suc f) rows0) in
           rw (x .al .log .durable-is, entry-is x p (l .low) (l .high), d)
-          (view-tells x ok begun p (l .low) (l .high) (lastOf p (x .all)) j b (last-page p k (length k) j q) q bad above ∙ sym (count-last p k (length k) ∙ ap (countAt p k) q))
+          (view-tells x ok begun p (l .low) (l .high) (lastOf p (x .all)) j b (last-page p k (length k) j q) q bad above
+          ∙ sym (count-last p k (length k) ∙ ap (countAt p k) q))
 
   -- the load's class and count, and what is then known of the page
   record Told (w : Victim) : Type 0 where
@@ -97,14 +101,19 @@ module _ {C : Type 0} {g : Geometry} {v m : List ℕ} {past : List StoredItem} {
 
   told : (w : Victim) → OnDisk w g v s k f 0 → Sim t events ms g v s k f 0 → Backups t g s k → Told w
   told Written h sim bk =
-      let cur = ⊎-elim (λ y. absurd (away (y .row) (y .below) (y .page-is))) (λ y. y) (h p (l .low) (l .high) (λ z. omega (arith, l .low)) some) in
+      let cur = ⊎-elim (λ y. absurd (away (y .row) (y .below) (y .page-is))) (λ y. y)
+      (h p (l .low) (l .high) (λ z. omega (arith, l .low)) some) in
       go cur (lastOf p k) refl
     where
       go : Current g v p (lastOf p k) → (n : ℕ) → lastOf p k ≡ n → Told Written
       go cur zero q = absurd (some q)
       go cur (suc j) q =
           let d : view .durable ≡ suc j = durable-is x p (l .low) p64 ∙ q in
-          record { good = own-good g p view j d (cur .0) (cur .1 ∙ q); count = own-count g p view j d (cur .0) (cur .1 ∙ q); mine = inr cur }
+          record {
+            good = own-good g p view j d (cur .0) (cur .1 ∙ q);
+            count = own-count g p view j d (cur .0) (cur .1 ∙ q);
+            mine = inr cur;
+          }
   told LetGo h sim bk =
       let bad = h .0 p (l .low) (l .high) in
       record { good = bad-class g p view bad; count = omega (arith, tells bad (sim .begun), bk p (l .low) (l .high)); mine = refl }
@@ -124,7 +133,8 @@ module _ {C : Type 0} {g : Geometry} {v m : List ℕ} {past : List StoredItem} {
 
   pub load-step : Sim t events ms g v s k f 0 → Backups t g s k → s .note ≡ Absent → Rows fs k
       → Stage C g (playCall (Run v m past s fs) (load p (suc f))) (setRow fs p (withLoad (pageRow fs p) (replayedBy t (countOf p k)))) k []
-      (λ v′ s′. Arrived t events ms g v′ s′ k f p (not (isWritten (t .victim))) × Rows (setRow fs p (withLoad (pageRow fs p) (replayedBy t (countOf p k)))) k)
+      (λ v′ s′. Arrived t events ms g v′ s′ k f p (not (isWritten (t .victim)))
+      × Rows (setRow fs p (withLoad (pageRow fs p) (replayedBy t (countOf p k)))) k)
   unfolding volumeAfter stepCall
   load-step sim bk quiet rows =
       let a = told (t .victim) (sim .disk) sim bk in
@@ -138,7 +148,8 @@ module _ {C : Type 0} {g : Geometry} {v m : List ℕ} {past : List StoredItem} {
         ctx = ctx-as v m past s fs (load p (suc f)) no x refl refl done done-is k [] refl;
         holds = (
           record {
-            sim = sim-keep t events ms g v v s (done .state) k f 0 p low (λ j b n. rw row (getD-set-other (s .frames) f j new emptyFrame n)) (λ q lo hi. refl) (λ q n. pick q) sim;
+            sim = sim-keep t events ms g v v s (done .state) k f 0 p low (λ j b n. rw row (getD-set-other (s .frames) f j new emptyFrame n))
+                (λ q lo hi. refl) (λ q n. pick q) sim;
             backs = bk;
             quiet = quiet;
             row-is = rw (row, getD-set-same (s .frames) f new emptyFrame (omega (arith, x .al .frames .size)), a .good);

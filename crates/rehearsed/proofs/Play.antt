@@ -27,7 +27,8 @@ abbrev pub Run : List ℕ → List ℕ → List StoredItem → State → List Fi
 Run v m past s fs = record { machine = record { volume = v; power = on m s; past = past }; figures = fs; refused = false }
 
 -- what a run is after a stage of an event
-pub record Stage (C : Type 0) (g : Geometry) (r : Played) (fs : List Figures) (k w : List Logged) (Q : List ℕ → State → Type 0) : Type 0 where
+pub record Stage (C : Type 0) (g : Geometry) (r : Played) (fs : List Figures) (k w : List Logged)
+    (Q : List ℕ → State → Type 0) : Type 0 where
   pub volume : List ℕ
   pub memory : List ℕ
   pub past : List StoredItem
@@ -51,11 +52,13 @@ unfolding playCalls
 calls-stay [] r e = e
 calls-stay (c ∷ cs) r e = call-stays r c (calls-stay cs (playCall r c) e)
 
-pub events-stay : (t : Settings) (choices : Choices) (es past : List ℕ) (r : Played) → playEvents t choices past r es .refused ≡ false → r .refused ≡ false
+pub events-stay : (t : Settings) (choices : Choices) (es past : List ℕ) (r : Played)
+    → playEvents t choices past r es .refused ≡ false → r .refused ≡ false
 unfolding playEvents
 events-stay t choices [] past r e = e
 events-stay t choices (x ∷ es) past r e =
-    calls-stay (callsIn (r .machine .power) t choices past (accessOf x)) r (events-stay t choices es (x ∷ past) (playCalls r (callsIn (r .machine .power) t choices past (accessOf x))) e)
+    calls-stay (callsIn (r .machine .power) t choices past (accessOf x)) r
+    (events-stay t choices es (x ∷ past) (playCalls r (callsIn (r .machine .power) t choices past (accessOf x))) e)
 
 pub calls-append : (cs ds : List Call) (r : Played) → playCalls r (cs ++ ds) ≡ playCalls (playCalls r cs) ds
 unfolding playCalls
@@ -72,7 +75,8 @@ calls-one r c cs = refl
 
 -- ---- a call that is taken
 
-module _ (v m : List ℕ) (past : List StoredItem) (s : State) (fs : List Figures) (c : Call) (no : playCall (Run v m past s fs) c .refused ≡ false) where
+module _ (v m : List ℕ) (past : List StoredItem) (s : State) (fs : List Figures) (c : Call)
+    (no : playCall (Run v m past s fs) c .refused ≡ false) where
   taken : eqb (refusalOf (outcomeOf c v m s .answer)) 0 ≡ true
   unfolding playCall
   taken = not-false (eqb (refusalOf (outcomeOf c v m s .answer)) 0) no
@@ -81,31 +85,44 @@ module _ (v m : List ℕ) (past : List StoredItem) (s : State) (fs : List Figure
   rows-none = sym (call-refusal c v m s) ∙ eqb-true (refusalOf (outcomeOf c v m s .answer)) 0 taken
 
   pub run-as : isRestamp c ≡ false → (o : Outcome) → outcomeOf c v m s ≡ o
-      → playCall (Run v m past s fs) c ≡ Run (volumeAfter v (o .stored)) (o .memory) (o .stored ∷ past) (o .state) (answerCount c (o .answer) (storedCount (o .stored) fs))
+      → playCall (Run v m past s fs) c ≡ Run (volumeAfter v (o .stored)) (o .memory) (o .stored ∷ past) (o .state)
+      (answerCount c (o .answer) (storedCount (o .stored) fs))
   unfolding playCall step
-  run-as nr o e = subst (λ (y : Outcome). playCall (Run v m past s fs) c ≡ Run (volumeAfter v (y .stored)) (y .memory) (y .stored ∷ past) (y .state) (answerCount c (y .answer) (storedCount (y .stored) fs))) e whole
+  run-as nr o e = subst (λ (y : Outcome). playCall (Run v m past s fs) c ≡ Run (volumeAfter v (y .stored)) (y .memory) (y .stored ∷ past)
+      (y .state) (answerCount c (y .answer) (storedCount (y .stored) fs))) e whole
     where
       counts : pastAfter c v (outcomeOf c v m s .stored) past ≡ outcomeOf c v m s .stored ∷ past
       counts = rw nr
 
       whole : playCall (Run v m past s fs) c
-          ≡ Run (volumeAfter v (outcomeOf c v m s .stored)) (outcomeOf c v m s .memory) (outcomeOf c v m s .stored ∷ past) (outcomeOf c v m s .state)
+          ≡ Run (volumeAfter v (outcomeOf c v m s .stored)) (outcomeOf c v m s .memory) (outcomeOf c v m s .stored ∷ past)
+          (outcomeOf c v m s .state)
           (answerCount c (outcomeOf c v m s .answer) (storedCount (outcomeOf c v m s .stored) fs))
       whole = ap (λ (b : Bool). record {
-        machine = record { volume = volumeAfter v (outcomeOf c v m s .stored); power = on (outcomeOf c v m s .memory) (outcomeOf c v m s .state); past = pastAfter c v (outcomeOf c v m s .stored) past };
+        machine = record {
+          volume = volumeAfter v (outcomeOf c v m s .stored);
+          power = on (outcomeOf c v m s .memory) (outcomeOf c v m s .state);
+          past = pastAfter c v (outcomeOf c v m s .stored) past;
+        };
         figures = answerCount c (outcomeOf c v m s .answer) (storedCount (outcomeOf c v m s .stored) fs);
         refused = not b;
       }) taken
           ∙ ap (λ (l : List StoredItem). record {
-            machine = record { volume = volumeAfter v (outcomeOf c v m s .stored); power = on (outcomeOf c v m s .memory) (outcomeOf c v m s .state); past = l };
+            machine = record {
+              volume = volumeAfter v (outcomeOf c v m s .stored);
+              power = on (outcomeOf c v m s .memory) (outcomeOf c v m s .state);
+              past = l;
+            };
             figures = answerCount c (outcomeOf c v m s .answer) (storedCount (outcomeOf c v m s .stored) fs);
             refused = false;
           }) counts
 
-  pub ctx-as : {C : Type 0} {g : Geometry} {k w : List Logged} (x : Ctx C g v m past s k w) → carries c ≡ false → payloadFits c ≡ true → (o : Outcome) → outcomeOf c v m s ≡ o
+  pub ctx-as : {C : Type 0} {g : Geometry} {k w : List Logged} (x : Ctx C g v m past s k w) → carries c ≡ false → payloadFits c ≡ true
+      → (o : Outcome) → outcomeOf c v m s ≡ o
       → (k′ w′ : List Logged) → stepCall (record { durable = k; pending = w }) c ≡ record { durable = k′; pending = w′ }
       → Ctx C g (volumeAfter v (o .stored)) (o .memory) (o .stored ∷ past) (o .state) k′ w′
   ctx-as {C} {g} {k} {w} x nc h o e k′ w′ b =
       subst (λ (y : Outcome). Ctx C g (volumeAfter v (y .stored)) (y .memory) (y .stored ∷ past) (y .state) k′ w′) e
-      (context g (volumeAfter v (outcomeOf c v m s .stored)) (outcomeOf c v m s .memory) (outcomeOf c v m s .stored ∷ past) (outcomeOf c v m s .state) (record { durable = k′; pending = w′ })
+      (context g (volumeAfter v (outcomeOf c v m s .stored)) (outcomeOf c v m s .memory) (outcomeOf c v m s .stored ∷ past)
+      (outcomeOf c v m s .state) (record { durable = k′; pending = w′ })
       (rw (rows-none, b) at (inv-call x c nc h)))

@@ -12,7 +12,7 @@ use borrow.Author.Tests.{eq-eqb, ne-eqb}
 use Rattle.model.specs.Geometry.{pageAt, item}
 use Rattle.model.specs.Item.{imageLsn, validImage}
 use Rattle.model.specs.Index.{emptyEntry, entryOf, setEntry}
-use Rattle.model.specs.State.{emptyFrame, frameRow}
+use Rattle.model.specs.State.{emptyFrame, frameRow, blank}
 use Rattle.model.specs.Calls.{StoredItem}
 use Rattle.model.specs.AbstractLog.{Logged}
 use Rattle.model.specs.Rehearsal.{accessOf, pageIn, unused, noFigures, pageRow, setRow}
@@ -28,8 +28,9 @@ use Rattle.model.specs.declared.rehearsal.Settings.{Settings}
 use Rattle.model.specs.declared.rehearsal.FrameUse.{FrameUse}
 use Rattle.model.specs.declared.rehearsal.Figures.{Figures}
 use Rattle.history.proofs.Logs.{lastAt, lastOf}
+use Rattle.history.proofs.Records.{last-past}
 use Rattle.history.proofs.Context.{Ctx}
-use Rattle.rehearsed.proofs.Counts.{countAt, countOf, count-new, count-other}
+use Rattle.rehearsed.proofs.Counts.{countAt, countOf, none-count, count-none, count-new, count-other}
 use Rattle.rehearsed.proofs.Chain.{Begun}
 use Rattle.rehearsed.proofs.Searches.{Alike}
 
@@ -61,7 +62,8 @@ Mine Written g v k p d = (d ≡ true) ⊎ Current g v p (lastOf p k)
 Mine LetGo g v k p d = d ≡ true
 
 -- all but a row (16: none) and a page (0: none)
-pub record Sim (t : Settings) (events : List ℕ) (ms : List FrameUse) (g : Geometry) (v : List ℕ) (s : State) (k : List Logged) (skip but : ℕ) : Type 0 where
+pub record Sim (t : Settings) (events : List ℕ) (ms : List FrameUse) (g : Geometry) (v : List ℕ) (s : State) (k : List Logged)
+    (skip but : ℕ) : Type 0 where
   pub frames : Alike events ms s skip
   pub inside : (j : ℕ) → j < 16 → t .frames ≤ j → frameRow s j .page ≡ 0
   pub begun : Begun k
@@ -75,7 +77,8 @@ abbrev pub Backups : Settings → Geometry → State → List Logged → Type 0
 Backups t g s k = (p : ℕ) → 1 ≤ p → p ≤ g .pages → BackedAt t s k p
 
 -- page p has come into row f, or was found there
-pub record Arrived (t : Settings) (events : List ℕ) (ms : List FrameUse) (g : Geometry) (v : List ℕ) (s : State) (k : List Logged) (f p : ℕ) (d : Bool) : Type 0 where
+pub record Arrived (t : Settings) (events : List ℕ) (ms : List FrameUse) (g : Geometry) (v : List ℕ) (s : State) (k : List Logged) (f p : ℕ)
+    (d : Bool) : Type 0 where
   pub sim : Sim t events ms g v s k f p
   pub backs : Backups t g s k
   pub quiet : s .note ≡ Absent
@@ -106,7 +109,8 @@ module _ (fs : List Figures) (p : ℕ) (lo : 1 ≤ p) (hi : p ≤ 64) (size : le
       again (x ∷ xs) (suc i) = ap (λ (ys : List Figures). x ∷ ys) (again xs i)
 
   -- two updates of one row
-  pub row-twice : (f h : Figures → Figures) → setRow (setRow fs p (f (pageRow fs p))) p (h (pageRow (setRow fs p (f (pageRow fs p))) p)) ≡ setRow fs p (h (f (pageRow fs p)))
+  pub row-twice : (f h : Figures → Figures)
+      → setRow (setRow fs p (f (pageRow fs p))) p (h (pageRow (setRow fs p (f (pageRow fs p))) p)) ≡ setRow fs p (h (f (pageRow fs p)))
   row-twice f h = rw (row-same (f (pageRow fs p))) (set-set (f (pageRow fs p)) (h (f (pageRow fs p))))
 
   pub rows-kept : (k : List Logged) (r : Figures) → r .records ≡ pageRow fs p .records → Rows fs k → Rows (setRow fs p r) k
@@ -119,29 +123,37 @@ module _ (fs : List Figures) (p : ℕ) (lo : 1 ≤ p) (hi : p ≤ 64) (size : le
         ];
       }
 
-  pub rows-more : (k : List Logged) (c : Logged) → c .page ≡ p → (r : Figures) → r .records ≡ pageRow fs p .records + 1 → Rows fs k → Rows (setRow fs p r) (k ++ (c ∷ []))
+  pub rows-more : (k : List Logged) (c : Logged) → c .page ≡ p → (r : Figures) → r .records ≡ pageRow fs p .records + 1 → Rows fs k
+      → Rows (setRow fs p r) (k ++ (c ∷ []))
   rows-more k c cp r e x =
       record {
         size = length-set fs (p - 1) r ∙ size;
         records = λ q a b. elim (ℕ-discrete q p) [
-          | yes z ↦ rw (z, row-same r) (let n : countOf p (k ++ (c ∷ [])) ≡ suc (countOf p k) = subst (λ (q : ℕ). countOf q (k ++ (c ∷ [])) ≡ suc (countOf q k)) cp (count-new k c) in omega (arith, e, x .records p lo hi))
+          | yes z ↦ rw (z, row-same r) (let n : countOf p (k ++ (c ∷ [])) ≡ suc (countOf p k) = subst
+              (λ (q : ℕ). countOf q (k ++ (c ∷ [])) ≡ suc (countOf q k)) cp (count-new k c) in omega (arith, e, x .records p lo hi))
           | no z ↦ rw (row-other r q a z) (x .records q a b ∙ sym (count-other k c q (λ y. z (y ∙ cp))))
         ];
       }
 
 -- ---- the index
 
--- an entry that is set with the backup it had
-pub backup-kept : (index : List Entry) (p : ℕ) (e : Entry) → e .backup ≡ entryOf index p .backup → (q : ℕ) → entryOf (setEntry index p e) q .backup ≡ entryOf index q .backup
-backup-kept index p e h q = elim (ℕ-discrete (q - 1) (p - 1)) [
+-- an entry that is set with what it had in a column
+pub column-kept : (f : Entry → ℕ) (index : List Entry) (p : ℕ) (e : Entry) → f e ≡ f (entryOf index p)
+    → (q : ℕ) → f (entryOf (setEntry index p e) q) ≡ f (entryOf index q)
+column-kept f index p e h q = elim (ℕ-discrete (q - 1) (p - 1)) [
   | yes z ↦ elim (decLt (p - 1) (length index)) [
     | yes l ↦ rw (z, getD-set-same index (p - 1) e emptyEntry l) h
     | no n ↦ rw (set-out index (p - 1) e (omega arith))
   ]
-  | no z ↦ ap (λ (y : Entry). y .backup) (getD-set-other index (p - 1) (q - 1) e emptyEntry z)
+  | no z ↦ ap f (getD-set-other index (p - 1) (q - 1) e emptyEntry z)
 ]
 
-pub backups-kept : (t : Settings) (g : Geometry) (s s′ : State) (k : List Logged) → ((q : ℕ) → entryOf (s′ .index) q .backup ≡ entryOf (s .index) q .backup) → Backups t g s k → Backups t g s′ k
+pub backup-kept : (index : List Entry) (p : ℕ) (e : Entry) → e .backup ≡ entryOf index p .backup
+    → (q : ℕ) → entryOf (setEntry index p e) q .backup ≡ entryOf index q .backup
+backup-kept = column-kept (λ (e : Entry). e .backup)
+
+pub backups-kept : (t : Settings) (g : Geometry) (s s′ : State) (k : List Logged)
+    → ((q : ℕ) → entryOf (s′ .index) q .backup ≡ entryOf (s .index) q .backup) → Backups t g s k → Backups t g s′ k
 backups-kept t g s s′ k same b p lo hi = rw (same p) (b p lo hi)
 
 -- ---- frames
@@ -156,12 +168,14 @@ unfolding lastUse
 use-not e events q h = rw (ne-eqb (pageIn (accessOf e)) q h)
 
 -- an event of a page that is in no frame
-pub alike-idle : (events : List ℕ) (ms : List FrameUse) (s : State) (e : ℕ) → Alike events ms s 16 → ((j : ℕ) → j < 16 → frameRow s j .page ≢ pageIn (accessOf e)) → Alike (e ∷ events) ms s 16
+pub alike-idle : (events : List ℕ) (ms : List FrameUse) (s : State) (e : ℕ) → Alike events ms s 16
+    → ((j : ℕ) → j < 16 → frameRow s j .page ≢ pageIn (accessOf e)) → Alike (e ∷ events) ms s 16
 alike-idle events ms s e a away =
     record { size = a .size; each = λ j b n. rw (use-not e events (frameRow s j .page) (λ z. away j b (sym z))) (a .each j b n) }
 
 -- the event's page is in row f, and nowhere else
-module _ (t : Settings) (events : List ℕ) (ms : List FrameUse) (g : Geometry) (v : List ℕ) (s : State) (k : List Logged) (e p f : ℕ) (d : Bool)
+module _ (t : Settings) (events : List ℕ) (ms : List FrameUse) (g : Geometry) (v : List ℕ) (s : State)
+    (k : List Logged) (e p f : ℕ) (d : Bool)
     (of-page : pageIn (accessOf e) ≡ p) (b : f < 16) (row-is : frameRow s f ≡ record { page = p; dirty = d })
     (alone : (j : ℕ) → j < 16 → j ≢ f → frameRow s j .page ≢ p) where
   pub alike-used : Alike events ms s f → Alike (e ∷ events) (set ms f (record { page = p; used = suc (length events); dirty = d })) s 16
@@ -170,14 +184,16 @@ module _ (t : Settings) (events : List ℕ) (ms : List FrameUse) (g : Geometry) 
         size = length-set ms f new ∙ a .size;
         each = λ j c n. elim (ℕ-discrete j f) [
           | yes z ↦ rw (z, getD-set-same ms f new unused (omega (arith, a .size)), row-is, use-now e events p of-page)
-          | no z ↦ rw (getD-set-other ms f j new unused z, use-not e events (frameRow s j .page) (λ y. alone j c z (sym y ∙ of-page))) (a .each j c z)
+          | no z ↦ rw (getD-set-other ms f j new unused z, use-not e events (frameRow s j .page) (λ y. alone j c z (sym y ∙ of-page)))
+              (a .each j c z)
         ];
       }
     where
       new : FrameUse
       new = record { page = p; used = suc (length events); dirty = d }
 
-  pub sim-used : Sim t events ms g v s k f p → Mine (t .victim) g v k p d → Sim t (e ∷ events) (set ms f (record { page = p; used = suc (length events); dirty = d })) g v s k 16 0
+  pub sim-used : Sim t events ms g v s k f p → Mine (t .victim) g v k p d
+      → Sim t (e ∷ events) (set ms f (record { page = p; used = suc (length events); dirty = d })) g v s k 16 0
   sim-used x mine =
       record { frames = alike-used (x .frames); inside = x .inside; begun = x .begun; disk = go (t .victim) (x .disk) mine }
     where
@@ -187,16 +203,24 @@ module _ (t : Settings) (events : List ℕ) (ms : List FrameUse) (g : Geometry) 
       go : (w : Victim) → OnDisk w g v s k f p → Mine w g v k p d → OnDisk w g v s k 16 0
       go Written h mn = λ q lo hi nz some. elim (ℕ-discrete q p) [
         | yes z ↦ ⊎-elim
-            (λ y. inl (record { row = f; below = b; other = far f b; page-is = ap (λ (r : Frame). r .page) row-is ∙ sym z; dirty-is = ap (λ (r : Frame). r .dirty) row-is ∙ y }))
+            (λ y. inl (record {
+              row = f;
+              below = b;
+              other = far f b;
+              page-is = ap (λ (r : Frame). r .page) row-is ∙ sym z;
+              dirty-is = ap (λ (r : Frame). r .dirty) row-is ∙ y;
+            }))
             (λ y. inr (rw z y)) mn
         | no z ↦ ⊎-elim
-            (λ y. inl (record { row = y .row; below = y .below; other = far (y .row) (y .below); page-is = y .page-is; dirty-is = y .dirty-is }))
+            (λ y. inl
+            (record { row = y .row; below = y .below; other = far (y .row) (y .below); page-is = y .page-is; dirty-is = y .dirty-is }))
             inr (h q lo hi z some)
       ]
       go LetGo h mn = (h .0, λ j c n nz. elim (ℕ-discrete j f) [ yes z ↦ rw (z, row-is) mn | no z ↦ h .1 j c z nz ])
 
 -- other rows and the page images as they were
-pub sim-keep : (t : Settings) (events : List ℕ) (ms : List FrameUse) (g : Geometry) (v v′ : List ℕ) (s s′ : State) (k : List Logged) (f but but′ : ℕ) → f < t .frames
+pub sim-keep : (t : Settings) (events : List ℕ) (ms : List FrameUse) (g : Geometry) (v v′ : List ℕ) (s s′ : State) (k : List Logged)
+    (f but but′ : ℕ) → f < t .frames
     → ((j : ℕ) → j < 16 → j ≢ f → frameRow s′ j ≡ frameRow s j)
     → ((q : ℕ) → 1 ≤ q → q ≤ g .pages → item g v′ (pageAt q) ≡ item g v (pageAt q))
     → ((q : ℕ) → q ≢ but′ → q ≢ but ⊎ (q ≡ 0)) → Sim t events ms g v s k f but → Sim t events ms g v′ s′ k f but′
@@ -211,13 +235,20 @@ sim-keep t events ms g v v′ s s′ k f but but′ low rows same wide x =
     go : (w : Victim) → OnDisk w g v s k f but → OnDisk w g v′ s′ k f but′
     go Written h = λ q lo hi nz some.
         rw (same q lo hi) (⊎-elim
-        (λ y. inl (record { row = y .row; below = y .below; other = y .other; page-is = rw (rows (y .row) (y .below) (y .other)) (y .page-is); dirty-is = rw (rows (y .row) (y .below) (y .other)) (y .dirty-is) }))
+        (λ y. inl (record {
+          row = y .row;
+          below = y .below;
+          other = y .other;
+          page-is = rw (rows (y .row) (y .below) (y .other)) (y .page-is);
+          dirty-is = rw (rows (y .row) (y .below) (y .other)) (y .dirty-is);
+        }))
         inr (h q lo hi (⊎-elim (λ y. y) (λ y. absurd (omega arith)) (wide q nz)) some))
     go LetGo h = (λ q lo hi. rw (same q lo hi) (h .0 q lo hi), λ j b n nz. rw (rows j b n) (h .1 j b n (rw (rows j b n) at nz)))
 
 -- ---- a machine with no record pending
 
-module _ {C : Type 0} {g : Geometry} {v m : List ℕ} {past : List StoredItem} {s : State} {k : List Logged} (x : Ctx C g v m past s k []) where
+module _ {C : Type 0} {g : Geometry} {v m : List ℕ} {past : List StoredItem} {s : State} {k : List Logged}
+    (x : Ctx C g v m past s k []) where
   pub all-is : x .all ≡ k
   all-is = x .al .log .split ∙ append-nil k
 
@@ -228,7 +259,21 @@ module _ {C : Type 0} {g : Geometry} {v m : List ℕ} {past : List StoredItem} {
   pub durable-is : (p : ℕ) → 1 ≤ p → p ≤ 64 → entryOf (s .index) p .durable ≡ lastOf p k
   durable-is p lo hi = ap (λ (y : Entry). y .durable) (x .al .index .entry p lo hi) ∙ ap (λ (l : List Logged). lastAt p l (length k)) all-is
 
-module _ {C : Type 0} {g : Geometry} {v m : List ℕ} {past : List StoredItem} {s : State} {k w : List Logged} (x : Ctx C g v m past s k w) where
+  pub is-blank : (p : ℕ) → 1 ≤ p → p ≤ 64 → countOf p k ≡ 0 → blank s p ≡ true
+  is-blank p lo hi z = eq-eqb (entryOf (s .index) p .last) 0 (last-is p lo hi ∙ count-none p k (length k) z)
+
+  pub not-blank : (p : ℕ) → 1 ≤ p → p ≤ 64 → countOf p k ≢ 0 → blank s p ≡ false
+  not-blank p lo hi nz = ne-eqb (entryOf (s .index) p .last) 0 (λ z. nz (none-count p k (length k) (sym (last-is p lo hi) ∙ z)))
+
+  -- a page with a change is in range
+  pub in-volume : (p : ℕ) → countOf p k ≢ 0 → p ≤ g .pages
+  in-volume p nz = elim (decLt (g .pages) p) [
+    | yes y ↦ absurd (nz (none-count p k (length k) (last-past (g .pages) p k (x .hs .fair) y (length k) (omega arith))))
+    | no z ↦ omega arith
+  ]
+
+module _ {C : Type 0} {g : Geometry} {v m : List ℕ} {past : List StoredItem} {s : State} {k w : List Logged}
+    (x : Ctx C g v m past s k w) where
   -- a page is in one row
   pub one-row : (i j : ℕ) → i < 16 → j < 16 → frameRow s i .page ≢ 0 → frameRow s j .page ≡ frameRow s i .page → j ≡ i
   one-row i j a b nz q =

@@ -31,7 +31,8 @@ module _ (fs : List FrameUse) (p : ℕ) where
   holding-one zero j b e one = absurd (omega arith)
   holding-one (suc n) j b e one = elim (ℕ-discrete n j) [
     | yes q ↦ rw (eq-eqb (useRow fs n .page) p (rw q e)) (ap suc q)
-    | no q ↦ rw (ne-eqb (useRow fs n .page) p (λ y. q (one n (omega arith) y))) (holding-one n j (omega arith) e (λ i c y. one i (omega arith) y))
+    | no q ↦ rw (ne-eqb (useRow fs n .page) p (λ y. q (one n (omega arith) y)))
+        (holding-one n j (omega arith) e (λ i c y. one i (omega arith) y))
   ]
 
 -- ---- the least recently used
@@ -48,7 +49,11 @@ least-is fs zero =
     byCases (ltb (useRow fs 0 .used) (useRow fs 0 .used)) (λ t. rw t only) (λ t. rw t only)
   where
     only : Least fs 1 0
-    only = record { below = omega arith; least = λ i b. let q : i ≡ 0 = omega arith in rw q (omega arith); first = λ i b. absurd (omega arith) }
+    only = record {
+      below = omega arith;
+      least = λ i b. let q : i ≡ 0 = omega arith in rw q (omega arith);
+      first = λ i b. absurd (omega arith);
+    }
 least-is fs (suc n) =
     let j = leastUsed fs (suc n) in
     let ih : Least fs (suc n) (leastUsed fs (suc n)) = least-is fs n in
@@ -72,7 +77,8 @@ pub lowest-is : (n : ℕ) (q : ℕ → Bool) (j : ℕ) → j < n → q j ≡ tru
 unfolding lowest
 lowest-is zero q j b t f = absurd (omega arith)
 lowest-is (suc n) q zero b t f = rw t
-lowest-is (suc n) q (suc j) b t f = rw (f 0 (omega arith)) (ap suc (lowest-is n (λ i. q (suc i)) j (omega arith) t (λ i c. f (suc i) (omega arith))))
+lowest-is (suc n) q (suc j) b t f =
+    rw (f 0 (omega arith)) (ap suc (lowest-is n (λ i. q (suc i)) j (omega arith) t (λ i c. f (suc i) (omega arith))))
 
 -- ---- a frame table of the store and one of the model
 
@@ -100,7 +106,8 @@ module _ (events : List ℕ) (ms : List FrameUse) (s : State) (a : Alike events 
       let j = leastUsed ms (suc n) in
       let b : leastUsed ms (suc n) < 16 = omega (arith, l .below) in (
         lowest-is (suc n) (λ i. every (suc n) (λ k. leb (useOf events s i) (useOf events s k))) j (l .below)
-            (every-all (λ k. leb (useOf events s j) (useOf events s k)) (suc n) (λ k c. le-leb (useOf events s j) (useOf events s k) (omega (arith, l .least k c, same-use j b, same-use k (omega arith)))))
+            (every-all (λ k. leb (useOf events s j) (useOf events s k)) (suc n)
+            (λ k c. le-leb (useOf events s j) (useOf events s k) (omega (arith, l .least k c, same-use j b, same-use k (omega arith)))))
             (λ i c. every-fails (λ k. leb (useOf events s i) (useOf events s k)) (suc n) j (l .below)
             (lt-leb (useOf events s i) (useOf events s j) (omega (arith, l .first i c, same-use j b, same-use i (omega arith))))),
         l .below,

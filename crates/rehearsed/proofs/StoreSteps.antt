@@ -46,7 +46,8 @@ PagesStay g v v′ = (q : ℕ) → 1 ≤ q → q ≤ g .pages → item g v′ (p
 
 -- ---- Note
 
-module _ {C : Type 0} {g : Geometry} {v m : List ℕ} {past : List StoredItem} {s : State} {k w : List Logged} (x : Ctx C g v m past s k w) (n : Note) (e : s .note ≡ Present n)
+module _ {C : Type 0} {g : Geometry} {v m : List ℕ} {past : List StoredItem} {s : State} {k w : List Logged} (x : Ctx C g v m past s k w)
+    (n : Note) (e : s .note ≡ Present n)
     (fs : List Figures) (no : playCall (Run v m past s fs) note .refused ≡ false) where
   note0 : firstOf (noteRows v m s) ≡ 0
   note0 = rows-none v m past s fs note no
@@ -55,16 +56,22 @@ module _ {C : Type 0} {g : Geometry} {v m : List ℕ} {past : List StoredItem} {
   pending = subst (λ (y : PendingNote). PendingOk C g v k (x .ns) y) e (x .al .note-ok)
 
   noted : Outcome
-  noted = record { answer = Done; state = notedState s n; memory = m; stored = oneItem (noteSlot (geometryOf v) (lastNote s + 1)) (noteBytes n) }
+  noted = record {
+    answer = Done;
+    state = notedState s n;
+    memory = m;
+    stored = oneItem (noteSlot (geometryOf v) (lastNote s + 1)) (noteBytes n);
+  }
 
   noted-is : noteCall v m s ≡ noted
   unfolding noteCall noted
   noted-is = rw (note0, e)
 
-  read : noteOf (noteBytes n) ≡ n
+  pub read : noteOf (noteBytes n) ≡ n
   read =
       let o = pending .0 in
-      note-read n (omega (arith, o .number-is, pending .1, notes-high g (sized x))) (omega (arith, o .high, sized x .p-high)) (omega (arith, o .below, few x, len x))
+      note-read n (omega (arith, o .number-is, pending .1, notes-high g (sized x))) (omega (arith, o .high, sized x .p-high))
+      (omega (arith, o .below, few x, len x))
 
   here : In g (noteSlot g (lastNote s + 1))
   here = rw (add-one (s .notes)) (slot-in (g .notes) (s .notes) (pending .3 .0))
@@ -82,7 +89,8 @@ module _ {C : Type 0} {g : Geometry} {v m : List ℕ} {past : List StoredItem} {
         ctx = ctx-as v m past s fs note no x refl refl noted noted-is k w refl;
         holds = (
           refl,
-          λ q lo hi. rw (geo x) (store-other g v (x .hs .vol) (noteSlot g (lastNote s + 1)) (noteBytes n) here (note-length n) (pageAt q) (lo, hi) (omega (arith, here .0))),
+          λ q lo hi. rw (geo x) (store-other g v (x .hs .vol) (noteSlot g (lastNote s + 1)) (noteBytes n) here (note-length n) (pageAt q)
+              (lo, hi) (omega (arith, here .0))),
         );
       }
 
@@ -104,7 +112,8 @@ unfolding forcedState
 forced-backups s pages p q = byCases (within pages p)
     (λ t. rw t (backup-kept (s .index) p (withDurable (entryOf (s .index) p) (s .durable + 1)) refl q)) (λ t. rw t)
 
-module _ {C : Type 0} {g : Geometry} {v m : List ℕ} {past : List StoredItem} {s : State} {k : List Logged} (c : Logged) (x : Ctx C g v m past s k (c ∷ []))
+module _ {C : Type 0} {g : Geometry} {v m : List ℕ} {past : List StoredItem} {s : State} {k : List Logged} (c : Logged)
+    (x : Ctx C g v m past s k (c ∷ []))
     (fs : List Figures) (no : playCall (Run v m past s fs) force .refused ≡ false) where
   force0 : firstOf (forceRows v m s) ≡ 0
   force0 = rows-none v m past s fs force no
@@ -132,18 +141,21 @@ module _ {C : Type 0} {g : Geometry} {v m : List ℕ} {past : List StoredItem} {
   page-of =
       rw (oldest-is g m (s .durable) (s .pending) k (c ∷ []) (x .all) (x .al .log) c [] refl)
       (ap (λ (y : LogRecord). y .page)
-      (recOf-is (g .pages) (k ++ (c ∷ [])) (length k) (sized x .p-high) below (oldest-fair g m (s .durable) (s .pending) k (c ∷ []) (x .all) (x .al .log) c [] refl) .fields)
+      (recOf-is (g .pages) (k ++ (c ∷ [])) (length k) (sized x .p-high) below
+      (oldest-fair g m (s .durable) (s .pending) k (c ∷ []) (x .all) (x .al .log) c [] refl) .fields)
       ∙ ap (λ (y : Logged). y .page) (atA k c))
 
   size : length (pendingBytes m (s .durable + 1)) ≡ 64
   size =
       rw (oldest-is g m (s .durable) (s .pending) k (c ∷ []) (x .all) (x .al .log) c [] refl)
-      (recOf-is (g .pages) (k ++ (c ∷ [])) (length k) (sized x .p-high) below (oldest-fair g m (s .durable) (s .pending) k (c ∷ []) (x .all) (x .al .log) c [] refl) .size)
+      (recOf-is (g .pages) (k ++ (c ∷ [])) (length k) (sized x .p-high) below
+      (oldest-fair g m (s .durable) (s .pending) k (c ∷ []) (x .all) (x .al .log) c [] refl) .size)
 
   slot : In g (logSlot g (s .durable + 1))
   slot = rw (add-one (s .durable)) (slot-in (g .records) (s .durable) (sized x .l-low))
 
-  pub force-step : Stage C g (playCall (Run v m past s fs) force) (setRow fs (c .page) (withRecord (pageRow fs (c .page)))) (k ++ (c ∷ [])) [] (λ v′ s′. Forced g v v′ s s′)
+  pub force-step : Stage C g (playCall (Run v m past s fs) force) (setRow fs (c .page) (withRecord (pageRow fs (c .page))))
+      (k ++ (c ∷ [])) [] (λ v′ s′. Forced g v v′ s s′)
   unfolding volumeAfter stepCall forced forcedState
   force-step =
       record {
@@ -158,6 +170,7 @@ module _ {C : Type 0} {g : Geometry} {v m : List ℕ} {past : List StoredItem} {
           note-stays = refl;
           backups-stay = forced-backups s (geometryOf v .pages) (field 2 8 (pendingBytes m (s .durable + 1)));
           pages-stay = λ q lo hi.
-              rw (geo x) (store-other g v (x .hs .vol) (logSlot g (s .durable + 1)) (pendingBytes m (s .durable + 1)) slot size (pageAt q) (lo, hi) (omega (arith, slot .0)));
+              rw (geo x) (store-other g v (x .hs .vol) (logSlot g (s .durable + 1)) (pendingBytes m (s .durable + 1)) slot size (pageAt q)
+              (lo, hi) (omega (arith, slot .0)));
         };
       }

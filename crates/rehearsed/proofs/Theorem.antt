@@ -40,9 +40,11 @@ use Rattle.rehearsed.proofs.EventStep.{After, event}
 
 -- ---- the events, one after the other
 
-module _ {C : Type 0} {g : Geometry} (ok : C) (t : Settings) (F1 : 1 ≤ t .frames) (F16 : t .frames ≤ 16) (K1 : 1 ≤ t .every) (choices : Choices)
+module _ {C : Type 0} {g : Geometry} (ok : C) (t : Settings) (F1 : 1 ≤ t .frames) (F16 : t .frames ≤ 16)
+    (K1 : 1 ≤ t .every) (choices : Choices)
     (pays : (i : ℕ) (s : State) → length (choices i s .payload) ≡ 44) where
-  plays : (es past : List ℕ) (mo : Rehearsal) (r : Played) → After C g t past mo r → pagesFit es ≡ true → playEvents t choices past r es .refused ≡ false
+  plays : (es past : List ℕ) (mo : Rehearsal) (r : Played) → After C g t past mo r → pagesFit es ≡ true
+      → playEvents t choices past r es .refused ≡ false
       → playEvents t choices past r es .figures ≡ playFrom t (length past) mo es .pages
   unfolding playEvents playFrom pagesFit
   plays [] past mo r a fit nr = ap (λ (y : Played). y .figures) (a .stage .run-is)
@@ -50,13 +52,18 @@ module _ {C : Type 0} {g : Geometry} (ok : C) (t : Settings) (F1 : 1 ≤ t .fram
       let st = a .stage in
       let live-run : Played = Run (st .volume) (st .memory) (st .past) (st .state) (mo .pages) in
       let in-range = within-bounds 64 (pageIn (accessOf e)) (and-left (within 64 (pageIn (accessOf e))) (pagesFit es) fit) in
-      let nr₁ : playEvents t choices (e ∷ past) (playCalls live-run (callsIn (live-run .machine .power) t choices past (accessOf e))) es .refused ≡ false =
-      subst (λ (y : Played). playEvents t choices (e ∷ past) (playCalls y (callsIn (y .machine .power) t choices past (accessOf e))) es .refused ≡ false) (st .run-is) nr in
-      let next = event (st .ctx) ok t F1 F16 K1 past mo (st .holds) (pageIn (accessOf e)) (in-range .0) (in-range .1) e (choices (suc (length past)) (st .state)) (pays (suc (length past)) (st .state)) (accessOf e) refl refl
+      let nr₁ : playEvents t choices (e ∷ past)
+      (playCalls live-run (callsIn (live-run .machine .power) t choices past (accessOf e))) es .refused ≡ false =
+      subst (λ (y : Played). playEvents t choices (e ∷ past)
+      (playCalls y (callsIn (y .machine .power) t choices past (accessOf e))) es .refused ≡ false) (st .run-is) nr in
+      let next = event (st .ctx) ok t F1 F16 K1 past mo (st .holds) (pageIn (accessOf e)) (in-range .0) (in-range .1) e
+      (choices (suc (length past)) (st .state)) (pays (suc (length past)) (st .state)) (accessOf e) refl refl
       (events-stay t choices es (e ∷ past) (playCalls live-run (callsIn (live-run .machine .power) t choices past (accessOf e))) nr₁) in
-      subst (λ (y : Played). playEvents t choices (e ∷ past) (playCalls y (callsIn (y .machine .power) t choices past (accessOf e))) es .figures
+      subst (λ (y : Played). playEvents t choices (e ∷ past)
+      (playCalls y (callsIn (y .machine .power) t choices past (accessOf e))) es .figures
       ≡ playFrom t (suc (length past)) (stepOn t (suc (length past)) mo (accessOf e)) es .pages) (sym (st .run-is))
-      (plays es (e ∷ past) (stepOn t (suc (length past)) mo (accessOf e)) (playCalls live-run (callsIn (live-run .machine .power) t choices past (accessOf e))) next
+      (plays es (e ∷ past) (stepOn t (suc (length past)) mo (accessOf e))
+      (playCalls live-run (callsIn (live-run .machine .power) t choices past (accessOf e))) next
       (and-right (within 64 (pageIn (accessOf e))) (pagesFit es) fit) nr₁)
 
 -- ---- the fresh volume
@@ -66,10 +73,19 @@ unfolding restartOf
 restart-done v m e = rw e
 
 -- the history of a site before its first event
-abbrev historyOf : Site → List Event → History
-historyOf x es = record { heading = x .heading; found = x .found; pages = x .pages; slots = x .slots; records = x .records; notes = x .notes; events = es }
+abbrev pub historyOf : Site → List Event → History
+historyOf x es = record {
+  heading = x .heading;
+  found = x .found;
+  pages = x .pages;
+  slots = x .slots;
+  records = x .records;
+  notes = x .notes;
+  events = es;
+}
 
-module _ (x : Site) (t : Settings) (F1 : 1 ≤ t .frames) (F16 : t .frames ≤ 16) (make : refusalOf (makeOf (x .heading) (x .found) (x .pages) (x .slots) (x .records) (x .notes) .answer) ≡ 0)
+module _ (x : Site) (t : Settings) (F1 : 1 ≤ t .frames) (F16 : t .frames ≤ 16)
+    (make : refusalOf (makeOf (x .heading) (x .found) (x .pages) (x .slots) (x .records) (x .notes) .answer) ≡ 0)
     (size : length (x .memory) ≡ 1024 + 256 * t .frames) where
   abbrev v : List ℕ
   v = fresh (historyOf x []) .volume
@@ -90,7 +106,7 @@ module _ (x : Site) (t : Settings) (F1 : 1 ≤ t .frames) (F16 : t .frames ≤ 1
       let e : frameCount (length (x .memory)) ≡ t .frames = let q : (length (x .memory) - 1024) / 256 ≡ t .frames = omega arith in q in
       rw e (and-both (within-holds 16 (t .frames) F1 F16) (eq-eqb (length (x .memory)) (1024 + 256 * t .frames) size))
 
-  restarts : firstOf (restartRows (fresh (historyOf x []) .volume) (x .memory)) ≡ 0
+  pub restarts : firstOf (restartRows (fresh (historyOf x []) .volume) (x .memory)) ≡ 0
   unfolding reached run
   restarts = sym (restart-refusal v (x .memory)) ∙ facts .restarts (historyOf x []) empty-legal (x .memory) .right memory-right
 
@@ -98,11 +114,12 @@ module _ (x : Site) (t : Settings) (F1 : 1 ≤ t .frames) (F16 : t .frames ≤ 1
   unfolding allAllowed allowed
   legal = record { make = make; events = refl }
 
-  powered : reached (historyOf x (restart (x .memory) ∷ [])) .power ≡ on (restartOf (fresh (historyOf x []) .volume) (x .memory) .memory) (restartOf (fresh (historyOf x []) .volume) (x .memory) .state)
+  powered : reached (historyOf x (restart (x .memory) ∷ [])) .power ≡ on (restartOf (fresh (historyOf x []) .volume) (x .memory) .memory)
+      (restartOf (fresh (historyOf x []) .volume) (x .memory) .state)
   unfolding reached run step freshMachine
   powered = rw restarts
 
-  clean : Undamaged (historyOf x (restart (x .memory) ∷ []))
+  pub clean : Undamaged (historyOf x (restart (x .memory) ∷ []))
   clean = refl
 
   nothing-kept : logOf (historyOf x (restart (x .memory) ∷ [])) ≡ emptyLog
@@ -115,21 +132,24 @@ module _ (x : Site) (t : Settings) (F1 : 1 ≤ t .frames) (F16 : t .frames ≤ 1
   abbrev played : History
   played = historyOf x (restart (x .memory) ∷ [])
 
-  ctx : Ctx (Undamaged (historyOf x (restart (x .memory) ∷ []))) g (fresh (historyOf x []) .volume) m [] s [] []
+  pub ctx : Ctx (Undamaged (historyOf x (restart (x .memory) ∷ []))) g (fresh (historyOf x []) .volume) m [] s [] []
   unfolding reached run step freshMachine
   ctx =
-      subst (λ (b : AbstractLog). Ctx (Undamaged (historyOf x (restart (x .memory) ∷ []))) (madeWith (historyOf x (restart (x .memory) ∷ []))) (fresh (historyOf x []) .volume) (restartOf (fresh (historyOf x []) .volume) (x .memory) .memory) [] (restartOf (fresh (historyOf x []) .volume) (x .memory) .state) (b .durable) (b .pending)) nothing-kept
-      (subst (λ (y : Geometry). Ctx (Undamaged played) y (reached played .volume) m (reached played .past) s (durableOf played) (logOf played .pending)) (uncarried played legal refl)
+      subst (λ (b : AbstractLog). Ctx (Undamaged (historyOf x (restart (x .memory) ∷ [])))
+      (madeWith (historyOf x (restart (x .memory) ∷ []))) (fresh (historyOf x []) .volume) (restartOf (fresh (historyOf x []) .volume)
+      (x .memory) .memory) [] (restartOf (fresh (historyOf x []) .volume) (x .memory) .state) (b .durable) (b .pending)) nothing-kept
+      (subst (λ (y : Geometry). Ctx (Undamaged played) y (reached played .volume) m (reached played .past) s (durableOf played)
+      (logOf played .pending)) (uncarried played legal refl)
       (live played legal m s powered))
 
-  state-is : s ≡ restartState (fresh (historyOf x []) .volume)
+  pub state-is : s ≡ restartState (fresh (historyOf x []) .volume)
   state-is = restart-done v (x .memory) restarts
 
   frame-empty : (j : ℕ) → j < 16 → frameRow (restartOf (fresh (historyOf x []) .volume) (x .memory) .state) j ≡ emptyFrame
   unfolding restartState
   frame-empty j b = rw state-is (getD-replicate 16 j emptyFrame emptyFrame b)
 
-  begins : After (Undamaged (historyOf x (restart (x .memory) ∷ []))) g t [] idle (restartedSite x)
+  pub begins : After (Undamaged (historyOf x (restart (x .memory) ∷ []))) g t [] idle (restartedSite x)
   unfolding restartedSite step freshMachine idle changesOf lastUse restartState
   begins =
       record {
@@ -143,14 +163,19 @@ module _ (x : Site) (t : Settings) (F1 : 1 ≤ t .frames) (F16 : t .frames ≤ 1
           ctx = ctx;
           holds = record {
             sim = record {
-              frames = record { size = length-replicate 16 unused; each = λ j b n. rw (frame-empty j b) (getD-replicate 16 j unused unused b) };
+              frames =
+                  record { size = length-replicate 16 unused; each = λ j b n. rw (frame-empty j b) (getD-replicate 16 j unused unused b) };
               inside = λ j b l. rw (frame-empty j b);
               begun = λ i b. absurd (omega arith);
               disk = disk (t .victim);
             };
-            backs = λ p lo hi. let z : entryOf (s .index) p .backup ≡ 0 = omega (arith, backup-low ctx p lo hi) in rw (z, count-zero p [], zero-mod (t .every));
+            backs = λ p lo hi. let z : entryOf (s .index) p .backup ≡ 0 = omega (arith, backup-low ctx p lo hi) in
+                rw (z, count-zero p [], zero-mod (t .every));
             quiet = rw state-is;
-            rows = record { size = length-replicate 64 noFigures; records = λ p lo hi. rw (getD-replicate 64 (p - 1) noFigures noFigures (omega arith)) (sym (count-zero p [])) };
+            rows = record {
+              size = length-replicate 64 noFigures;
+              records = λ p lo hi. rw (getD-replicate 64 (p - 1) noFigures noFigures (omega arith)) (sym (count-zero p []));
+            };
             changes = λ p lo hi. sym (count-zero p []);
           };
         };
@@ -159,7 +184,8 @@ module _ (x : Site) (t : Settings) (F1 : 1 ≤ t .frames) (F16 : t .frames ≤ 1
       disk : (w : Victim) → OnDisk w g v s [] 16 0
       disk Written = λ p lo hi nz some. absurd (some (last-zero p []))
       disk LetGo = (
-        λ p lo hi. byCases (validImage g p (item g v (pageAt p))) (λ z. absurd (let r = ctx .hs .images p lo hi z in omega (arith, r .below))) (λ z. z),
+        λ p lo hi. byCases (validImage g p (item g v (pageAt p)))
+            (λ z. absurd (let r = ctx .hs .images p lo hi z in omega (arith, r .below))) (λ z. z),
         λ j b n nz. absurd (nz (rw (frame-empty j b))),
       )
 
@@ -172,4 +198,5 @@ same-figures x t choices events h nr =
     let f = within-bounds 16 (t .frames) (not-false (within 16 (t .frames)) (q 1)) in
     let k = within-bounds 255 (t .every) (not-false (within 255 (t .every)) (q 2)) in
     rw (h .taken)
-    (plays (clean x t (f .0) (f .1) (h .make) (h .memory)) t (f .0) (f .1) (k .0) choices (h .payloads) events [] idle (restartedSite x) (begins x t (f .0) (f .1) (h .make) (h .memory)) (not-false (pagesFit events) (q 3)) nr)
+    (plays (clean x t (f .0) (f .1) (h .make) (h .memory)) t (f .0) (f .1) (k .0) choices (h .payloads) events [] idle (restartedSite x)
+    (begins x t (f .0) (f .1) (h .make) (h .memory)) (not-false (pagesFit events) (q 3)) nr)

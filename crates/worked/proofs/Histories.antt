@@ -11,14 +11,14 @@ use Rattle.model.specs.History.{Machine, Event, allowed, allAllowed, run, logAf
 use Rattle.model.specs.Claim.{fresh, reached, logOf}
 use Rattle.model.specs.declared.change.Change.{Change}
 use Rattle.model.specs.declared.change.Change.the-variants.{Format, Put, Slide}
 use Rattle.cases.specs.Opened.{opened}
 use Rattle.cases.specs.Rows.{same}
 use Rattle.cases.specs.Worked.{Worked, historyOf, joined, makes, answersOf, eventStep, taleFrom, taleOf, saysAnswers, loggedNumbers, sameChanges, pagesOf, allReplay, agrees, computes, allCompute, Computed, AllComputed}
 use Rattle.model.specs.declared.geometry.Heading.the-variants.{First, Second}
 use Rattle.cases.specs.Histories.{under, others, histories}
 use Rattle.cases.specs.CarriedOver.{carriedHistories}
-use Rattle.cases.proofs.Steps.{machine-step, log-step, answer-step}
+use Rattle.worked.proofs.Steps.{machine-step, log-step, answer-step}
 use Rattle.cases.proofs.Cases.{left, right, equal}
 
 holds : (b : Bool) → T b → b ≡ true
 holds true t = refl
@@ -36,7 +36,8 @@ ok w b (e ∷ es) =
 answered : (w : Machine) (b : AbstractLog) (es : List Event) → taleFrom w b es .answers ≡ answersOf w es
 answered w b [] = refl
 answered w b (e ∷ es) =
-    ap₂ _∷_ (answer-step w b e) (answered (eventStep w b e .machine) (eventStep w b e .log) es ∙ ap (λ x. answersOf x es) (machine-step w b e))
+    ap₂ _∷_ (answer-step w b e)
+    (answered (eventStep w b e .machine) (eventStep w b e .log) es ∙ ap (λ x. answersOf x es) (machine-step w b e))
 
 machine : (w : Machine) (b : AbstractLog) (es : List Event) → taleFrom w b es .machine ≡ run w es
 unfolding run
@@ -94,7 +95,8 @@ computed w t =
             make = eqb→eq (makes h) 0 (left (eqb (makes h) 0) (agrees w a) t);
             events = sym (ok m emptyLog (h .events)) ∙ holds (a .ok) (left (a .ok) (told && (durable && (seen && replay))) t1);
           };
-      answers = sym (ap joined (answered m emptyLog (h .events))) ∙ equal (joined (a .answers)) (saysAnswers w) (left told (durable && (seen && replay)) t2);
+      answers = sym (ap joined (answered m emptyLog (h .events)))
+          ∙ equal (joined (a .answers)) (saysAnswers w) (left told (durable && (seen && replay)) t2);
       durable =
           sym (ap (λ b. b .durable) (log m emptyLog (h .events)))
           ∙ equal-changes (a .log .durable) (w .durable) (left durable (seen && replay) t3);

@@ -1,0 +1,1 @@
+// Proofs only: the worked histories of `cases`, computed.
