@@ -6,29 +6,29 @@
 
 static uint32_t ended(uint64_t a, uint64_t b) { return (uint32_t)(b % 65535 * 65536 + a % 65535); }
 
-/* The sum of the two halves of a vector of 32-bit lanes. */
+/* The sum of a vector's 32-bit lanes. */
 static uint32_t lanes(__m128i x) {
     x = _mm_add_epi32(x, _mm_srli_si128(x, 8));
     x = _mm_add_epi32(x, _mm_srli_si128(x, 4));
     return (uint32_t)_mm_cvtsi128_si32(x);
 }
 
-/* Words, eight a step. In a step the terms have the weights 8 to 1, and all earlier ones 8 more each. */
-uint32_t peer_checksum(const uint8_t *s, size_t n) {
-    uint64_t a = 1, b = 0;
+/* Words in four lanes: x has the sums of their terms, z the sums of what x was before. A step adds four terms, after
+ * which each earlier one counts four times more. */
+static inline __attribute__((always_inline)) uint32_t words(const uint8_t *s, size_t n) {
     const __m128i zero = _mm_setzero_si128();
+    __m128i x = zero, z = zero;
+    uint64_t a = 1, b = 0;
     size_t i = 0;
-    for (; i + 16 <= n; i += 16) {
-        __m128i w = _mm_loadu_si128((const __m128i *)(s + i));
-        __m128i low = _mm_unpacklo_epi16(w, zero), high = _mm_unpackhi_epi16(w, zero);
-        __m128i pair = _mm_add_epi32(low, high); /* term k + term k + 4 */
-        uint32_t total = lanes(pair);
-        /* 8 t0 + 7 t1 + .. + t7 = 4 (t0 + .. + t3) + sum over k of (4 - k) (tk + tk+4) */
-        uint32_t p1 = (uint32_t)_mm_cvtsi128_si32(_mm_srli_si128(pair, 4));
-        uint32_t p2 = (uint32_t)_mm_cvtsi128_si32(_mm_srli_si128(pair, 8));
-        uint32_t p0 = (uint32_t)_mm_cvtsi128_si32(pair);
-        b += 8 * a + 4ull * lanes(low) + total + 2ull * p0 + 2ull * p1 + p0 + p2;
-        a += total;
+    if (n >= 16) {
+        for (; i + 8 <= n; i += 8) {
+            z = _mm_add_epi32(z, x);
+            x = _mm_add_epi32(x, _mm_unpacklo_epi16(_mm_loadl_epi64((const __m128i *)(s + i)), zero));
+        }
+        uint32_t t[4];
+        _mm_storeu_si128((__m128i *)t, x);
+        a += (uint64_t)t[0] + t[1] + t[2] + t[3];
+        b = i / 2 + 4ull * lanes(z) + 4ull * t[0] + 3ull * t[1] + 2ull * t[2] + t[3];
     }
     for (; i + 1 < n; i += 2) {
         a += two(s + i);
@@ -37,21 +37,22 @@ uint32_t peer_checksum(const uint8_t *s, size_t n) {
     return ended(a, b);
 }
 
-/* Bytes, sixteen a step. */
+uint32_t peer_checksum(const uint8_t *s, size_t n) { return words(s, n); }
+
+/* Bytes, sixteen a step, with the weights 16 to 1 in it; after a step each earlier one counts sixteen times more. */
 uint32_t peer_byte_sum(const uint8_t *s, size_t n) {
-    uint64_t a = 1, b = 0;
     const __m128i zero = _mm_setzero_si128();
     const __m128i first = _mm_set_epi16(9, 10, 11, 12, 13, 14, 15, 16), last = _mm_set_epi16(1, 2, 3, 4, 5, 6, 7, 8);
+    __m128i x = zero, z = zero, weighted = zero;
     size_t i = 0;
     for (; i + 16 <= n; i += 16) {
-        __m128i x = _mm_loadu_si128((const __m128i *)(s + i));
-        __m128i t = _mm_sad_epu8(x, zero);
-        uint32_t total = (uint32_t)_mm_cvtsi128_si32(t) + (uint32_t)_mm_cvtsi128_si32(_mm_srli_si128(t, 8));
-        __m128i weighted = _mm_add_epi32(_mm_madd_epi16(_mm_unpacklo_epi8(x, zero), first),
-                                         _mm_madd_epi16(_mm_unpackhi_epi8(x, zero), last));
-        b += 16 * a + lanes(weighted);
-        a += total;
+        __m128i y = _mm_loadu_si128((const __m128i *)(s + i));
+        z = _mm_add_epi32(z, x);
+        x = _mm_add_epi32(x, _mm_sad_epu8(y, zero));
+        weighted = _mm_add_epi32(weighted, _mm_add_epi32(_mm_madd_epi16(_mm_unpacklo_epi8(y, zero), first),
+                                                         _mm_madd_epi16(_mm_unpackhi_epi8(y, zero), last)));
     }
+    uint64_t a = 1 + (uint64_t)lanes(x), b = i + 16ull * lanes(z) + lanes(weighted);
     for (; i < n; i++) {
         a += s[i];
         b += a;
@@ -59,7 +60,9 @@ uint32_t peer_byte_sum(const uint8_t *s, size_t n) {
     return ended(a, b);
 }
 
-static bool sealed(const uint8_t *item, size_t n) { return peer_checksum(item, n) == four(item + n); }
+static inline __attribute__((always_inline)) bool sealed(const uint8_t *item, size_t n) {
+    return words(item, n) == four(item + n);
+}
 
 static bool zeros(const uint8_t *s, size_t n) {
     const __m128i zero = _mm_setzero_si128();
@@ -105,7 +108,8 @@ static bool valid_image(const struct volume *v, uint32_t page, const uint8_t *x)
 /* ---- the scans */
 
 /* The run of a section of `count` slots, and whether what follows it is as it must be. `whole`: which slots are. */
-static bool found(struct run *r, const uint8_t *at, size_t size, uint32_t count, bool ring, bool *whole) {
+static inline __attribute__((always_inline)) bool found(struct run *r, const uint8_t *at, size_t size, uint32_t count,
+                                                        bool ring, bool *whole) {
     uint32_t n = 0;
     if (ring) {
         for (uint32_t i = 0; i < count; i++) {

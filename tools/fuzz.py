@@ -40,6 +40,7 @@ CELLS_AIMED = 4000  # of one of the kinds with a list of cases
 CELLS_SEARCHED = 4096  # at most; a searched script is as long as it takes to reach every answer
 BEFORE = 4  # cells shown before the one that differs
 COVERED_FROM = 60  # seconds of a run that has to reach every answer
+TRIES = 3  # searches of one kind, one after the other, of which each may end without having reached everything
 MORE = 10  # scripts that such a run adds at most to a kind that has not reached its cases
 
 
@@ -177,14 +178,14 @@ class Run:
         self.reached = collections.Counter()
         self.left_out = {}
         self.searched_kinds = itertools.cycle(SEARCHED)
-        self.search = None
-        self.start_search()
+        self.in_vain = 0
+        self.start_search(next(self.searched_kinds))
 
     def path(self, kind):
         return os.path.join(SAVED, f"{kind}.script")
 
-    def start_search(self):
-        self.search_kind = next(self.searched_kinds)
+    def start_search(self, kind):
+        self.search_kind = kind
         self.search_seed = next(self.seeds)
         self.search = generator(self.search_kind, self.search_seed, self.path(self.search_kind))
 
@@ -208,12 +209,19 @@ class Run:
             raise SystemExit(f"the generator failed: kind {kind}, seed {seed}")
 
     def play_searched(self):
-        """Plays the searched script once it is written, and starts to search for the next."""
+        """Plays the searched script once it is written, and starts to search for the next; one that was searched for in
+        vain is searched for again, from another seed."""
         kind, seed = self.search_kind, self.search_seed
+        if self.search.wait() != 0 and self.in_vain + 1 < TRIES:
+            self.in_vain += 1
+            print(f"kind {kind}, seed {seed}: searched in vain; searched again", flush=True)
+            self.start_search(kind)
+            return True
         self.written(self.search, kind, seed)
+        self.in_vain = 0
         same = self.script(kind, seed)
         if same:
-            self.start_search()
+            self.start_search(next(self.searched_kinds))
         return same
 
     def play(self, kind):

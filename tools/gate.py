@@ -4,11 +4,15 @@
 The last line is 'N passed, M failed' and counts all; the exit status is 0 only where M is 0. The seconds that each
 crate took go to target/times.md, as a table.
 """
+import os
 import re
 import subprocess
 import sys
 
 from crates import ROOT
+
+# One prover more than there are cores: the last one of a batch, for which `rt` waits, then leaves no core idle.
+os.environ.setdefault("RT_JOBS", str((os.cpu_count() or 1) + 1))
 
 
 def make(*words):

@@ -29,6 +29,13 @@ def progress(line, number, count):
     return f"[{number}/{count}] {library[1]} proved: target/staticlib/lib{library[1]}.a" if library else None
 
 
+def current(name):
+    """The library for C is there, and newer than every file of the crates that it needs."""
+    library = ROOT / f"target/staticlib/lib{name}.a"
+    files = [f for crate in needed(name) for f in (ROOT / "crates" / crate).rglob("*") if f.is_file()]
+    return library.is_file() and max(f.stat().st_mtime for f in files) < library.stat().st_mtime
+
+
 def prove(how, name, log_name):
     """Runs `rt`, its output into the log; gives its exit status."""
     count, number = len(needed(name)), 1
@@ -58,6 +65,9 @@ def main():
         sys.exit(__doc__)
     how, name = sys.argv[1:]
     log_name = f"target/prove-{name}.log"
+    if how == "staticlib" and current(name):
+        print(f"{name} proved (unchanged): target/staticlib/lib{name}.a", flush=True)
+        return 0
     print(f"Proving {name} and what it needs (some minutes the first time); all that rt says: {log_name}", flush=True)
     try:
         status = prove(how, name, log_name)

@@ -120,13 +120,13 @@ static void refusals(void) {
     check("its length: 0", pagestore_archive_length(volume, size_of(TURNED)) == 0);
 }
 
+static void tests(void) {
+    refusals();
+    full();
+    check("2,000 volumes archived, read back and compared with inspection", many(2000));
+}
+
 int main(void) {
-    const char *headings[] = {"CHPV", "CHP2"};
-    for (int i = 0; i < 2; i++) {
-        heading = headings[i];
-        refusals();
-        full();
-        check("2,000 volumes archived, read back and compared with inspection", many(2000));
-    }
+    under_each_heading(tests);
     return verdict();
 }

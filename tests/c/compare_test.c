@@ -131,13 +131,13 @@ static int many(uint32_t pairs) {
     return 1;
 }
 
+static void tests(void) {
+    refusals();
+    answers();
+    check("compare, 2,000 pairs of volumes, pages that are not listed are the same", many(2000));
+}
+
 int main(void) {
-    const char *headings[] = {"CHPV", "CHP2"};
-    for (int i = 0; i < 2; i++) {
-        heading = headings[i];
-        refusals();
-        answers();
-        check("compare, 2,000 pairs of volumes, pages that are not listed are the same", many(2000));
-    }
+    under_each_heading(tests);
     return verdict();
 }

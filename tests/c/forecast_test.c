@@ -91,13 +91,13 @@ static int many(uint32_t volumes) {
     return 1;
 }
 
+static void tests(void) {
+    refusals();
+    figures();
+    check("forecast, 2,000 volumes: inspection's counts", many(2000));
+}
+
 int main(void) {
-    const char *headings[] = {"CHPV", "CHP2"};
-    for (int i = 0; i < 2; i++) {
-        heading = headings[i];
-        refusals();
-        figures();
-        check("forecast, 2,000 volumes: inspection's counts", many(2000));
-    }
+    under_each_heading(tests);
     return verdict();
 }

@@ -139,3 +139,11 @@ void turned(uint8_t *volume) {
     image(volume + slot_at(TURNED, 1), 1, 2, 32);
     note(volume + note_at(TURNED, 1), 1, 1, BACKED_UP, 1, 2);
 }
+
+void under_each_heading(void (*tests)(void)) {
+    const char *headings[] = {"CHPV", "CHP2"};
+    for (int i = 0; i < 2; i++) {
+        heading = headings[i];
+        tests();
+    }
+}

@@ -20,6 +20,9 @@ void history(uint8_t *volume, struct counts c, uint32_t durable);
  * those of another. Two histories with as many pages and the same number have the same changes. */
 void changes_of(uint32_t number, uint32_t from, uint32_t another);
 
+/* Runs the tests under the first heading, then under the second. */
+void under_each_heading(void (*tests)(void));
+
 /* A ring that has turned: P 2, B 2, L 4, N 4, records 2 to 5 of page 1, whose backup at 2 is noted. Page 2 is blank. */
 extern const struct counts TURNED;
 void turned(uint8_t *volume);

@@ -3,4 +3,3 @@ pub mod Rows
 pub mod Outcomes
 pub mod Open
 pub mod Parts
-pub mod Full

@@ -123,7 +123,8 @@ begun-is m m₁ x p s page frame at fill lsn ea e₁ en ex =
     (ex ∙ ap (λ (i : ℕ). frameImage page i (replicate 244 fill)) en)
 
 -- the frame lies behind the records, and reads as before
-pub frame-stays : (m m₁ : List ℕ) (s : State) (page frame at : ℕ) (c : Change) (p : List ℕ) → fits c ≡ true → length p ≡ 44 → 1024 ≤ length m
+pub frame-stays : (m m₁ : List ℕ) (s : State) (page frame at : ℕ) (c : Change) (p : List ℕ) → fits c ≡ true
+    → length p ≡ 44 → 1024 ≤ length m
     → at ≡ frameAt frame
     → m₁ ≡ pendedMemory m s page c p
     → take (at + 256 - at) (drop at m₁) ≡ frameBytes m frame

@@ -22,4 +22,5 @@ beginTail g v frames s page frame =
     (frameBlocked s frame, 10) ∷ appendTail g v s
 
 abbrev pub changeTail : Geometry → List ℕ → State → ℕ → Change → List Row
-changeTail g v s page c = (not (within (g .pages) page), 3) ∷ (not (fits c), 6) ∷ (not (held s page), 8) ∷ appendTail g v s
+changeTail g v s page c =
+    (not (within (g .pages) page), 3) ∷ (not (fits c), 6) ∷ (not (held s page), 8) ∷ appendTail g v s

@@ -10,8 +10,8 @@ ghost use Rattle.model.specs.Geometry.{geometryOf, validVolume};
 ghost use Rattle.model.specs.Item.{frameImage};
 ghost use Rattle.model.specs.Refusals.{beginRows};
 ghost use Rattle.model.specs.Calls.{replyOf, beginOf};
+use crate::limits;
 use crate::pending;
-use crate::room;
 use codec::part;
 use item::image;
 use model::answer::Answer;
@@ -35,7 +35,7 @@ fn own(s: State, volume: &[u8], g: Geometry, count: usize, page: u32, frame: u32
     let no_frame = !((1 <= frame) & (frame as usize <= count));
     let blank = entries::blank(s, page);
     let blocked = frames::blocked(s, frame);
-    let log = room::refusal(s, volume, g);
+    let log = limits::refusal(s, volume, g);
     let table = rows::first(!blank, 9, rows::first(blocked, 10, log));
     rows::first(outside, 3, rows::first(no_frame, 4, table))
 }
@@ -63,8 +63,8 @@ fn format(x: &mut [u8], page: u32, lsn: u32, fill: u8)
 }
 
 // Begins a blank page in a frame: its format is pending, the frame is dirty, and a page in it whose changes are durable
-// leaves the frame.
-// Ruled out: 12 while the log has room; a page with a pending change that leaves its frame; a refusal that clears the frame.
+// leaves the frame. Ruled out: 12 while the log has room; a page with a pending change that leaves its frame; a refusal
+// that clears the frame.
 pub fn begin(s: State, volume: &[u8], memory: &mut [u8], page: u32, frame: u32, fill: u8) -> Reply
     ensures reply { λ r. ⌜ r ≡ replyOf (beginOf (now (volume .entry)) (now (memory .entry)) s page frame fill) ⌝ }
     ensures memory { λ _.

@@ -11,8 +11,8 @@ ghost use Rattle.model.specs.Geometry.{geometryOf, validVolume};
 ghost use Rattle.model.specs.Item.{imageBody};
 ghost use Rattle.model.specs.Refusals.{changeRows};
 ghost use Rattle.model.specs.Calls.{replyOf, changedImage, changeCall};
+use crate::limits;
 use crate::pending;
-use crate::room;
 use codec::field;
 use model::answer::Answer;
 use model::answer::Reply;
@@ -33,7 +33,7 @@ fn own(s: State, volume: &[u8], g: Geometry, page: u32, c: Change) -> u32
     let outside = !((1 <= page) & (page <= g.pages));
     let obeys = item::change::obeys(c);
     let held = frames::held(s, page);
-    let log = room::refusal(s, volume, g);
+    let log = limits::refusal(s, volume, g);
     rows::first(
         outside,
         3,

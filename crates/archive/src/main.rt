@@ -1,5 +1,5 @@
-// The weekly copy of a store's history: reads one volume, of at most 131,092 bytes, from standard input and writes its log
-// archive to standard output. A refusal is the only line, `REFUSED n`, which is no archive. All that matters is in
+// The weekly copy of a store's history: reads one volume, of at most 131,092 bytes, from standard input and writes its
+// log archive to standard output. A refusal is the only line, `REFUSED n`, which is no archive. All that matters is in
 // `export`, which is proved; this file only passes bytes on.
 use libc::STDIN_FILENO;
 use libc::STDOUT_FILENO;

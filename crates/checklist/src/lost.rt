@@ -1,5 +1,5 @@
-// Check 1: a torn page, and a confirmed write that the disk lost. The torn page is found by its checksum, the lost write by its number against
-// the page recovery index.
+// Check 1: a torn page, and a confirmed write that the disk lost. The torn page is found by its checksum, the lost
+// write by its number against the page recovery index.
 use play::disk;
 use play::disk::Image;
 use play::disk::Memory;

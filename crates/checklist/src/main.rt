@@ -1,5 +1,6 @@
-// The four checks that support staff are taught, played with the store's own calls. Only the damage is this program's: it plays the disk and
-// the plug. The calls are proved; the program shows them at work, and compares each page's text before and after.
+// The four checks that support staff are taught, played with the store's own calls. Only the damage is this program's:
+// it plays the disk and the plug. The calls are proved; the program shows them at work, and compares each page's text
+// before and after.
 
 mod both;
 mod lost;

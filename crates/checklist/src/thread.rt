@@ -1,4 +1,5 @@
-// Check 4: the oldest thread reread in full after its page came back old, beside a reader who looks only at the newest line.
+// Check 4: the oldest thread reread in full after its page came back old, beside a reader who looks only at the newest
+// line.
 use play::disk;
 use play::disk::Image;
 use play::disk::Memory;
@@ -17,7 +18,8 @@ fn oldest(v: &mut Volume, m: &mut Memory) -> Store {
     steps::write(c, v, m, 1)
 }
 
-// A newer thread, and a late line between two of the oldest, written; `old` gets the volume as it was before the late line.
+// A newer thread, and a late line between two of the oldest, written; `old` gets the volume as it was before the late
+// line.
 fn late(v: &mut Volume, m: &mut Memory, old: &mut Volume) {
     let a = oldest(v, m);
     let b = steps::begin(a, v, m, 2);

@@ -11,7 +11,7 @@ use Rattle.model.specs.Bytes.{part, startsWith, sameBytes}
 use Rattle.model.specs.Geometry.{geometryOf, item, logSlot}
 use Rattle.model.specs.Mirror.{sameChange, recordIn, commonFrom}
 use Rattle.model.specs.declared.geometry.Geometry.{Geometry}
-use Rattle.index.specs.Section.{Sized}
+use Rattle.index.specs.Sections.{Sized}
 use Rattle.index.proofs.Whole.{sized}
 use Rattle.compare.specs.Volumes.{Headed}
 

@@ -1,7 +1,7 @@
 -- Laws of the marked pages: a page marked, and the records passed.
 use mathlib.Core.Path.{_≡_, refl, sym, ap, _∙_}
 use mathlib.Core.Logic.{_≢_}
-use mathlib.Core.Bool.{Bool, true, false, _&&_, _||_, not, cond}
+use mathlib.Core.Bool.{Bool, true, false, _&&_, _||_, not, cond, or-true, or-false}
 use mathlib.Core.List.{List, [], _∷_}
 use Prim.Native.Nat.{ℕ, zero, suc, _+_, _-_, _≤_, _<_}
 use native.Mathlib.Numerals.{add-one}
@@ -12,8 +12,7 @@ use lib.ListN.{length, set, getD, replicate, length-set, length-replicate}
 use lib.Seq.{ext-getD, getD-set-same, getD-set-other}
 use borrow.Author.Tests.{eq-eqb, ne-eqb}
 use Rattle.laws.proofs.Tables.{byCases, within-bounds, within-holds, true-not-false}
-use Rattle.laws.proofs.Forecast.{tabulate-at, replicate-at}
-use Rattle.laws.proofs.Archive.{tabulate-length}
+use Rattle.laws.proofs.Tabulated.{tabulate-length, tabulate-at, replicate-at, table-of}
 use Rattle.model.specs.Tables.{every, within}
 use Rattle.model.specs.Bytes.{field}
 use Rattle.model.specs.Geometry.{item, logSlot}
@@ -26,22 +25,8 @@ use Rattle.compare.specs.Volumes.{marked, markedBehind}
 
 -- ---- lists of 64
 
--- a list of n is its table
-pub table-of : {A : Type 0} (n : ℕ) (f : ℕ → A) (d : A) (xs : List A) → length xs ≡ n → ((i : ℕ) → i < n → getD xs i d ≡ f i)
-    → xs ≡ tabulate n f
-table-of n f d xs e h =
-    ext-getD d xs (tabulate n f) (e ∙ sym (tabulate-length n f)) (λ i b. let c : i < n = omega arith in h i c ∙ sym (tabulate-at n i f d c))
-
 pub marked-length : (xs : List Bool) (p : ℕ) → length (marked xs p) ≡ length xs
 marked-length xs p = byCases (within 64 p) (λ t. rw t (length-set xs (p - 1) true)) (λ t. rw t)
-
-or-true : (a : Bool) → (a || true) ≡ true
-or-true true = refl
-or-true false = refl
-
-or-false : (a : Bool) → (a || false) ≡ a
-or-false true = refl
-or-false false = refl
 
 -- page i + 1, with page p marked
 marked-at : (xs : List Bool) (p i : ℕ) → length xs ≡ 64 → i < 64 → getD (marked xs p) i false ≡ (getD xs i false || eqb p (suc i))

@@ -82,7 +82,8 @@ module _ (v m : List ℕ) (s : State) where
   first = firstOld (geometryOf v) v (s .index)
 
   -- the definition in its two cases
-  none-is : firstOf (headRows carryTag v m s []) ≡ 0 → ltb first (imageCount (geometryOf v)) ≡ false → restampOf v m s ≡ unchanged Nothing m s
+  none-is : firstOf (headRows carryTag v m s []) ≡ 0 → ltb first (imageCount (geometryOf v)) ≡ false
+      → restampOf v m s ≡ unchanged Nothing m s
   unfolding restampOf restampRows
   none-is e t = sym (passed v m s (restampRows v m s) _ e) ∙ when-false _ _ t
 
@@ -92,7 +93,8 @@ module _ (v m : List ℕ) (s : State) where
   unfolding restampOf restampRows
   one-is e t = sym (passed v m s (restampRows v m s) _ e) ∙ when-true _ _ t
 
-  module _ (g : Geometry) (i : ℕ) (e : firstOf (headRows carryTag v m s []) ≡ 0) (eg : g ≡ geometryOf v) (ei : i ≡ firstOld g v (s .index)) where
+  module _ (g : Geometry) (i : ℕ) (e : firstOf (headRows carryTag v m s []) ≡ 0) (eg : g ≡ geometryOf v)
+      (ei : i ≡ firstOld g v (s .index)) where
     test-is : ltb first (imageCount (geometryOf v)) ≡ ltb i (g .pages + g .slots)
     test-is = rw (ei, eg)
 

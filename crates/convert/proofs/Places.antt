@@ -1,4 +1,5 @@
--- The images of a volume in order: their places, the search for the first that passes only the old sum, and the index gone through for a slot.
+-- The images of a volume in order: their places, the search for the first that passes only the old sum, and the index gone through for a
+-- slot.
 use mathlib.Core.Path.{_≡_, refl, sym, ap, _∙_}
 use mathlib.Core.Bool.{Bool, true, false, cond, _&&_, _||_, not}
 use mathlib.Core.List.{List, [], _∷_}
@@ -31,7 +32,8 @@ page-place g i h = rw (lt-ltb i (g .pages) h, add-one)
 
 pub slot-place : (g : Geometry) (i : ℕ) → g .pages ≤ i → imagePlace g i ≡ slotAt (i - g .pages + 1)
 slot-place g i h =
-    let n : ltb i (g .pages) ≡ false = byCases (ltb i (g .pages)) (λ t. absurd (let l : i < g .pages = ltb-true i (g .pages) t in omega arith)) (λ t. t) in
+    let n : ltb i (g .pages) ≡ false =
+    byCases (ltb i (g .pages)) (λ t. absurd (let l : i < g .pages = ltb-true i (g .pages) t in omega arith)) (λ t. t) in
     rw (n, add-one)
 
 pub page-passes : (g : Geometry) (index : List Entry) (i : ℕ) (x : List ℕ) (r : Bool) → i < g .pages → r ≡ validImage g (i + 1) x
@@ -97,7 +99,8 @@ module _ (p : ℕ → Bool) (n i : ℕ) where
   unfolding firstFrom
   first-end h = let z : n - i ≡ 0 = omega arith in rw z
 
-pub first-start : (g : Geometry) (v : List ℕ) (index : List Entry) → firstFrom (g .pages + g .slots - 0) (oldAt g v index) 0 ≡ firstOld g v index
+pub first-start : (g : Geometry) (v : List ℕ) (index : List Entry)
+    → firstFrom (g .pages + g .slots - 0) (oldAt g v index) 0 ≡ firstOld g v index
 unfolding firstOld
 first-start g v index = let z : g .pages + g .slots - 0 ≡ g .pages + g .slots = omega arith in rw z
 

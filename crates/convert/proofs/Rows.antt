@@ -65,7 +65,8 @@ module _ (v m : List ℕ) (s : State) (n : ℕ) (e : n ≡ firstOf (headRows car
   unfolding finishCarryRows
   finish-first ne = behind-first (not (headed carryTag v)) v m s ((oldLeft (geometryOf v) v (s .index), 20) ∷ []) n e ne
 
-  pub finish-rows : (g : Geometry) (i r : ℕ) → n ≡ 0 → g ≡ geometryOf v → i ≡ firstOld g v (s .index) → r ≡ cond (ltb i (g .pages + g .slots)) 20 0
+  pub finish-rows : (g : Geometry) (i r : ℕ) → n ≡ 0 → g ≡ geometryOf v → i ≡ firstOld g v (s .index)
+      → r ≡ cond (ltb i (g .pages + g .slots)) 20 0
       → r ≡ firstOf (finishCarryRows v m s)
   unfolding finishCarryRows
   finish-rows g i r z eg ei er =

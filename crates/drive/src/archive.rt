@@ -1,5 +1,5 @@
-// The log archive, ops 23 to 25 and 29: its length, its writer into the lent buffer, its reader from the second buffer into
-// the lent one, and the number of its pages.
+// The log archive, ops 23 to 25 and 29: its length, its writer into the lent buffer, its reader from the second buffer
+// into the lent one, and the number of its pages.
 use crate::cell;
 use crate::session;
 use crate::session::Said;

@@ -28,7 +28,8 @@ fn carry(dst: &mut [u8], src: &[u8], n: usize) -> usize {
     k
 }
 
-// What the second buffer holds for the calls that read it: the volume's lent part, the lent buffer's, or so many of its own bytes.
+// What the second buffer holds for the calls that read it: the volume's lent part, the lent buffer's, or so many of its
+// own bytes.
 fn take(b: Session, c: &[u8], volume: &[u8], lent: &[u8], second: &mut [u8]) -> Turn {
     match cell::kind(c) {
         0 => session::done(session::with_second(b, carry(second, volume, b.volume))),

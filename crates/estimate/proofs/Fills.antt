@@ -9,20 +9,10 @@ use lib.Dec.{ltb}
 use lib.ListN.{length, take, getD, set, replicate, length-set, length-replicate}
 use lib.Seq.{getD-set-same, getD-set-other, take-suc-set, take-all}
 use borrow.Author.Tests.{lt-ltb, le-ltb}
-use Rattle.laws.proofs.Forecast.{replicate-at}
+use Rattle.laws.proofs.Tabulated.{replicate-at, table-of}
 use Rattle.model.specs.Reading.{tabulate}
 use Rattle.model.specs.Forecast.{counted, figureNumbers}
 use Rattle.model.specs.declared.reading.Figure.{Figure}
-
--- a list by its entries
-listed : {A : Type 0} (n : ℕ) (f : ℕ → A) (d : A) (xs : List A) → length xs ≡ n → ((i : ℕ) → getD xs i d ≡ f i) → xs ≡ tabulate n f
-unfolding tabulate
-listed zero f d [] e h = refl
-listed zero f d (x ∷ xs) e h = absurd (omega (arith, e))
-listed (suc n) f d [] e h = absurd (omega (arith, e))
-listed {A} (suc n) f d (x ∷ xs) e h =
-    ap (λ (l : List A). x ∷ l) (listed n (λ i. f (suc i)) d xs (omega (arith, e)) (λ i. h (suc i)))
-    ∙ ap (λ (y : A). y ∷ tabulate n (λ i. f (suc i))) (h 0)
 
 module _ {A : Type 0} (f : ℕ → A) (d : A) where
   -- the first i of n rows are f's, the others are as they were
@@ -48,7 +38,7 @@ module _ {A : Type 0} (f : ℕ → A) (d : A) where
       ]
 
   pub all-filled : (n : ℕ) (rows : List A) (i : ℕ) → Filling n rows i → rows ≡ tabulate n (λ k. cond (ltb k i) (f k) d)
-  all-filled n rows i h = listed n (λ k. cond (ltb k i) (f k) d) d rows (h .size) (h .row)
+  all-filled n rows i h = table-of n (λ k. cond (ltb k i) (f k) d) d rows (h .size) (λ k l. h .row k)
 
 -- ---- figures as numbers
 

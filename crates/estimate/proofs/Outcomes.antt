@@ -11,6 +11,7 @@ use Rattle.laws.proofs.Places.{valid-facts}
 use Rattle.laws.proofs.Tables.{byCases}
 use Rattle.laws.proofs.Forecast.{scanned}
 use Rattle.repair.proofs.Scanned.{scanned-ready}
+use Rattle.repair.proofs.Unbroken.{scanned-whole}
 use Rattle.model.specs.Tables.{firstOf}
 use Rattle.model.specs.Geometry.{geometryOf, validVolume}
 use Rattle.model.specs.Index.{entryRow, entryOf}
@@ -24,7 +25,7 @@ use Rattle.model.specs.declared.reading.Figure.{Figure}
 use Rattle.model.specs.declared.reading.Forecast.{Forecast}
 use Rattle.index.specs.Scanned.{scanRows, scanRefusal, scannedOf}
 use Rattle.index.specs.declared.Scanned.{Scanned}
-use Rattle.repair.specs.Walked.{Ready, walkedOf}
+use Rattle.repair.specs.Walked.{Ready, Whole, walkedOf}
 use Rattle.repair.specs.declared.walk.Walked.{Walked}
 use Rattle.estimate.specs.Figures.{Indexed, figureAs, figureFor, figureIn}
 
@@ -38,7 +39,13 @@ next index i = let e : i + 1 - 1 ≡ i = omega arith in ap (entryRow index) e
 
 pub page-ready : (v : List ℕ) (g : Geometry) (first : ℕ) (index : List Entry) → Indexed v g first index → (i : ℕ) → i < g .pages
     → Ready v g first (entryRow index i) (i + 1)
-page-ready v g first index x i l = subst (λ (e : Entry). Ready v g first e (i + 1)) (next index i) (x .ready (i + 1) (omega arith) (omega arith))
+page-ready v g first index x i l =
+    subst (λ (e : Entry). Ready v g first e (i + 1)) (next index i) (x .ready (i + 1) (omega arith) (omega arith))
+
+pub page-whole : (v : List ℕ) (g : Geometry) (first : ℕ) (index : List Entry) → Indexed v g first index → (i : ℕ)
+    → Whole g (i + 1) (viewOf g v first (entryRow index i) (i + 1))
+page-whole v g first index x i =
+    subst (λ (e : Entry). Whole g (i + 1) (viewOf g v first e (i + 1))) (next index i) (x .whole (i + 1) (omega arith))
 
 -- a walk's figure is that of its two numbers
 pub page-figured : (g : Geometry) (v : List ℕ) (first : ℕ) (index : List Entry) (i : ℕ) (w : Walked) (f : Figure)
@@ -71,6 +78,7 @@ module _ (v : List ℕ) where
         valid = c .volume;
         geometry = refl;
         ready = λ p low high. scanned-ready v (geometryOf v) (c .volume) refl (c .log) p (c .notes) low high;
+        whole = λ p low. scanned-whole v (geometryOf v) p (c .volume) refl (c .log) (c .notes) low;
       } in
       subst (λ (k : Geometry). Indexed v k (s .first) (s .index)) (sym eg)
       (subst (λ (x : Scanned). Indexed v (geometryOf v) (x .first) (x .index)) (sym (es z)) whole)
@@ -78,7 +86,8 @@ module _ (v : List ℕ) where
   -- and gives the rows
   pub done : (s : Scanned) (g : Geometry) (rows : List Figure) → s .refusal ≡ scanRefusal v → (s .refusal ≡ 0 → s ≡ scannedOf v)
       → s .refusal ≡ 0 → g ≡ geometryOf v
-      → rows ≡ tabulate 64 (λ i. figureIn g v (s .first) (s .index) i) → _≡_ {A = Forecast} (record { refusal = 0; pages = rows }) (forecastOf v)
+      → rows ≡ tabulate 64 (λ i. figureIn g v (s .first) (s .index) i)
+      → _≡_ {A = Forecast} (record { refusal = 0; pages = rows }) (forecastOf v)
   unfolding forecastOf
   done s g rows er es z eg et =
       let no : firstOf (model.scanRows v) ≡ 0 = restarts (sym er ∙ z) in

@@ -11,14 +11,15 @@ use Rattle.model.specs.Forecast.{counted, below, figureOf}
 use Rattle.model.specs.declared.geometry.Geometry.{Geometry}
 use Rattle.model.specs.declared.state.Entry.{Entry}
 use Rattle.model.specs.declared.reading.Figure.{Figure}
-use Rattle.repair.specs.Walked.{Ready}
+use Rattle.repair.specs.Walked.{Ready, Whole}
 use Rattle.repair.specs.declared.walk.Walked.{Walked}
 
--- a valid volume with its geometry, and an index by which each page's walk may be made
+-- a valid volume with its geometry, and an index by which each page's walk may be made untested
 pub record Indexed (v : List ℕ) (g : Geometry) (first : ℕ) (index : List Entry) : Type 0 where
   pub valid : validVolume v ≡ true
   pub geometry : g ≡ geometryOf v
   pub ready : (p : ℕ) → 1 ≤ p → p ≤ g .pages → Ready v g first (entryOf index p) p
+  pub whole : (p : ℕ) → 1 ≤ p → Whole g p (viewOf g v first (entryOf index p) p)
 
 -- what a walk comes to
 abbrev pub figureAs : Walked → Figure

@@ -26,7 +26,8 @@ fn tell(pages: [Figure; 64], figures: &mut [u32])
 #[no_mangle]
 pub extern "C" fn pagestore_forecast(volume: &[u8], figures: &mut [u32]) -> u32
     ensures answer { λ r. ⌜ r ≡ tellForecast (now (volume .entry)) (now (figures .entry)) .refusal ⌝ }
-    ensures figures { λ _. ⌜ now (figures .exit) ≡ tellForecast (now (volume .entry)) (now (figures .entry)) .figures ⌝ }
+    ensures figures { λ _. ⌜ now (figures .exit)
+        ≡ tellForecast (now (volume .entry)) (now (figures .entry)) .figures ⌝ }
 {
     if figures.len() != 128 {
         let valid = heading::valid(volume);

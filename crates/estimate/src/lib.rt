@@ -48,7 +48,7 @@ fn rows(volume: &[u8], g: Geometry, first: u64, index: [Entry; 64]) -> [Figure; 
     while i < count {
         let k = i as usize;
         let e = index[k];
-        let walked = walk::walk(volume, g, first, e, i + 1);
+        let walked = walk::follow(volume, g, first, e, i + 1);
         pages[k] = figure(walked);
         i += 1;
     }

@@ -1,2 +1,4 @@
 pub mod Copies
+pub mod Columns
+pub mod Fronts
 pub mod Outcomes

@@ -21,7 +21,7 @@ use Rattle.model.specs.declared.geometry.Geometry.{Geometry}
 use Rattle.model.specs.declared.answer.Answer.{Answer}
 use Rattle.model.specs.declared.answer.Answer.the-variants.{Refused, Done}
 use Rattle.model.specs.declared.reading.Size.{Size}
-use Rattle.index.specs.Section.{Sized}
+use Rattle.index.specs.Sections.{Sized}
 use Rattle.index.specs.Scanned.{scanRows, scanRefusal, countsOf}
 use Rattle.index.specs.declared.Counts.{Counts}
 use Rattle.index.proofs.Whole.{clean, sized}

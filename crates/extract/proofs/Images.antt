@@ -8,9 +8,9 @@ use lib.Dec.{eqb, ltb}
 use lib.ListN.{length, take, drop, replicate, length-replicate}
 use borrow.Rule.Slice.PartMut.{putMid}
 use Rattle.laws.proofs.Tables.{all-at, and-left, and-right}
-use Rattle.laws.proofs.Parts.{part-splice, put-splice}
+use Rattle.laws.proofs.Parts.{put-part}
 use Rattle.laws.proofs.Zeros.{zeros, part-zeros}
-use Rattle.model.specs.Bytes.{field, part, splice}
+use Rattle.model.specs.Bytes.{field, part}
 use Rattle.model.specs.Change.{zeroBody}
 use Rattle.model.specs.Checksum.{sealed}
 use Rattle.model.specs.Item.{recordOf, recordLayout, applyRecord, frameImage}
@@ -94,14 +94,6 @@ module _ (a : List ℕ) (rs : List (List ℕ)) (body₀ body : List ℕ) (left f
       (sym (ap (lastNumberIn last) e) ∙ h .number, sym (ap (λ (l : List (List ℕ)). replayRecords l body) e) ∙ h .made)
 
 -- ---- the image
-
--- a part written over is what was written
-module _ (xs : List ℕ) (at k : ℕ) (ys : List ℕ) (len : length ys ≡ k) (fits : at + k ≤ length xs) where
-  inside : at + length ys ≤ length xs
-  inside = omega (arith, len, fits)
-
-  put-part : part (putMid at k xs ys) at k ≡ ys
-  put-part = rw (put-splice xs at k ys len) (ap (part (splice xs at ys) at) (sym len) ∙ part-splice xs at ys inside)
 
 body-zeros : (n : ℕ) → 252 ≤ n → take 244 (drop 8 (zeros n)) ≡ zeroBody
 unfolding part

@@ -6,11 +6,11 @@ ghost use lib.ListN.{length, drop};
 ghost use Rattle.extract.specs.Judged.{Judged};
 ghost use Rattle.model.specs.Archive.{inSection, validSection, frontSection, recordsFrom, replayRecords};
 ghost use Rattle.model.specs.Archive.{lastNumberIn, sectionFits, sectionImage};
-use codec::checksum;
 use codec::field;
 use codec::part;
 use item::image;
 use item::record;
+use sums::checksum;
 use volume::place;
 
 // A record may stand in the page's section behind the number `last`; 0 is none.

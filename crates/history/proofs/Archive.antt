@@ -14,7 +14,7 @@ use borrow.Author.Tests.{eqb-true, eqb-false}
 use Rattle.laws.proofs.Tables.{byCases, true-not-false}
 use Rattle.laws.proofs.Places.{valid-facts}
 use Rattle.laws.proofs.Items.{frameImage-page}
-use Rattle.laws.proofs.Forecast.{tabulate-at}
+use Rattle.laws.proofs.Tabulated.{tabulate-at}
 use Rattle.laws.proofs.Archive.{Whole, held-is, wrote, written-back, last-snoc}
 use Rattle.laws.proofs.Area.{read-done, read-image}
 use Rattle.model.specs.Bytes.{bytesOf, part}

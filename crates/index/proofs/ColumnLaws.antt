@@ -8,7 +8,7 @@ use native.Mathlib.Omega.{arith}
 use lib.Dec.{eqb, leb}
 use lib.ListN.{length, drop, getD, set, take, replicate, length-map, length-set, length-replicate, drop-of-length-le, List·getD-map, List·getD-eq-default}
 use lib.Seq.{drop-cons, map-set-same, take-suc-set, take-suc, take-all}
-use borrow.Author.Tests.{eq-eqb, ne-eqb}
+use borrow.Author.Tests.{eq-eqb, ne-eqb, le-leb}
 use Rattle.laws.proofs.Tables.{byCases, every-same}
 use Rattle.model.specs.Tables.{every}
 use Rattle.model.specs.Item.{isWritten}
@@ -17,7 +17,7 @@ use Rattle.model.specs.Scan.{logRecord, noteRecord, logIndex, runIndex, noteInd
 use Rattle.model.specs.declared.geometry.Geometry.{Geometry}
 use Rattle.model.specs.declared.item.Note.{Note}
 use Rattle.model.specs.declared.state.Entry.{Entry}
-use Rattle.index.specs.Columns.{lasts, durables, writtens, slotsIn, backups, Noted, Columns, Blank, columnRow, columnsOrdered, slotIn, Wide}
+use Rattle.index.specs.Columns.{lasts, durables, writtens, slotsIn, backups, Noted, Columns, Blank, columnRow, columnsOrdered, slotIn, Wide, Unwritten}
 
 -- ---- a column
 
@@ -36,7 +36,8 @@ slot-in b (e ∷ l) = ap (λ (t : Bool). eqb (e .slot) b || t) (slot-in b l)
 
 module _ (b : ℕ) (l : List ℕ) (i : ℕ) where
   -- of what is left of the column behind a row that was looked at
-  pub in-next : (found : Bool) → i < length l → (found || slotIn b (drop i l)) ≡ ((found || eqb (getD l i 0) b) || slotIn b (drop (i + 1) l))
+  pub in-next : (found : Bool) → i < length l
+      → (found || slotIn b (drop i l)) ≡ ((found || eqb (getD l i 0) b) || slotIn b (drop (i + 1) l))
   unfolding slotIn
   in-next true h = refl
   in-next false h = rw (add-one, drop-cons l i 0)
@@ -50,15 +51,21 @@ module _ (b : ℕ) (l : List ℕ) (i : ℕ) where
 module _ (index : List Entry) (last written slots backup : List ℕ) (c : Columns index last written slots backup) where
   pub row-of : (i : ℕ) → columnRow last written slots backup i ≡ settled (getD index i emptyEntry)
   row-of i =
-      let a : getD last i 0 ≡ getD index i emptyEntry .last = ap (λ (l : List ℕ). getD l i 0) (sym (c .last-is)) ∙ List·getD-map (λ (e : Entry). e .last) index i emptyEntry in
-      let d : getD last i 0 ≡ getD index i emptyEntry .durable = ap (λ (l : List ℕ). getD l i 0) (sym (c .durable-is)) ∙ List·getD-map (λ (e : Entry). e .durable) index i emptyEntry in
-      let w : getD written i 0 ≡ getD index i emptyEntry .written = ap (λ (l : List ℕ). getD l i 0) (sym (c .noted .written-is)) ∙ List·getD-map (λ (e : Entry). e .written) index i emptyEntry in
-      let s : getD slots i 0 ≡ getD index i emptyEntry .slot = ap (λ (l : List ℕ). getD l i 0) (sym (c .noted .slots-are)) ∙ List·getD-map (λ (e : Entry). e .slot) index i emptyEntry in
-      let b : getD backup i 0 ≡ getD index i emptyEntry .backup = ap (λ (l : List ℕ). getD l i 0) (sym (c .noted .backup-is)) ∙ List·getD-map (λ (e : Entry). e .backup) index i emptyEntry in
+      let a : getD last i 0 ≡ getD index i emptyEntry .last = ap (λ (l : List ℕ). getD l i 0) (sym (c .last-is))
+      ∙ List·getD-map (λ (e : Entry). e .last) index i emptyEntry in
+      let d : getD last i 0 ≡ getD index i emptyEntry .durable = ap (λ (l : List ℕ). getD l i 0) (sym (c .durable-is))
+      ∙ List·getD-map (λ (e : Entry). e .durable) index i emptyEntry in
+      let w : getD written i 0 ≡ getD index i emptyEntry .written = ap (λ (l : List ℕ). getD l i 0) (sym (c .noted .written-is))
+      ∙ List·getD-map (λ (e : Entry). e .written) index i emptyEntry in
+      let s : getD slots i 0 ≡ getD index i emptyEntry .slot = ap (λ (l : List ℕ). getD l i 0) (sym (c .noted .slots-are))
+      ∙ List·getD-map (λ (e : Entry). e .slot) index i emptyEntry in
+      let b : getD backup i 0 ≡ getD index i emptyEntry .backup = ap (λ (l : List ℕ). getD l i 0) (sym (c .noted .backup-is))
+      ∙ List·getD-map (λ (e : Entry). e .backup) index i emptyEntry in
       same (getD index i emptyEntry) (getD last i 0) (getD written i 0) (getD slots i 0) (getD backup i 0) a d w s b
     where
       same : (x : Entry) (a w s b : ℕ) → a ≡ x .last → a ≡ x .durable → w ≡ x .written → s ≡ x .slot → b ≡ x .backup
-          → _≡_ {A = Entry} (record { last = cond (eqb a 0) b a; durable = cond (eqb a 0) b a; written = w; slot = s; backup = b }) (settled x)
+          → _≡_ {A = Entry}
+          (record { last = cond (eqb a 0) b a; durable = cond (eqb a 0) b a; written = w; slot = s; backup = b }) (settled x)
       same x a w s b ea ed ew es eb =
           byCases (eqb a 0) (λ t. let u : eqb (x .last) 0 ≡ true = rw ea at t in rw (t, u, ew, es, eb))
           (λ t. let u : eqb (x .last) 0 ≡ false = rw ea at t in rw (t, u) (plain x a w s b ea ed ew es eb))
@@ -71,7 +78,8 @@ module _ (index : List Entry) (last written slots backup : List ℕ) (c : Column
   pub settled-row : (i : ℕ) → columnRow last written slots backup i ≡ getD (map settled index) i emptyEntry
   settled-row i = row-of i ∙ sym (List·getD-map settled index i emptyEntry)
 
-  pub ordered-is : columnsOrdered last written slots backup ≡ every 64 (λ i. leb (entryRow (map settled index) i .written) (entryRow (map settled index) i .last))
+  pub ordered-is : columnsOrdered last written slots backup
+      ≡ every 64 (λ i. leb (entryRow (map settled index) i .written) (entryRow (map settled index) i .last))
   unfolding columnsOrdered
   ordered-is = every-same _ _ 64 (λ i b. ap (λ (e : Entry). leb (e .written) (e .last)) (settled-row i))
 
@@ -79,18 +87,21 @@ module _ (index : List Entry) (last written slots backup : List ℕ) (c : Column
   index-length = sym (length-map index (λ (e : Entry). e .last)) ∙ ap length (c .last-is)
 
   -- i rows are made
-  pub gathered-more : (made : List Entry) (i : ℕ) (x : Entry) → i < length made → i < length index → take i made ≡ take i (map settled index) → x ≡ columnRow last written slots backup i
+  pub gathered-more : (made : List Entry) (i : ℕ) (x : Entry) → i < length made → i < length index
+      → take i made ≡ take i (map settled index) → x ≡ columnRow last written slots backup i
       → take (i + 1) (set made i x) ≡ take (i + 1) (map settled index)
   gathered-more made i x h k e ex =
       let l : i < length (map settled index) = omega (arith, length-map index settled) in
       rw (add-one, take-suc-set made i x h, e, ex, settled-row i, take-suc (map settled index) i emptyEntry l)
 
-  pub gathered-all : length last ≡ 64 → (made : List Entry) (i : ℕ) → i ≡ 64 → length made ≡ 64 → take i made ≡ take i (map settled index) → made ≡ map settled index
+  pub gathered-all : length last ≡ 64 → (made : List Entry) (i : ℕ) → i ≡ 64 → length made ≡ 64 → take i made ≡ take i (map settled index)
+      → made ≡ map settled index
   gathered-all h made i e l q =
       sym (take-all i made (omega arith)) ∙ q ∙ take-all i (map settled index) (omega (arith, index-length, length-map index settled))
 
 -- past the last row
-pub row-past : (last written slots backup : List ℕ) → Wide last written slots backup → (i : ℕ) → 64 ≤ i → emptyEntry ≡ columnRow last written slots backup i
+pub row-past : (last written slots backup : List ℕ) → Wide last written slots backup → (i : ℕ) → 64 ≤ i
+    → emptyEntry ≡ columnRow last written slots backup i
 row-past last written slots backup w i h =
     rw (
       List·getD-eq-default last 0 {n = i} (omega (arith, w .last-wide)),
@@ -98,6 +109,10 @@ row-past last written slots backup w i h =
       List·getD-eq-default slots 0 {n = i} (omega (arith, w .slots-wide)),
       List·getD-eq-default backup 0 {n = i} (omega (arith, w .backup-wide)),
     )
+
+and-unit : (x : Bool) → (x && true) ≡ x
+and-unit true = refl
+and-unit false = refl
 
 -- no written number above its page's last, row by row
 module _ (last written slots backup : List ℕ) where
@@ -109,9 +124,22 @@ module _ (last written slots backup : List ℕ) where
   unfolding every
   ordered-next i kept e h q = rw (add-one, h, q)
 
-  pub ordered-all : (i : ℕ) (kept : Bool) → i ≡ 64 → kept ≡ every i orderedAt → kept ≡ columnsOrdered last written slots backup
+  -- rows in which nothing is written
+  ordered-past : (pages d : ℕ) → Unwritten pages written → every (pages + d) orderedAt ≡ every pages orderedAt
+  unfolding every
+  ordered-past pages zero u = let e : pages + 0 ≡ pages = omega arith in rw e
+  ordered-past pages (suc d) u =
+      let e : pages + suc d ≡ suc (pages + d) = omega arith in
+      let w : getD written (pages + d) 0 ≡ 0 = u .unwritten (pages + d) (omega arith) in
+      let t : orderedAt (pages + d) ≡ true = rw w (le-leb 0 (columnRow last written slots backup (pages + d) .last) (omega arith)) in
+      rw (e, t) (and-unit (every (pages + d) orderedAt) ∙ ordered-past pages d u)
+
+  pub ordered-all : (pages : ℕ) → pages ≤ 64 → Unwritten pages written → (i : ℕ) (kept : Bool) → i ≡ pages → kept ≡ every i orderedAt
+      → kept ≡ columnsOrdered last written slots backup
   unfolding columnsOrdered
-  ordered-all i kept e h = rw e at h
+  ordered-all pages few u i kept e h =
+      let s : 64 ≡ pages + (64 - pages) = omega arith in
+      h ∙ ap (λ (n : ℕ). every n orderedAt) e ∙ sym (ordered-past pages (64 - pages) u) ∙ ap (λ (n : ℕ). every n orderedAt) (sym s)
 
 -- ---- the log
 

@@ -16,9 +16,10 @@ use Rattle.model.specs.Checksum.{sealed}
 use Rattle.model.specs.Geometry.{ring, noteRing, recordAt, noteAt, start, item, logSlot, noteSlot, slotOf}
 use Rattle.model.specs.Scan.{highest, durableCount, firstHeld, noteCount, firstNote}
 use Rattle.model.specs.declared.geometry.Geometry.{Geometry}
-use Rattle.index.specs.Section.{Sized, Placed, slotBytes, countIn, frontIn, firstIn, runIn, logSection, noteSection, logRun, noteRun}
-use Rattle.index.specs.declared.section.Section.{Section}
-use Rattle.index.specs.declared.section.Run.{Run}
+use Rattle.index.specs.Sections.{Sized, logSection, noteSection, logRun, noteRun}
+use Rattle.section.specs.Section.{Placed, slotBytes, countIn, frontIn, firstIn, runIn}
+use Rattle.section.specs.declared.Section.{Section}
+use Rattle.section.specs.declared.Run.{Run}
 
 module _ (g : Geometry) (v : List ℕ) where
   pub record-slot : (i : ℕ) → slotBytes v (logSection g) i ≡ item g v (recordAt (suc i))
@@ -29,9 +30,19 @@ module _ (g : Geometry) (v : List ℕ) where
   unfolding item
   note-slot i = let e : start g (noteAt 1) + (12 + 4) * i ≡ start g (noteAt (suc i)) = omega arith in ap (λ (k : ℕ). part v k 16) e
 
+  -- the slot of number n, as a run's scan comes to it
+  module _ (s : Section) (n slot : ℕ) (r : List ℕ) (er : r ≡ slotBytes v s slot) where
+    pub record-here : s ≡ logSection g → slot ≡ (n - 1) % g .records → r ≡ item g v (logSlot g n)
+    record-here es e = er ∙ ap (λ (x : Section). slotBytes v x slot) es ∙ ap (slotBytes v (logSection g)) e
+        ∙ record-slot ((n - 1) % g .records)
+
+    pub note-here : s ≡ noteSection g → slot ≡ (n - 1) % g .notes → r ≡ item g v (noteSlot g n)
+    note-here es e = er ∙ ap (λ (x : Section). slotBytes v x slot) es ∙ ap (slotBytes v (noteSection g)) e ∙ note-slot ((n - 1) % g .notes)
+
   -- the slot of the number after n
   pub record-next : (n : ℕ) → slotBytes v (logSection g) (n % g .records) ≡ item g v (logSlot g (suc n))
-  record-next n = let e : n ≡ suc n - 1 = omega arith in record-slot (n % g .records) ∙ ap (λ (k : ℕ). item g v (recordAt (suc (k % g .records)))) e
+  record-next n = let e : n ≡ suc n - 1 = omega arith in
+      record-slot (n % g .records) ∙ ap (λ (k : ℕ). item g v (recordAt (suc (k % g .records)))) e
 
   pub note-next : (n : ℕ) → slotBytes v (noteSection g) (n % g .notes) ≡ item g v (noteSlot g (suc n))
   note-next n = let e : n ≡ suc n - 1 = omega arith in note-slot (n % g .notes) ∙ ap (λ (k : ℕ). item g v (noteAt (suc (k % g .notes)))) e
@@ -40,14 +51,16 @@ module _ (g : Geometry) (v : List ℕ) where
   unfolding durableCount countIn
   log-count =
       byCases (ring g)
-      (λ t. rw t (highest-same 60 _ _ (g .records) (λ i b. let e : suc i - 1 ≡ i = omega arith in ap (slotBytes v (logSection g)) e ∙ record-slot i)))
+      (λ t. rw t (highest-same 60 _ _ (g .records)
+      (λ i b. let e : suc i - 1 ≡ i = omega arith in ap (slotBytes v (logSection g)) e ∙ record-slot i)))
       (λ t. rw t)
 
   pub note-count : countIn v (noteSection g) ≡ noteCount g v
   unfolding noteCount countIn
   note-count =
       byCases (noteRing g)
-      (λ t. rw t (highest-same 12 _ _ (g .notes) (λ i b. let e : suc i - 1 ≡ i = omega arith in ap (slotBytes v (noteSection g)) e ∙ note-slot i)))
+      (λ t. rw t (highest-same 12 _ _ (g .notes)
+      (λ i b. let e : suc i - 1 ≡ i = omega arith in ap (slotBytes v (noteSection g)) e ∙ note-slot i)))
       (λ t. rw t)
 
   pub log-first : (n : ℕ) → firstIn v (logSection g) n ≡ firstHeld g v n
@@ -61,53 +74,66 @@ module _ (g : Geometry) (v : List ℕ) where
   -- the runs as they are found
   pub log-run : (s : Section) → s ≡ logSection g → (r : Run) → r ≡ runIn v s → r ≡ logRun g v
   log-run s es r er =
-      er ∙ ap (runIn v) es ∙ (λ i. record { first = (ap (firstIn v (logSection g)) log-count ∙ log-first (durableCount g v)) i; count = log-count i; front = frontIn v (logSection g) })
+      er ∙ ap (runIn v) es ∙ (λ i. record {
+        first = (ap (firstIn v (logSection g)) log-count ∙ log-first (durableCount g v)) i;
+        count = log-count i;
+        front = frontIn v (logSection g);
+      })
 
   pub note-run : (s : Section) → s ≡ noteSection g → (r : Run) → r ≡ runIn v s → r ≡ noteRun g v
   note-run s es r er =
-      er ∙ ap (runIn v) es ∙ (λ i. record { first = (ap (firstIn v (noteSection g)) note-count ∙ note-first (noteCount g v)) i; count = note-count i; front = frontIn v (noteSection g) })
+      er ∙ ap (runIn v) es ∙ (λ i. record {
+        first = (ap (firstIn v (noteSection g)) note-count ∙ note-first (noteCount g v)) i;
+        count = note-count i;
+        front = frontIn v (noteSection g);
+      })
 
   -- a number's slot at the front is whole
   pub record-known : (n : ℕ) → slotOf (g .records) n ≤ frontIn v (logSection g) → sealed 60 (item g v (logSlot g n)) ≡ true
-  record-known n h = ap (sealed 60) (sym (record-slot ((n - 1) % g .records))) ∙ run-sealed 60 v (g .records) (start g (recordAt 1)) ((n - 1) % g .records) h
+  record-known n h = ap (sealed 60) (sym (record-slot ((n - 1) % g .records)))
+      ∙ run-sealed 60 v (g .records) (start g (recordAt 1)) ((n - 1) % g .records) h
 
   pub note-known : (n : ℕ) → slotOf (g .notes) n ≤ frontIn v (noteSection g) → sealed 12 (item g v (noteSlot g n)) ≡ true
-  note-known n h = ap (sealed 12) (sym (note-slot ((n - 1) % g .notes))) ∙ run-sealed 12 v (g .notes) (start g (noteAt 1)) ((n - 1) % g .notes) h
+  note-known n h = ap (sealed 12) (sym (note-slot ((n - 1) % g .notes)))
+      ∙ run-sealed 12 v (g .notes) (start g (noteAt 1)) ((n - 1) % g .notes) h
 
   module _ (s : Sized g v) where
     pub log-placed : Placed v (logSection g)
-    log-placed = record { room = omega (arith, s .size); short = omega arith; few = s .records; none = λ z. absurd (omega (arith, s .some)) }
+    log-placed =
+        record { room = omega (arith, s .size); short = omega arith; few = s .records; none = λ z. absurd (omega (arith, s .some)) }
 
     pub note-placed : Placed v (noteSection g)
     note-placed = record { room = omega (arith, s .size); short = omega arith; few = s .notes; none = λ z. omega (arith, s .size) }
 
     -- a number's slot is in the volume
     pub record-fits : (n : ℕ) → start g (logSlot g n) + 64 ≤ length v
-    record-fits n = let m : (n - 1) % g .records < g .records = mod-lt (n - 1) (s .some) in place-fits g v (s .size) (logSlot g n) (omega arith, omega arith)
+    record-fits n = let m : (n - 1) % g .records < g .records = mod-lt (n - 1) (s .some) in
+        place-fits g v (s .size) (logSlot g n) (omega arith, omega arith)
 
     pub record-length : (n : ℕ) → length (item g v (logSlot g n)) ≡ 64
-    record-length n = let m : (n - 1) % g .records < g .records = mod-lt (n - 1) (s .some) in item-length g v (s .size) (logSlot g n) (omega arith, omega arith)
-
-    pub note-fits : 1 ≤ g .notes → (n : ℕ) → start g (noteSlot g n) + 16 ≤ length v
-    note-fits some n = let m : (n - 1) % g .notes < g .notes = mod-lt (n - 1) some in place-fits g v (s .size) (noteSlot g n) (omega arith, omega arith)
+    record-length n = let m : (n - 1) % g .records < g .records = mod-lt (n - 1) (s .some) in
+        item-length g v (s .size) (logSlot g n) (omega arith, omega arith)
 
   -- the run starts at 1 or later
   pub first-low : (n : ℕ) → 1 ≤ firstHeld g v n
   unfolding firstHeld
   first-low n =
       byCases (ring g)
-      (λ t. rw t (byCases (sealed 60 (item g v (logSlot g (suc (n - g .records))))) (λ u. rw u (omega arith)) (λ u. rw u (omega arith)))) (λ t. rw t (omega arith))
+      (λ t. rw t (byCases (sealed 60 (item g v (logSlot g (suc (n - g .records))))) (λ u. rw u (omega arith)) (λ u. rw u (omega arith))))
+      (λ t. rw t (omega arith))
 
   pub first-note-low : (n : ℕ) → 1 ≤ firstNote g v n
   unfolding firstNote
   first-note-low n =
       byCases (noteRing g)
-      (λ t. rw t (byCases (sealed 12 (item g v (noteSlot g (suc (n - g .notes))))) (λ u. rw u (omega arith)) (λ u. rw u (omega arith)))) (λ t. rw t (omega arith))
+      (λ t. rw t (byCases (sealed 12 (item g v (noteSlot g (suc (n - g .notes))))) (λ u. rw u (omega arith)) (λ u. rw u (omega arith))))
+      (λ t. rw t (omega arith))
 
   -- where there is a note, there is a slot for it
   pub notes-some : 1 ≤ noteCount g v → 1 ≤ g .notes
   unfolding noteCount highest
   notes-some h = elim (ℕ-discrete (g .notes) 0) [
-    | yes z ↦ let e : noteCount g v ≡ 0 = byCases (noteRing g) (λ t. rw (t, z)) (λ t. rw (t, z) (run-none 12 v (start g (noteAt 1)))) in absurd (omega arith)
+    | yes z ↦ let e : noteCount g v ≡ 0 = byCases (noteRing g) (λ t. rw (t, z)) (λ t. rw (t, z) (run-none 12 v (start g (noteAt 1)))) in
+        absurd (omega arith)
     | no z ↦ omega arith
   ]

@@ -2,7 +2,7 @@
 use mathlib.Core.Path.{_≡_, refl, sym, ap, _∙_, subst}
 use mathlib.Core.Bool.{Bool, true, false, _&&_, _||_}
 use mathlib.Core.List.{List, [], _∷_}
-use Prim.Native.Nat.{ℕ, suc, _+_, _-_, _≤_, _<_}
+use Prim.Native.Nat.{ℕ, suc, _+_, _-_, _%_, _≤_, _<_}
 use native.Mathlib.Numerals.{add-one}
 use native.Mathlib.Omega.{arith}
 use lib.Dec.{eqb}
@@ -10,7 +10,7 @@ use lib.ListN.{length, getD, set, replicate, length-set, length-replicate, List�
 use Rattle.laws.proofs.Tables.{all-at, within-bounds, every-none, every-more, every-fails}
 use Rattle.model.specs.Tables.{every, within}
 use Rattle.model.specs.Checksum.{sealed}
-use Rattle.model.specs.Geometry.{recordAt, logSlot, slotOf, item}
+use Rattle.model.specs.Geometry.{recordAt, logSlot, item}
 use Rattle.model.specs.Item.{recordOf, recordLayout, firstIsFormat}
 use Rattle.model.specs.Index.{emptyEntry, entryOf}
 use Rattle.model.specs.Scan.{logRecord, durableCount, firstHeld, logIndex, runIndex, recordFits, linked, endsAt, restZero, validLog}
@@ -19,13 +19,14 @@ use Rattle.model.specs.declared.item.LogRecord.{LogRecord}
 use Rattle.model.specs.declared.state.Entry.{Entry}
 use Rattle.index.specs.Rows.{rowOf}
 use Rattle.index.specs.Columns.{lasts}
-use Rattle.index.specs.Section.{endsIn, frontIn, logSection, logRun, recordFollows}
-use Rattle.index.specs.declared.section.Run.{Run}
-use Rattle.index.specs.declared.section.Section.{Section}
+use Rattle.index.specs.Sections.{logSection, logRun, recordFollows}
+use Rattle.section.specs.Section.{endsIn, frontIn}
+use Rattle.section.specs.declared.Run.{Run}
+use Rattle.section.specs.declared.Section.{Section}
 use Rattle.index.proofs.ColumnLaws.{column-set, log-none}
 use Rattle.index.proofs.Entries.{row-is}
 use Rattle.index.proofs.Located.{record-known, record-slot, first-low}
-use Rattle.index.proofs.Sections.{guarded}
+use Rattle.index.proofs.Conjunctions.{guarded}
 
 module _ (g : Geometry) (v : List ℕ) where
   breaks : (i : ℕ) → let n = durableCount g v in let f = firstHeld g v n in
@@ -57,27 +58,33 @@ module _ (g : Geometry) (v : List ℕ) where
     run-low = rw er (first-low g v (durableCount g v))
 
     -- a record at the whole front
-    pub log-known : (n : ℕ) (x : List ℕ) → x ≡ item g v (logSlot g n) → slotOf (g .records) n ≤ r .front → sealed 60 x ≡ true
-    log-known n x ex h =
+    pub log-known : (n slot : ℕ) (x : List ℕ) → x ≡ item g v (logSlot g n) → slot ≡ (n - 1) % g .records
+        → slot < r .front → sealed 60 x ≡ true
+    log-known n slot x ex e h =
         let q : r .front ≡ frontIn v (logSection g) = ap (λ (y : Run). y .front) er in
-        ap (sealed 60) ex ∙ record-known g v n (rw q at h)
+        ap (sealed 60) ex ∙ record-known g v n (omega (arith, e, q))
 
     -- a record does not fit
-    pub log-breaks : (i : ℕ) → i < suc (r .count) - r .first → recordFits g v (r .first) (logIndex g v (r .first) i) (r .first + i) ≡ false → validLog g v ≡ false
+    pub log-breaks : (i : ℕ) → i < suc (r .count) - r .first
+        → recordFits g v (r .first) (logIndex g v (r .first) i) (r .first + i) ≡ false → validLog g v ≡ false
     log-breaks =
-        subst (λ (x : Run). (i : ℕ) → i < suc (x .count) - x .first → recordFits g v (x .first) (logIndex g v (x .first) i) (x .first + i) ≡ false → validLog g v ≡ false)
+        subst (λ (x : Run). (i : ℕ) → i < suc (x .count) - x .first
+        → recordFits g v (x .first) (logIndex g v (x .first) i) (x .first + i) ≡ false → validLog g v ≡ false)
         (sym er) breaks
 
     -- all fit
-    pub log-ends : (i : ℕ) (last : List ℕ) → Judged (r .first) i last → i ≡ suc (r .count) - r .first → (s : Section) → s ≡ logSection g → (b : Bool)
+    pub log-ends : (i : ℕ) (last : List ℕ) → Judged (r .first) i last → i ≡ suc (r .count) - r .first
+        → (s : Section) → s ≡ logSection g → (b : Bool)
         → b ≡ endsIn v s (r .first) (r .count) → b ≡ validLog g v
     log-ends i last j ei s es b eb =
         eb ∙ ap (λ (x : Section). endsIn v x (r .first) (r .count)) es
-        ∙ subst (λ (x : Run). every (suc (x .count) - x .first) (λ k. recordFits g v (x .first) (logIndex g v (x .first) k) (x .first + k)) ≡ true
+        ∙ subst (λ (x : Run). every (suc (x .count) - x .first)
+        (λ k. recordFits g v (x .first) (logIndex g v (x .first) k) (x .first + k)) ≡ true
         → endsIn v (logSection g) (x .first) (x .count) ≡ validLog g v) (sym er) ends (rw ei at (j .held))
 
     pub log-columns : (i : ℕ) (last : List ℕ) → Judged (r .first) i last → i ≡ suc (r .count) - r .first → last ≡ lasts (runIndex g v)
-    log-columns i last j ei = j .same ∙ ap (λ (k : ℕ). lasts (logIndex g v (r .first) k)) ei ∙ ap (λ (x : Run). lasts (logIndex g v (x .first) (suc (x .count) - x .first))) er
+    log-columns i last j ei = j .same ∙ ap (λ (k : ℕ). lasts (logIndex g v (r .first) k)) ei
+        ∙ ap (λ (x : Run). lasts (logIndex g v (x .first) (suc (x .count) - x .first))) er
 
   -- record n = f + i as it was read and judged, after records that gave the column of last numbers
   module _ (few : g .pages ≤ 64) (f i : ℕ) (last : List ℕ) (same : last ≡ lasts (logIndex g v f i)) (n : ℕ) (n-is : n ≡ f + i)
@@ -101,7 +108,8 @@ module _ (g : Geometry) (v : List ℕ) where
     log-judged =
         eo
         ∙ ap (λ (t : Bool). whole && t)
-        (guarded layout (eqb (e .lsn) n) (within (g .pages) (e .page)) (link below (getD last k 0)) (link below (entryOf (logIndex g v f i) (e .page) .last))
+        (guarded layout (eqb (e .lsn) n) (within (g .pages) (e .page)) (link below (getD last k 0))
+        (link below (entryOf (logIndex g v f i) (e .page) .last))
         (λ t. ap (link below) (last-at t)))
         ∙ rw (ew, el, ee, er, n-is, below-is)
 

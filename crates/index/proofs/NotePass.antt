@@ -1,8 +1,8 @@
 -- Laws of the notes' scan: one note as it was judged and entered, and what all notes come to.
 use mathlib.Core.Path.{_≡_, refl, sym, ap, _∙_, subst}
-use mathlib.Core.Bool.{Bool, true, false, _&&_, _||_, not}
+use mathlib.Core.Bool.{Bool, true, false, _&&_, _||_, not, and-assoc}
 use mathlib.Core.List.{List, [], _∷_, map}
-use Prim.Native.Nat.{ℕ, zero, suc, _+_, _-_, _*_, _≤_, _<_}
+use Prim.Native.Nat.{ℕ, zero, suc, _+_, _-_, _*_, _%_, _≤_, _<_}
 use native.Mathlib.Numerals.{add-one}
 use native.Mathlib.Omega.{arith}
 use lib.Dec.{eqb, leb, ltb, lit≤}
@@ -13,7 +13,7 @@ use Rattle.laws.proofs.Fields.{field-part}
 use Rattle.model.specs.Tables.{every, within}
 use Rattle.model.specs.Bytes.{field, part}
 use Rattle.model.specs.Checksum.{sealed}
-use Rattle.model.specs.Geometry.{slotOf, noteAt, logSlot, noteSlot, start, item}
+use Rattle.model.specs.Geometry.{noteAt, logSlot, noteSlot, start, item}
 use Rattle.model.specs.Item.{recordOf, noteOf, noteLayout}
 use Rattle.model.specs.Index.{emptyEntry, entryRow, entryOf, withNote, enterNote, slotUsed, settled}
 use Rattle.model.specs.Scan.{logRecord, noteRecord, durableCount, firstHeld, noteCount, firstNote, runIndex, noteIndex, noteFollows, noteFits, endsAt, restZero, validNotes, indexOf}
@@ -22,13 +22,14 @@ use Rattle.model.specs.declared.item.Note.{Note}
 use Rattle.model.specs.declared.state.Entry.{Entry}
 use Rattle.index.specs.Rows.{rowOf}
 use Rattle.index.specs.Columns.{Noted, Blank, earlierEntry, slotIn}
-use Rattle.index.specs.Section.{frontIn, endsIn, noteSection, noteRun, noteAfter, noteAgrees, notedIndex, notesKept}
-use Rattle.index.specs.declared.section.Run.{Run}
-use Rattle.index.specs.declared.section.Section.{Section}
+use Rattle.index.specs.Sections.{noteSection, noteRun, noteAfter, noteAgrees, notedIndex, notesKept}
+use Rattle.section.specs.Section.{frontIn, endsIn}
+use Rattle.section.specs.declared.Run.{Run}
+use Rattle.section.specs.declared.Section.{Section}
 use Rattle.index.proofs.ColumnLaws.{column-set, slot-in, log-written, log-slots, log-backup, noted-written, noted-slot, noted-backup, Long, blank-long, long-set}
 use Rattle.index.proofs.Entries.{row-is}
 use Rattle.index.proofs.Located.{note-known, note-slot, first-note-low, notes-some}
-use Rattle.index.proofs.Sections.{guarded, and-assoc}
+use Rattle.index.proofs.Conjunctions.{guarded}
 
 -- the page of a record, of the whole volume's bytes
 pub record-page : (g : Geometry) (v : List ℕ) (n : ℕ) → logRecord g v n .page ≡ field 2 (start g (logSlot g n) + 8) v
@@ -63,10 +64,11 @@ module _ (g : Geometry) (v : List ℕ) where
   -- the notes' run
   module _ (r : Run) (er : r ≡ noteRun g v) where
     -- a note at the whole front
-    pub note-whole : (n : ℕ) (x : List ℕ) → x ≡ item g v (noteSlot g n) → slotOf (g .notes) n ≤ r .front → sealed 12 x ≡ true
-    note-whole n x ex h =
+    pub note-whole : (n slot : ℕ) (x : List ℕ) → x ≡ item g v (noteSlot g n) → slot ≡ (n - 1) % g .notes
+        → slot < r .front → sealed 12 x ≡ true
+    note-whole n slot x ex e h =
         let q : r .front ≡ frontIn v (noteSection g) = ap (λ (y : Run). y .front) er in
-        ap (sealed 12) ex ∙ note-known g v n (rw q at h)
+        ap (sealed 12) ex ∙ note-known g v n (omega (arith, e, q))
 
     pub run-low : 1 ≤ r .first
     run-low = rw er (first-note-low g v (noteCount g v))
@@ -76,13 +78,16 @@ module _ (g : Geometry) (v : List ℕ) where
         (λ i b. notes-some g v (omega (arith, first-note-low g v (noteCount g v))))
 
     -- a note does not fit
-    pub notes-break : (i : ℕ) → i < suc (r .count) - r .first → noteFits g v (noteIndex g v (r .first) i) (r .first + i) ≡ false → notesKept g v ≡ false
+    pub notes-break : (i : ℕ) → i < suc (r .count) - r .first
+        → noteFits g v (noteIndex g v (r .first) i) (r .first + i) ≡ false → notesKept g v ≡ false
     notes-break =
-        subst (λ (x : Run). (i : ℕ) → i < suc (x .count) - x .first → noteFits g v (noteIndex g v (x .first) i) (x .first + i) ≡ false → notesKept g v ≡ false)
+        subst (λ (x : Run). (i : ℕ) → i < suc (x .count) - x .first → noteFits g v (noteIndex g v (x .first) i) (x .first + i) ≡ false
+        → notesKept g v ≡ false)
         (sym er) breaks
 
     -- all fit
-    module _ (i : ℕ) (written slots backup : List ℕ) (j : Entered (r .first) i written slots backup) (ei : i ≡ suc (r .count) - r .first) where
+    module _ (i : ℕ) (written slots backup : List ℕ) (j : Entered (r .first) i written slots backup)
+        (ei : i ≡ suc (r .count) - r .first) where
       pub notes-end : (s : Section) → s ≡ noteSection g → (b : Bool) → b ≡ endsIn v s (r .first) (r .count) → b ≡ notesKept g v
       notes-end s es b eb =
           eb ∙ ap (λ (x : Section). endsIn v x (r .first) (r .count)) es
@@ -95,17 +100,20 @@ module _ (g : Geometry) (v : List ℕ) where
           (subst (λ (k : ℕ). Noted (noteIndex g v (r .first) k) written slots backup) ei (j .same))
 
   -- the rule of the notes, with what is judged at the end
-  pub notes-valid : validNotes g v ≡ (notesKept g v && every 64 (λ i. leb (entryRow (indexOf g v) i .written) (entryRow (indexOf g v) i .last)))
+  pub notes-valid : validNotes g v
+      ≡ (notesKept g v && every 64 (λ i. leb (entryRow (indexOf g v) i .written) (entryRow (indexOf g v) i .last)))
   unfolding validNotes notesKept endsIn
   notes-valid =
       let k = noteCount g v in
       let f = firstNote g v k in
       rw (note-slot g v k)
-      (regroup (every (suc k - f) (λ j. noteFits g v (noteIndex g v f j) (f + j))) (endsAt (g .notes) k f (sealed 12 (item g v (noteAt (suc k)))))
-      (restZero 16 (g .notes) v (start g (noteAt 1)) k) (every 64 (λ i. leb (entryRow (indexOf g v) i .written) (entryRow (indexOf g v) i .last))))
+      (regroup (every (suc k - f) (λ j. noteFits g v (noteIndex g v f j) (f + j)))
+      (endsAt (g .notes) k f (sealed 12 (item g v (noteAt (suc k)))))
+      (restZero 16 (g .notes) v (start g (noteAt 1)) k)
+      (every 64 (λ i. leb (entryRow (indexOf g v) i .written) (entryRow (indexOf g v) i .last))))
     where
       regroup : (a b c d : Bool) → (a && (b && (c && d))) ≡ ((a && (b && c)) && d)
-      regroup a b c d = ap (λ (t : Bool). a && t) (and-assoc b c d) ∙ and-assoc a (b && c) d
+      regroup a b c d = ap (λ (t : Bool). a && t) (sym (and-assoc b c d)) ∙ sym (and-assoc a (b && c) d)
 
   -- the columns before any note
   note-none : (f : ℕ) (written slots backup : List ℕ) → Blank written slots backup → Noted (noteIndex g v f 0) written slots backup
@@ -129,7 +137,8 @@ module _ (g : Geometry) (v : List ℕ) where
       (r : List ℕ) (er : r ≡ item g v (noteSlot g k)) (e : Note) (ee : e ≡ noteOf r) (j : ℕ) (ej : j ≡ rowOf (e .page))
       (was : Entry) (ew : was ≡ earlierEntry (getD written j 0) (getD slots j 0) (getD backup j 0))
       (durable first : ℕ) (ed : durable ≡ durableCount g v) (ef : first ≡ firstHeld g v (durableCount g v))
-      (whole used follows named ok : Bool) (eh : whole ≡ sealed 12 r) (eu : used ≡ (leb 1 (e .slot) && slotIn (e .slot) slots)) (el : follows ≡ noteAfter was e (g .slots) used)
+      (whole used follows named ok : Bool) (eh : whole ≡ sealed 12 r) (eu : used ≡ (leb 1 (e .slot) && slotIn (e .slot) slots))
+      (el : follows ≡ noteAfter was e (g .slots) used)
       (en : named ≡ (ltb (e .lsn) first || eqb (logRecord g v (e .lsn) .page) (e .page)))
       (eo : ok ≡ noteAgrees whole e k (g .pages) durable named follows) where
     read-is : e ≡ noteRecord g v (f + i)
@@ -179,7 +188,8 @@ module _ (g : Geometry) (v : List ℕ) where
         → y ≡ h (withNote (entryOf (noteIndex g v f i) (e .page)) e) → map h (noteIndex g v f (i + 1)) ≡ set l j y
     unfolding noteIndex enterNote
     enters h l q y t ey =
-        rw (add-one i, ← read-is, inside t, ey, ← q) (column-set h (noteIndex g v f i) (e .page - 1) (withNote (entryOf (noteIndex g v f i) (e .page)) e))
+        rw (add-one i, ← read-is, inside t, ey, ← q)
+        (column-set h (noteIndex g v f i) (e .page - 1) (withNote (entryOf (noteIndex g v f i) (e .page)) e))
 
     note-enters : ok ≡ true → (x : Entry) → x ≡ withNote was e
         → Noted (noteIndex g v f (i + 1)) (set written j (x .written)) (set slots j (x .slot)) (set backup j (x .backup))
@@ -189,9 +199,12 @@ module _ (g : Geometry) (v : List ℕ) where
         (sym eo ∙ t) in
         let b = entryOf (noteIndex g v f i) (e .page) in
         record {
-          written-is = enters (λ (q : Entry). q .written) written (same .written-is) (x .written) w (ap (λ (q : Entry). q .written) ex ∙ noted-written was b e (written-at w));
-          slots-are = enters (λ (q : Entry). q .slot) slots (same .slots-are) (x .slot) w (ap (λ (q : Entry). q .slot) ex ∙ noted-slot was b e (slot-at w));
-          backup-is = enters (λ (q : Entry). q .backup) backup (same .backup-is) (x .backup) w (ap (λ (q : Entry). q .backup) ex ∙ noted-backup was b e (backup-at w));
+          written-is = enters (λ (q : Entry). q .written) written (same .written-is) (x .written) w
+              (ap (λ (q : Entry). q .written) ex ∙ noted-written was b e (written-at w));
+          slots-are = enters (λ (q : Entry). q .slot) slots (same .slots-are) (x .slot) w
+              (ap (λ (q : Entry). q .slot) ex ∙ noted-slot was b e (slot-at w));
+          backup-is = enters (λ (q : Entry). q .backup) backup (same .backup-is) (x .backup) w
+              (ap (λ (q : Entry). q .backup) ex ∙ noted-backup was b e (backup-at w));
         }
 
     pub entered-more : Entered f i written slots backup → ok ≡ true → (x : Entry) → x ≡ withNote was e

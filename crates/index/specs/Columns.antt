@@ -1,6 +1,7 @@
--- The index by columns: a list for each field of its entries, as a scan fills them. A scan finds no pending record, so that one column holds
--- the last and the durable numbers. The columns are those before a restart's last step, which is made with a row.
-use Prim.Native.Nat.{ℕ, _-_}
+-- The index by columns: a list for each field of its entries, as a scan fills them. A scan finds no pending record, so
+-- that one column holds the last and the durable numbers. The columns are those before a restart's last step, which is
+-- made with a row.
+use Prim.Native.Nat.{ℕ, _-_, _≤_}
 use mathlib.Core.Path.{_≡_}
 use mathlib.Core.Bool.{Bool, false, cond, _||_}
 use mathlib.Core.List.{List, [], _∷_, map}
@@ -68,3 +69,7 @@ pub record Wide (last written slots backup : List ℕ) : Type 0 where
   pub written-wide : length written ≡ 64
   pub slots-wide : length slots ≡ 64
   pub backup-wide : length backup ≡ 64
+
+-- nothing is written in the rows from `pages` on
+pub record Unwritten (pages : ℕ) (written : List ℕ) : Type 0 where
+  pub unwritten : (i : ℕ) → pages ≤ i → getD written i 0 ≡ 0

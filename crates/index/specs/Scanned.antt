@@ -10,7 +10,7 @@ use Rattle.model.specs.declared.state.Entry.{Entry}
 use Rattle.index.specs.declared.Counts.{Counts}
 use Rattle.index.specs.declared.Scanned.{Scanned}
 use Rattle.index.specs.declared.Found.{Found}
-use Rattle.index.specs.Section.{notedIndex}
+use Rattle.index.specs.Sections.{notedIndex}
 
 unfoldable pub scanRows : List ℕ → List Row
 scanRows v =

@@ -1,14 +1,14 @@
-// The index by columns: searched for a backup slot, one entry made from it, and all of them. An entry is made with a restart's last step: a page
-// with no record in the run stands at its last noted backup.
+// The index by columns: searched for a backup slot, one entry made from it, and all of them. An entry is made with a
+// restart's last step: a page with no record in the run stands at its last noted backup.
 ghost use mathlib.Core.Path.{_≡_};
 ghost use mathlib.Core.Bool.{cond, _&&_};
 ghost use mathlib.Core.List.{List, map};
-ghost use Prim.Native.Nat.{_-_, _<_};
+ghost use Prim.Native.Nat.{_-_, _≤_, _<_};
 ghost use lib.Dec.{eqb, leb};
 ghost use lib.ListN.{length};
 ghost use Rattle.model.specs.Index.{settled};
 ghost use Rattle.model.specs.declared.state.Entry as entries;
-ghost use Rattle.index.specs.Columns.{Columns, Wide, columnRow, columnsOrdered, slotIn};
+ghost use Rattle.index.specs.Columns.{Columns, Wide, columnRow, columnsOrdered, slotIn, Unwritten};
 use crate::rows;
 use model::state::Entry;
 
@@ -79,15 +79,16 @@ pub fn entry(last: &[u32], written: &[u32], slots: &[u8], backup: &[u32], page: 
     }
 }
 
-// No page's written number is above its last.
-pub fn ordered(last: &[u32], written: &[u32], slots: &[u8], backup: &[u32]) -> bool
+// No page's written number is above its last: rows past the pages, where nothing is written, need not be looked at.
+pub fn ordered(last: &[u32], written: &[u32], slots: &[u8], backup: &[u32], pages: usize) -> bool
     requires { ⌜ Wide (now last) (now written) (now slots) (now backup) ⌝ }
-    ensures { λ r. ⌜ r
-        ≡ columnsOrdered (now (last .entry)) (now (written .entry)) (now (slots .entry)) (now (backup .entry)) ⌝ }
+    requires { ⌜ pages ≤ 64 ⌝ }
+    ensures { λ r. ⌜ (Unwritten pages (now (written .entry)) → r
+        ≡ columnsOrdered (now (last .entry)) (now (written .entry)) (now (slots .entry)) (now (backup .entry))) ⌝ }
 {
     let mut kept = true;
     let mut i: usize = 0;
-    while i < 64 {
+    while i < pages {
         let e = row(last, written, slots, backup, i);
         kept = kept & (e.written <= e.last);
         i += 1;
@@ -99,7 +100,8 @@ pub fn ordered(last: &[u32], written: &[u32], slots: &[u8], backup: &[u32]) -> b
 pub fn gather(last: &[u32], written: &[u32], slots: &[u8], backup: &[u32]) -> [Entry; 64]
     requires { ⌜ Wide (now last) (now written) (now slots) (now backup) ⌝ }
     ensures { λ r. ⌜ ((x : List entries.Entry)
-        → Columns x (now (last .entry)) (now (written .entry)) (now (slots .entry)) (now (backup .entry)) → r ≡ map settled x) ⌝ }
+        → Columns x (now (last .entry)) (now (written .entry)) (now (slots .entry)) (now (backup .entry))
+        → r ≡ map settled x) ⌝ }
 {
     let mut index = [rows::EMPTY; 64];
     let mut i: usize = 0;

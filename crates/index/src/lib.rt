@@ -1,6 +1,7 @@
 // The scan of a volume's log and notes into the page recovery index, for any bytes and without memory or state.
 ghost use mathlib.Core.Path.{_≡_};
 ghost use lib.ListN.{replicate};
+ghost use Rattle.model.specs.Geometry.{geometryOf};
 ghost use Rattle.index.specs.Columns.{Blank, Columns};
 ghost use Rattle.index.specs.Scanned.{scanRefusal, columnIndex, foundOf, countsOf, scannedOf};
 
@@ -8,8 +9,8 @@ pub mod columns;
 pub mod log;
 pub mod notes;
 pub mod rows;
-pub mod section;
 
+use model::geometry::Geometry;
 use model::state::Entry;
 use volume::heading;
 
@@ -48,32 +49,35 @@ fn refused(n: u32) -> Counts
     }
 }
 
-// Scans a volume into columns: refused 1, 17 or 18, or the counts and the columns that its log and notes give.
+// Scans a volume with this geometry into columns: refused 1, 17 or 18, or the counts and the columns that its log and
+// notes give.
 fn fill(
     volume: &[u8],
+    g: Geometry,
     last: &mut [u32],
     written: &mut [u32],
     slots: &mut [u8],
     backup: &mut [u32],
 ) -> Counts
+    requires { ⌜ g ≡ geometryOf (now volume) ⌝ }
     requires { ⌜ now last ≡ replicate 64 0 ⌝ }
     requires { ⌜ Blank (now written) (now slots) (now backup) ⌝ }
     ensures refusal { λ r. ⌜ r .refusal ≡ scanRefusal (now (volume .entry)) ⌝ }
     ensures counts { λ r. ⌜ (r .refusal ≡ 0 → r ≡ countsOf (now (volume .entry))) ⌝ }
     ensures columns { λ r. ⌜ (r .refusal ≡ 0
-        → Columns (columnIndex (now (volume .entry))) (now (last .exit)) (now (written .exit)) (now (slots .exit)) (now (backup .exit))) ⌝ }
+        → Columns (columnIndex (now (volume .entry))) (now (last .exit)) (now (written .exit)) (now (slots .exit))
+        (now (backup .exit))) ⌝ }
 {
-    if !heading::valid(volume) {
+    if !heading::sound(volume, g) {
         return refused(1);
     }
-    let g = heading::geometry(volume);
     let records = log::run(volume, g);
     if !log::scan(volume, g, records, last) {
         return refused(17);
     }
     let numbers = notes::run(volume, g);
     let kept = notes::scan(volume, g, records, numbers, written, slots, backup);
-    if !(kept & columns::ordered(last, written, slots, backup)) {
+    if !(kept & columns::ordered(last, written, slots, backup, g.pages as usize)) {
         return refused(18);
     }
     Counts {
@@ -93,7 +97,8 @@ pub fn count(volume: &[u8]) -> Counts
     let mut written = [0u32; 64];
     let mut slots = [0u8; 64];
     let mut backup = [0u32; 64];
-    fill(volume, &mut last, &mut written, &mut slots, &mut backup)
+    let g = heading::geometry(volume);
+    fill(volume, g, &mut last, &mut written, &mut slots, &mut backup)
 }
 
 // Scans a volume. What a refused scan gives besides its number means nothing.
@@ -105,7 +110,8 @@ pub fn scan(volume: &[u8]) -> Scanned
     let mut written = [0u32; 64];
     let mut slots = [0u8; 64];
     let mut backup = [0u32; 64];
-    let counts = fill(volume, &mut last, &mut written, &mut slots, &mut backup);
+    let g = heading::geometry(volume);
+    let counts = fill(volume, g, &mut last, &mut written, &mut slots, &mut backup);
     let index = columns::gather(&last, &written, &slots, &backup);
     Scanned {
         refusal: counts.refusal,
@@ -116,8 +122,9 @@ pub fn scan(volume: &[u8]) -> Scanned
     }
 }
 
-// Scans a volume for one page's entry, without an array of all entries.
-pub fn find(volume: &[u8], page: u32) -> Found
+// Scans a volume with this geometry for one page's entry, without an array of all entries.
+pub fn seek(volume: &[u8], g: Geometry, page: u32) -> Found
+    requires { ⌜ g ≡ geometryOf (now volume) ⌝ }
     ensures refusal { λ r. ⌜ r .refusal ≡ scanRefusal (now (volume .entry)) ⌝ }
     ensures clean { λ r. ⌜ (r .refusal ≡ 0 → r ≡ foundOf (now (volume .entry)) page) ⌝ }
 {
@@ -125,7 +132,7 @@ pub fn find(volume: &[u8], page: u32) -> Found
     let mut written = [0u32; 64];
     let mut slots = [0u8; 64];
     let mut backup = [0u32; 64];
-    let counts = fill(volume, &mut last, &mut written, &mut slots, &mut backup);
+    let counts = fill(volume, g, &mut last, &mut written, &mut slots, &mut backup);
     let entry = columns::entry(&last, &written, &slots, &backup, page);
     Found {
         refusal: counts.refusal,

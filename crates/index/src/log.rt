@@ -4,14 +4,13 @@ ghost use mathlib.Core.Bool.{true};
 ghost use lib.ListN.{replicate};
 ghost use Rattle.model.specs.Scan as scans;
 ghost use Rattle.index.specs.Columns.{lasts};
-ghost use Rattle.index.specs.Section.{Sized, logSection, logRun, recordFollows};
+ghost use Rattle.index.specs.Sections.{Sized, logSection, logRun, recordFollows};
 use crate::rows;
-use crate::section;
-use crate::section::Run;
-use crate::section::Section;
 use item::record;
 use model::geometry::Geometry;
 use model::item::LogRecord;
+use section::Run;
+use section::Section;
 use volume::place;
 use volume::ring;
 
@@ -32,7 +31,7 @@ pub fn first(volume: &[u8], g: Geometry, n: u32) -> u64
     requires { ⌜ Sized g (now volume) ⌝ }
     ensures { λ r. ⌜ r ≡ scans.firstHeld g (now (volume .entry)) n ⌝ }
 {
-    section::first(volume, locate(g), n)
+    section::first(volume, locate(g), n, 0)
 }
 
 // The numbers that the log holds.
@@ -43,8 +42,8 @@ pub fn run(volume: &[u8], g: Geometry) -> Run
     section::held(volume, locate(g))
 }
 
-// Record n of a volume with these pages, whole and of a right layout or not, of a page whose last earlier record in the run is `last`. Numbers
-// up to `below` are below the run, and are not looked up.
+// Record n of a volume with these pages, whole and of a right layout or not, of a page whose last earlier record in the
+// run is `last`. Numbers up to `below` are below the run, and are not looked up.
 fn fits(whole: bool, layout: bool, e: LogRecord, pages: u32, below: u64, last: u32, n: u32) -> bool
     ensures { λ r. ⌜ r ≡ recordFollows whole layout e pages below last n ⌝ }
 {
@@ -64,24 +63,26 @@ pub fn scan(volume: &[u8], g: Geometry, run: Run, last: &mut [u32]) -> bool
     ensures valid { λ r. ⌜ r ≡ scans.validLog g (now (volume .entry)) ⌝ }
     ensures last { λ r. ⌜ (r ≡ true → now (last .exit) ≡ lasts (scans.runIndex g (now (volume .entry)))) ⌝ }
 {
-    let pages = g.pages;
     let first = run.first;
     let front = run.front;
     let below = first - 1;
     let span = section::span(run);
+    let s = locate(g);
+    let mut slot = section::start(first, s.slots);
     let mut i: u32 = 0;
     while i < span {
         let n = section::nth(first, i);
-        let r = place::record(volume, g, n);
+        let r = section::item(volume, s, slot);
         let e = record::read(r);
         let k = rows::row(e.page as u32);
         let was = last[k];
-        let whole = section::whole(r, 60, g.records, n, front);
-        if !fits(whole, record::layout(r), e, pages, below, was, n) {
+        let whole = section::whole(r, 60, slot, front);
+        if !fits(whole, record::layout(r), e, g.pages, below, was, n) {
             return false;
         }
         last[k] = n;
+        slot = section::after(slot, s.slots);
         i += 1;
     }
-    section::ends(volume, locate(g), run)
+    section::ends(volume, s, run)
 }

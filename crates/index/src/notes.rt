@@ -5,17 +5,16 @@ ghost use Prim.Native.Nat.{_≤_};
 ghost use lib.Dec.{eqb, ltb};
 ghost use Rattle.model.specs.Scan.{logRecord};
 ghost use Rattle.index.specs.Columns.{Blank, Noted, earlierEntry};
-ghost use Rattle.index.specs.Section.{Sized, noteSection, logRun, noteRun, noteAfter, noteAgrees, notedIndex, notesKept};
+ghost use Rattle.index.specs.Sections.{Sized, noteSection, logRun, noteRun, noteAfter, noteAgrees, notedIndex, notesKept};
 use crate::columns;
 use crate::rows;
-use crate::section;
-use crate::section::Run;
-use crate::section::Section;
 use codec::field;
 use item::note;
 use model::geometry::Geometry;
 use model::item::Note;
 use model::state::Entry;
+use section::Run;
+use section::Section;
 use volume::place;
 use volume::ring;
 
@@ -80,7 +79,8 @@ fn agrees(volume: &[u8], g: Geometry, first: u64, n: Note) -> bool
     ((n.lsn as u64) < first) | (page(volume, g, n.lsn) == n.page)
 }
 
-// Note k of a volume with these pages and durable records, whole or not, after earlier ones; `named`: it may name its record.
+// Note k of a volume with these pages and durable records, whole or not, after earlier ones; `named`: it may name its
+// record.
 fn fits(whole: bool, n: Note, k: u32, pages: u32, durable: u32, named: bool, follows: bool) -> bool
     ensures { λ r. ⌜ r ≡ noteAgrees whole n k pages durable named follows ⌝ }
 {
@@ -91,8 +91,8 @@ fn fits(whole: bool, n: Note, k: u32, pages: u32, durable: u32, named: bool, fol
     whole & (right & ((n.number == k) & (inside & (known & (named & follows)))))
 }
 
-// Scans the notes after the log's run into the columns of written numbers, slots and backups: whether they keep the restart rule, but for what
-// is judged at the end.
+// Scans the notes after the log's run into the columns of written numbers, slots and backups: whether they keep the
+// restart rule, but for what is judged at the end.
 pub fn scan(
     volume: &[u8],
     g: Geometry,
@@ -114,17 +114,19 @@ pub fn scan(
     let first = run.first;
     let front = run.front;
     let span = section::span(run);
+    let s = locate(g);
+    let mut slot = section::start(first, s.slots);
     let mut i: u32 = 0;
     while i < span {
         let k = section::nth(first, i);
-        let r = place::note(volume, g, k);
+        let r = section::item(volume, s, slot);
         let n = note::read(r);
         let j = rows::row(n.page as u32);
         let was = earlier(written[j], slots[j], backup[j]);
         let used = columns::taken(slots, n.slot as u32);
         let follows = follows(was, n, count, used);
         let named = agrees(volume, g, log.first, n);
-        let whole = section::whole(r, 12, g.notes, k, front);
+        let whole = section::whole(r, 12, slot, front);
         if !fits(whole, n, k, pages, log.count, named, follows) {
             return false;
         }
@@ -132,7 +134,8 @@ pub fn scan(
         written[j] = e.written;
         slots[j] = e.slot;
         backup[j] = e.backup;
+        slot = section::after(slot, s.slots);
         i += 1;
     }
-    section::ends(volume, locate(g), run)
+    section::ends(volume, s, run)
 }

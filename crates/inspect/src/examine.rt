@@ -92,9 +92,12 @@ pub extern "C" fn pagestore_examine(
     buffer: &mut [u8],
     report: &mut [u32],
 ) -> u32
-    ensures answer { λ r. ⌜ r ≡ examineOf (now (volume .entry)) page (now (buffer .entry)) (now (report .entry)) .refusal ⌝ }
-    ensures buffer { λ _. ⌜ now (buffer .exit) ≡ examineOf (now (volume .entry)) page (now (buffer .entry)) (now (report .entry)) .buffer ⌝ }
-    ensures report { λ _. ⌜ now (report .exit) ≡ examineOf (now (volume .entry)) page (now (buffer .entry)) (now (report .entry)) .report ⌝ }
+    ensures answer { λ r. ⌜ r
+        ≡ examineOf (now (volume .entry)) page (now (buffer .entry)) (now (report .entry)) .refusal ⌝ }
+    ensures buffer { λ _. ⌜ now (buffer .exit)
+        ≡ examineOf (now (volume .entry)) page (now (buffer .entry)) (now (report .entry)) .buffer ⌝ }
+    ensures report { λ _. ⌜ now (report .exit)
+        ≡ examineOf (now (volume .entry)) page (now (buffer .entry)) (now (report .entry)) .report ⌝ }
 {
     if report.len() != 3 {
         let valid = heading::valid(volume);

@@ -37,15 +37,15 @@ pub fn inspect(volume: &[u8], page: u32, buffer: &mut [u8]) -> Answer
     ensures answer { λ r. ⌜ r ≡ inspectOf (now (volume .entry)) page (now (buffer .entry)) .answer ⌝ }
     ensures buffer { λ _. ⌜ now (buffer .exit) ≡ inspectOf (now (volume .entry)) page (now (buffer .entry)) .buffer ⌝ }
 {
-    let found = index::find(volume, page);
     let g = heading::geometry(volume);
+    let found = index::seek(volume, g, page);
     let e = found.entry;
     let no = refusal(found.refusal, g.pages, page, buffer.len(), e.durable);
     if no != 0 {
         return Answer::Refused(no);
     }
     let first = found.first;
-    let walked = walk::walk(volume, g, first, e, page);
+    let walked = walk::follow(volume, g, first, e, page);
     let stop = walked.stop;
     if walk::below(stop) {
         return Answer::Refused(23);

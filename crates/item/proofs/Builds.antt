@@ -112,4 +112,5 @@ note-is x x₁ x₂ x₃ x₄ e l p₁ p₂ p₃ p₄ =
     let q₃ = next-byte x b₂ 6 (e .kind) q₂ refl (omega arith) in
     let q₄ = next-byte x (b₂ ++ (e .kind ∷ [])) 7 (e .slot) q₃ refl (omega arith) in
     let q₅ = next x b₄ (bytesOf 4 (e .lsn)) 8 q₄ p₃ refl (omega arith) in
-    p₄ ∙ ap (λ (y : List ℕ). withChecksum (take 12 y)) q₅ ∙ ap withChecksum (take-spliced x (b₄ ++ bytesOf 4 (e .lsn)) 12 refl (omega arith))
+    p₄ ∙ ap (λ (y : List ℕ). withChecksum (take 12 y)) q₅
+    ∙ ap withChecksum (take-spliced x (b₄ ++ bytesOf 4 (e .lsn)) 12 refl (omega arith))

@@ -26,7 +26,8 @@ next xs ys zs k p q e h =
     ∙ splice-append xs 0 ys zs (rw l h)
 
 -- a byte behind those before it
-pub next-byte : (xs ys : List ℕ) (k v : ℕ) {x : List ℕ} → x ≡ splice xs 0 ys → length ys ≡ k → k < length xs → set x k v ≡ splice xs 0 (ys ++ (v ∷ []))
+pub next-byte : (xs ys : List ℕ) (k v : ℕ) {x : List ℕ} → x ≡ splice xs 0 ys → length ys ≡ k → k < length xs
+    → set x k v ≡ splice xs 0 (ys ++ (v ∷ []))
 next-byte xs ys k v {x} p e h =
     let l : length x ≡ length xs = ap length p ∙ splice-length xs 0 ys (omega arith) in
     next xs ys (v ∷ []) k p (set-splice x k v (omega arith)) e (omega arith)

@@ -2,7 +2,7 @@
 use Prim.Native.Nat.{ℕ, _-_}
 use mathlib.Core.Path.{_≡_, refl, sym, ap, _∙_}
 use mathlib.Core.Logic.{_⊎_, inl, inr}
-use mathlib.Core.Bool.{Bool, true, false, _&&_}
+use mathlib.Core.Bool.{Bool, true, false, _&&_, and-assoc}
 use lib.Dec.{leb, eqb}
 use borrow.Author.Tests.{ne-eqb}
 use Rattle.model.specs.Tables.{within}
@@ -14,10 +14,6 @@ taken-is a b r e h = rw e h
 
 pub left-is : (a b r : Bool) → a ≡ false → r ≡ a → r ≡ (a && b)
 left-is a b r e h = rw e (h ∙ e)
-
-and-assoc : (a b c : Bool) → (a && (b && c)) ≡ ((a && b) && c)
-and-assoc true b c = refl
-and-assoc false b c = refl
 
 -- a format
 module _ (k n o f : ℕ) (one : k ≡ 1) where
@@ -33,8 +29,8 @@ module _ (k n o f : ℕ) (one : k ≡ 1) where
 module _ (k n o f : ℕ) (kind : (k ≡ 2) ⊎ (k ≡ 3)) (r : Bool) (joined : r ≡ (within 44 n && leb o (244 - n))) where
   ranged-is : (k ≡ 2) ⊎ (k ≡ 3) → (r && eqb f 0) ≡ changeFits k n o f
   unfolding changeFits
-  ranged-is (inl e) = rw (e, joined) (sym (and-assoc (within 44 n) (leb o (244 - n)) (eqb f 0)))
-  ranged-is (inr e) = rw (e, joined) (sym (and-assoc (within 44 n) (leb o (244 - n)) (eqb f 0)))
+  ranged-is (inl e) = rw (e, joined) (and-assoc (within 44 n) (leb o (244 - n)) (eqb f 0))
+  ranged-is (inr e) = rw (e, joined) (and-assoc (within 44 n) (leb o (244 - n)) (eqb f 0))
 
   pub ranged-fits : r ≡ true → eqb f 0 ≡ changeFits k n o f
   ranged-fits t = ap (λ (b : Bool). b && eqb f 0) (sym t) ∙ ranged-is kind

@@ -21,7 +21,8 @@ pub moved-on : (xs : List ℕ) (n k : ℕ) → n ≤ k → k < length xs
 moved-on xs n k h₁ h₂ =
     let R : List ℕ = take (length xs - suc k) (drop (suc k - n) xs) in
     let v : getD (moved xs n (suc k)) (k - n) 0 ≡ getD xs (k - n) 0 =
-    List·getD-append (take (suc k) xs) R 0 (k - n) (rw (length-take-le (suc k) xs h₂) (omega arith)) ∙ getD-take (suc k) xs (k - n) 0 (omega arith) in
+    List·getD-append (take (suc k) xs) R 0 (k - n) (rw (length-take-le (suc k) xs h₂) (omega arith))
+    ∙ getD-take (suc k) xs (k - n) 0 (omega arith) in
     let s : moved xs n (suc k) ≡ take k xs ++ getD xs k 0 ∷ R = rw (take-suc xs k 0 h₂) (append-snoc (take k xs) (getD xs k 0) R) in
     let e₁ : length xs - k ≡ suc (length xs - suc k) = omega arith in
     let e₂ : suc (k - n) ≡ suc k - n = omega arith in

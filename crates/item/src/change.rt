@@ -35,7 +35,8 @@ pub fn obeys(c: Change) -> bool
 // Moves the bytes from a place on up by n, the last one first; the last n drop off.
 fn raise(s: &mut [u8], at: usize, n: usize)
     requires { ⌜ at + n ≤ length (now s) ⌝ }
-    ensures { λ _. ⌜ now (s .exit) ≡ take (at + n) (now (s .entry)) ++ take (length (now (s .entry)) - (at + n)) (drop at (now (s .entry))) ⌝ }
+    ensures { λ _. ⌜ now (s .exit)
+        ≡ take (at + n) (now (s .entry)) ++ take (length (now (s .entry)) - (at + n)) (drop at (now (s .entry))) ⌝ }
 {
     let mut i = s.len();
     while at + n < i {

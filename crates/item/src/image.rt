@@ -1,17 +1,18 @@
-// A page image: its log sequence number read, its image judged as a page's, built in a frame and stored with its checksum.
+// A page image: its log sequence number read, its image judged as a page's, built in a frame and stored with its
+// checksum.
 ghost use mathlib.Core.Path.{_≡_};
 ghost use Prim.Native.Nat.{_<_};
 ghost use lib.ListN.{length};
 ghost use Rattle.model.specs.Bytes.{part};
 ghost use Rattle.model.specs.Checksum.{sealImage, imageSealed};
 ghost use Rattle.model.specs.Item.{imageLsn, validImage, frameImage};
-use codec::byte_sum;
-use codec::checksum;
 use codec::field;
 use codec::part;
 use model::geometry::FIRST_TAG;
 use model::geometry::Geometry;
 use model::geometry::SECOND_TAG;
+use sums::byte_sum;
+use sums::checksum;
 
 // The log sequence number of the last record in the image.
 pub fn lsn(x: &[u8]) -> u32

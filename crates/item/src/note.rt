@@ -2,9 +2,9 @@
 ghost use mathlib.Core.Path.{_≡_};
 ghost use lib.ListN.{length};
 ghost use Rattle.model.specs.Item.{noteOf, noteLayout, noteBytes};
-use codec::checksum;
 use codec::field;
 use model::item::Note;
+use sums::checksum;
 
 // Reads a note's fields.
 pub fn read(r: &[u8]) -> Note

@@ -8,11 +8,11 @@ ghost use Rattle.model.specs.Bytes.{part, allZero, splice};
 ghost use Rattle.model.specs.Change.{fits};
 ghost use Rattle.model.specs.Item.{recordOf, recordLayout, changeIn, applyRecord, recordFor, padded, encodeChange};
 use crate::change;
-use codec::checksum;
 use codec::field;
 use codec::part;
 use model::change::Change;
 use model::item::LogRecord;
+use sums::checksum;
 
 // Reads a record's fields.
 pub fn read(r: &[u8]) -> LogRecord
@@ -34,18 +34,22 @@ fn padding(r: &[u8], n: usize) -> bool
     requires { ⌜ 60 ≤ length (now r) ⌝ }
     ensures { λ b. ⌜ b ≡ allZero (part (now (r .entry)) (16 + n) (44 - n)) ⌝ }
 {
-    if 44 < n {
+    if 44 <= n {
         return true;
     }
     let rest = 16 + n;
     part::zero(&r[rest..60])
 }
 
-// The layout: the kind's rule, byte 15 and the payload past the length.
+// The layout: the kind's rule, byte 15 and the payload past the length. The test never holds: by it the compiler knows
+// that there are 60 bytes, and leaves out the tests of the fields.
 pub fn layout(r: &[u8]) -> bool
     requires { ⌜ 60 ≤ length (now r) ⌝ }
     ensures { λ b. ⌜ b ≡ recordLayout (now (r .entry)) ⌝ }
 {
+    if r.len() < 60 {
+        return false;
+    }
     let e = read(r);
     let obeys = change::fits(
         e.kind as u32,

@@ -11,6 +11,7 @@ use lib.Dec.{eqb, ltb, eqb·zero-suc, eqb·suc-zero, eqb·suc-suc}
 use lib.ListN.{length, getD, length-append}
 use borrow.Author.Tests.{eqb-true, eq-eqb, ne-eqb, lt-ltb, not-false}
 use Rattle.laws.proofs.Tables.{Numbered, byCases, none-at, and-left, and-right, and-both, when-true, when-false, true-not-false}
+use Rattle.laws.proofs.Tabulated.{tabulate-length}
 use Rattle.laws.proofs.Places.{valid-facts, item-length}
 use Rattle.laws.proofs.Ring.{slot-in}
 use Rattle.laws.proofs.Decided.{by-table}
@@ -149,11 +150,6 @@ module _ (v : List ℕ) (h : Whole v) where
     in-order = rw (held-is p) (section n (omega arith) .valid)
 
 -- ---- all sections
-
-pub tabulate-length : {A : Type 0} (n : ℕ) (f : ℕ → A) → length (tabulate n f) ≡ n
-unfolding tabulate
-tabulate-length zero f = refl
-tabulate-length (suc n) f = ap suc (tabulate-length n (λ i. f (suc i)))
 
 tabulate-laid : (n : ℕ) (f : ℕ → List (List ℕ)) → ((i : ℕ) → Laid (f i)) → (i : ℕ) → i < length (tabulate n f)
     → Laid (getD (tabulate n f) i [])

@@ -10,7 +10,7 @@ use lib.ListN.{length, length-map, length-replicate}
 use borrow.Author.Tests.{eqb-true, eq-eqb, ne-eqb}
 use Rattle.laws.proofs.Tables.{byCases, none-at}
 use Rattle.laws.proofs.Decided.{by-table}
-use Rattle.laws.proofs.Archive.{tabulate-length}
+use Rattle.laws.proofs.Tabulated.{tabulate-length}
 use Rattle.laws.proofs.Mirror.{number-is}
 use Rattle.model.specs.Tables.{firstOf}
 use Rattle.model.specs.Mirror.{eitherRows, laterRows, mirrorRows, mirrorOf, mirrorRefusal}

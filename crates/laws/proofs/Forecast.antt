@@ -13,6 +13,7 @@ use borrow.Author.Tests.{eqb-true, eq-eqb, lt-ltb, le-ltb, not-false}
 use Rattle.laws.proofs.Tables.{byCases, none-at, true-not-false, within-bounds}
 use Rattle.laws.proofs.Places.{valid-facts}
 use Rattle.laws.proofs.Decided.{by-table}
+use Rattle.laws.proofs.Tabulated.{tabulate-at, tabulate-past, replicate-at}
 use Rattle.laws.proofs.Scans.{page-judged, slot-judged}
 use Rattle.model.specs.Tables.{firstOf, within}
 use Rattle.model.specs.Geometry.{geometryOf, validVolume}
@@ -37,23 +38,6 @@ no-steps zero log first p own b e = refl
 no-steps (suc d) log first p own b e = absurd (omega arith)
 
 -- ---- rows
-
-pub tabulate-at : {A : Type 0} (n i : ℕ) (f : ℕ → A) (d : A) → i < n → getD (tabulate n f) i d ≡ f i
-unfolding tabulate
-tabulate-at zero i f d l = absurd (omega arith)
-tabulate-at (suc n) zero f d l = refl
-tabulate-at (suc n) (suc i) f d l = tabulate-at n i (λ j. f (suc j)) d (omega arith)
-
-pub tabulate-past : {A : Type 0} (n i : ℕ) (f : ℕ → A) (d : A) → n ≤ i → getD (tabulate n f) i d ≡ d
-unfolding tabulate
-tabulate-past zero i f d l = refl
-tabulate-past (suc n) zero f d l = absurd (omega arith)
-tabulate-past (suc n) (suc i) f d l = tabulate-past n i (λ j. f (suc j)) d (omega arith)
-
-pub replicate-at : {A : Type 0} (n i : ℕ) (d : A) → getD (replicate n d) i d ≡ d
-replicate-at zero i d = refl
-replicate-at (suc n) zero d = refl
-replicate-at (suc n) (suc i) d = replicate-at n i d
 
 -- a volume that restarts
 pub record Scanned (v : List ℕ) : Type 0 where

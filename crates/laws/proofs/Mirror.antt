@@ -14,7 +14,7 @@ use Rattle.laws.proofs.Tables.{byCases, and-left, and-right, or-cases, 
 use Rattle.laws.proofs.Parts.{part-at, part-part}
 use Rattle.laws.proofs.Fields.{field-part}
 use Rattle.laws.proofs.Decided.{by-table}
-use Rattle.laws.proofs.Forecast.{tabulate-at}
+use Rattle.laws.proofs.Tabulated.{tabulate-at}
 use Rattle.laws.proofs.Scanned.{Fit, whole-fits}
 use Rattle.model.specs.Tables.{Row, firstOf, every, within}
 use Rattle.model.specs.Bytes.{field, byteAt, part, sameBytes}

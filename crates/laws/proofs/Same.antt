@@ -10,7 +10,8 @@ use lib.ListN.{length, getD}
 use borrow.Author.Tests.{eqb-true, eqb-false}
 use Rattle.laws.proofs.Tables.{byCases, within-bounds}
 use Rattle.laws.proofs.Places.{valid-facts}
-use Rattle.laws.proofs.Forecast.{scanned, tabulate-at, answer-is}
+use Rattle.laws.proofs.Tabulated.{tabulate-at}
+use Rattle.laws.proofs.Forecast.{scanned, answer-is}
 use Rattle.laws.proofs.Archive.{wrote, written-back}
 use Rattle.laws.proofs.Area.{read-image}
 use Rattle.laws.proofs.SameRepair.{durable-same, walk-same, repair-same, image-same}

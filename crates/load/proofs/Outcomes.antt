@@ -11,7 +11,7 @@ use Rattle.laws.proofs.Tables.{none-at, within-bounds}
 use Rattle.laws.proofs.Parts.{put-splice, part-lent, part-length}
 use Rattle.laws.proofs.Places.{valid-facts}
 use Rattle.laws.proofs.Chain.{run-few}
-use Rattle.index.specs.Section.{Sized}
+use Rattle.index.specs.Sections.{Sized}
 use Rattle.index.proofs.Whole.{sized}
 use Rattle.laws.proofs.WellFormed.{ready, frame-within}
 use Rattle.state.proofs.Facts.{formed-page}
@@ -37,24 +37,29 @@ use Rattle.repair.specs.declared.walk.Walked.{Walked}
 
 -- ---- the frame's bytes as they are lent
 
-pub lent-length : (m : List ℕ) (at frame : ℕ) → at ≡ frameAt frame → frameAt frame + 256 ≤ length m → length (take (at + 256 - at) (drop at m)) ≡ 256
+pub lent-length : (m : List ℕ) (at frame : ℕ) → at ≡ frameAt frame → frameAt frame + 256 ≤ length m
+    → length (take (at + 256 - at) (drop at m)) ≡ 256
 lent-length m at frame ea h = ap length (part-lent m at 256 (at + 256) refl) ∙ part-length m at 256 (omega arith)
 
-pub put-back : (m x y : List ℕ) (at frame : ℕ) → at ≡ frameAt frame → length x ≡ 256 → x ≡ y → putMid at (at + 256 - at) m x ≡ splice m (frameAt frame) y
+pub put-back : (m x y : List ℕ) (at frame : ℕ) → at ≡ frameAt frame → length x ≡ 256 → x ≡ y
+    → putMid at (at + 256 - at) m x ≡ splice m (frameAt frame) y
 put-back m x y at frame ea l ex =
     let k : at + 256 - at ≡ 256 = omega arith in
     put-splice m at (at + 256 - at) x (l ∙ sym k) ∙ ap (splice m at) ex ∙ ap (λ (i : ℕ). splice m i y) ea
 
 module _ (v m : List ℕ) (s : State) (page frame : ℕ) where
   refuses : (n : ℕ) → n ≡ firstOf (loadRows v m s page frame) → (n ≡ 0 → ⊥)
-      → (_≡_ {A = Reply} (record { answer = Refused n; state = s }) (replyOf (loadOf v m s page frame))) × (m ≡ loadOf v m s page frame .memory)
+      → (_≡_ {A = Reply} (record { answer = Refused n; state = s }) (replyOf (loadOf v m s page frame)))
+      × (m ≡ loadOf v m s page frame .memory)
   unfolding loadOf
   refuses n e ne =
-      rw (ne-eqb (firstOf (loadRows v m s page frame)) 0 (λ z. ne (e ∙ z))) (ap (λ (k : ℕ). record { answer = Refused k; state = s }) e, refl)
+      rw (ne-eqb (firstOf (loadRows v m s page frame)) 0 (λ z. ne (e ∙ z)))
+      (ap (λ (k : ℕ). record { answer = Refused k; state = s }) e, refl)
 
   -- a row before the walk holds
   pub refused : (n : ℕ) → n ≡ firstOf (earlyRows v m s page frame) → (n ≡ 0 → ⊥)
-      → (_≡_ {A = Reply} (record { answer = Refused n; state = s }) (replyOf (loadOf v m s page frame))) × (m ≡ loadOf v m s page frame .memory)
+      → (_≡_ {A = Reply} (record { answer = Refused n; state = s }) (replyOf (loadOf v m s page frame)))
+      × (m ≡ loadOf v m s page frame .memory)
   refused n e ne = refuses n (early-refuses v m s page frame n e ne) ne
 
   -- what is known where none does
@@ -69,20 +74,23 @@ module _ (v m : List ℕ) (s : State) (page frame : ℕ) where
     pub frame-high : frame ≤ 16
     pub room : frameAt frame + 256 ≤ length m
 
-  pub opened : (g : Geometry) (e : Entry) → g ≡ geometryOf v → e ≡ entryOf (s .index) page → firstOf (earlyRows v m s page frame) ≡ 0 → Open g e
+  pub opened : (g : Geometry) (e : Entry) → g ≡ geometryOf v → e ≡ entryOf (s .index) page
+      → firstOf (earlyRows v m s page frame) ≡ 0 → Open g e
   unfolding earlyRows
   opened g e eg ee h =
       let rows = loadTail (geometryOf v) (frameCount (length m)) s page frame in
       let k = ready v m s rows h in
       let f = valid-facts v (k .volume) in
       let at : (i : ℕ) → getD rows i (false, 0) .0 ≡ false =
-      none-at rows (eqb-false 3 0 refl, (eqb-false 4 0 refl, (eqb-false 7 0 refl, (eqb-false 9 0 refl, (eqb-false 10 0 refl, tt))))) (k .rest) in
+      none-at rows
+      (eqb-false 3 0 refl, (eqb-false 4 0 refl, (eqb-false 7 0 refl, (eqb-false 9 0 refl, (eqb-false 10 0 refl, tt))))) (k .rest) in
       let p = within-bounds (geometryOf v .pages) page (not-false _ (at 0)) in
       let w = within-bounds (frameCount (length m)) frame (not-false _ (at 1)) in
       let high : page ≤ 64 = omega (arith, p .1, f .p-high) in
       let q = formed-page (geometryOf v) (frameCount (length m)) s (k .state) page (p .0) (p .1) high in
       let few : s .durable ≤ most (geometryOf v) = omega (arith, k .state .room) in
-      let run : suc (s .durable) - firstHeld (geometryOf v) v (s .durable) ≤ geometryOf v .records = run-few (geometryOf v) v (s .durable) few in
+      let run : suc (s .durable) - firstHeld (geometryOf v) v (s .durable) ≤ geometryOf v .records =
+      run-few (geometryOf v) v (s .durable) few in
       record {
         none = h;
         geometry = eg;
@@ -104,20 +112,24 @@ module _ (v m : List ℕ) (s : State) (page frame : ℕ) where
 
   module _ (g : Geometry) (e : Entry) (o : Open g e) (f : ℕ) (ef : f ≡ firstHeld g v (s .durable)) where
     -- what is made of the geometry, the run start and the entry at hand is made of the volume's and the state's
-    same : {A : Type 0} (h : Geometry → ℕ → Entry → A) → h g f e ≡ h (geometryOf v) (firstHeld (geometryOf v) v (s .durable)) (entryOf (s .index) page)
+    same : {A : Type 0} (h : Geometry → ℕ → Entry → A)
+        → h g f e ≡ h (geometryOf v) (firstHeld (geometryOf v) v (s .durable)) (entryOf (s .index) page)
     same h =
         ap (λ (x : ℕ). h g x e) ef ∙ ap (λ (k : Geometry). h k (firstHeld k v (s .durable)) e) (o .geometry)
         ∙ ap (h (geometryOf v) (firstHeld (geometryOf v) v (s .durable))) (o .entry)
 
-    decides : (c : Walked) (n : ℕ) → c ≡ walkedOf g page (viewOf g v f e page) → n ≡ firstOf (walkTail (c .stop)) → firstOf (loadRows v m s page frame) ≡ n
+    decides : (c : Walked) (n : ℕ) → c ≡ walkedOf g page (viewOf g v f e page) → n ≡ firstOf (walkTail (c .stop))
+        → firstOf (loadRows v m s page frame) ≡ n
     unfolding walkedOf
     decides c n ec en =
         walk-decides v m s page frame (o .none)
-        ∙ sym (en ∙ ap (λ (x : Walked). firstOf (walkTail (x .stop))) ec ∙ same (λ k x y. firstOf (walkTail (walkOf k page (viewOf k v x y page) .stop))))
+        ∙ sym (en ∙ ap (λ (x : Walked). firstOf (walkTail (x .stop))) ec
+        ∙ same (λ k x y. firstOf (walkTail (walkOf k page (viewOf k v x y page) .stop))))
 
     -- the walk refuses
     pub stopped : (c : Walked) (n : ℕ) → c ≡ walkedOf g page (viewOf g v f e page) → n ≡ firstOf (walkTail (c .stop)) → (n ≡ 0 → ⊥)
-        → (_≡_ {A = Reply} (record { answer = Refused n; state = s }) (replyOf (loadOf v m s page frame))) × (m ≡ loadOf v m s page frame .memory)
+        → (_≡_ {A = Reply} (record { answer = Refused n; state = s }) (replyOf (loadOf v m s page frame)))
+        × (m ≡ loadOf v m s page frame .memory)
     stopped c n ec en ne = refuses n (sym (decides c n ec en)) ne
 
     -- it does not
@@ -128,7 +140,8 @@ module _ (v m : List ℕ) (s : State) (page frame : ℕ) where
         → w ≡ splice m (frameAt frame) (rebuilt g page (viewOf g v f e page))
         → clean ≡ isGood (r .class)
         → t ≡ withFrames s (withFrame s frame page (not clean)) (s .note)
-        → (_≡_ {A = Reply} (record { answer = Repaired r; state = t }) (replyOf (loadOf v m s page frame))) × (w ≡ loadOf v m s page frame .memory)
+        → (_≡_ {A = Reply} (record { answer = Repaired r; state = t }) (replyOf (loadOf v m s page frame)))
+        × (w ≡ loadOf v m s page frame .memory)
     unfolding loadOf repairOf
     done c n clean r w t ec en z er ew eq et =
         let view = viewOf (geometryOf v) v (firstHeld (geometryOf v) v (s .durable)) (entryOf (s .index) page) page in

@@ -37,12 +37,14 @@ module _ (v m : List ℕ) (s : State) (page : ℕ) where
       → r ≡ cond (not (eqb n 0)) n rest
       → r ≡ firstOf (releaseRows v m s page)
   unfolding releaseRows
-  release-rows g n f rest r e eg ef er ek = ek ∙ refusal-then v m s (releaseTail (geometryOf v) s page (holder s page)) n rest e (er ∙ rw (ef, eg))
+  release-rows g n f rest r e eg ef er ek =
+      ek ∙ refusal-then v m s (releaseTail (geometryOf v) s page (holder s page)) n rest e (er ∙ rw (ef, eg))
 
   pub release-refused : (n : ℕ) → n ≡ firstOf (releaseRows v m s page) → (n ≡ 0 → ⊥)
       → _≡_ {A = Reply} (record { answer = Refused n; state = s }) (replyOf (releaseOf v m s page))
   unfolding releaseOf
-  release-refused n e ne = rw (ne-eqb (firstOf (releaseRows v m s page)) 0 (λ z. ne (e ∙ z))) (ap (λ (k : ℕ). record { answer = Refused k; state = s }) e)
+  release-refused n e ne =
+      rw (ne-eqb (firstOf (releaseRows v m s page)) 0 (λ z. ne (e ∙ z))) (ap (λ (k : ℕ). record { answer = Refused k; state = s }) e)
 
   -- where it is not refused a frame holds the page
   pub release-held : length (s .frames) ≡ 16 → firstOf (releaseRows v m s page) ≡ 0

@@ -47,7 +47,8 @@ early-is v m s n g size count page frame rest r e eg ec er ek en =
     ek ∙ refusal-then v m s (loadTail (geometryOf v) (frameCount (length m)) s page frame) n rest e (er ∙ rw (ec, eg, ← en))
 
 -- the rows behind the walk
-pub tail-is : (stop : Stop) (broken below : Bool) (a b : ℕ) → broken ≡ isBroken stop → below ≡ isBelow stop → a ≡ cond below 23 0 → b ≡ cond broken 19 a → b ≡ firstOf (walkTail stop)
+pub tail-is : (stop : Stop) (broken below : Bool) (a b : ℕ) → broken ≡ isBroken stop → below ≡ isBelow stop → a ≡ cond below 23 0
+    → b ≡ cond broken 19 a → b ≡ firstOf (walkTail stop)
 tail-is stop broken below a b eo el ea eb = rw (eb, ea, eo, el)
 
 module _ (v m : List ℕ) (s : State) (page frame : ℕ) where
@@ -58,7 +59,8 @@ module _ (v m : List ℕ) (s : State) (page frame : ℕ) where
 
   -- where the walk for the page stops
   abbrev pub stopOf : Stop
-  stopOf = walkOf (geometryOf v) page (viewOf (geometryOf v) v (firstHeld (geometryOf v) v (s .durable)) (entryOf (s .index) page) page) .stop
+  stopOf =
+      walkOf (geometryOf v) page (viewOf (geometryOf v) v (firstHeld (geometryOf v) v (s .durable)) (entryOf (s .index) page) page) .stop
 
   whole : firstOf (loadRows v m s page frame)
       ≡ cond (eqb (firstOf (earlyRows v m s page frame)) 0) (firstOf (walkTail stopOf)) (firstOf (earlyRows v m s page frame))

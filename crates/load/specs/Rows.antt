@@ -17,7 +17,8 @@ use Rattle.model.specs.declared.answer.Stop.{Stop}
 -- of a geometry and a number of frames
 abbrev pub loadTail : Geometry → ℕ → State → ℕ → ℕ → List Row
 loadTail g frames s page frame =
-    (not (within (g .pages) page), 3) ∷ (not (within frames frame), 4) ∷ (blank s page, 7) ∷ (held s page, 9) ∷ (frameBlocked s frame, 10) ∷ []
+    (not (within (g .pages) page), 3) ∷ (not (within frames frame), 4) ∷ (blank s page, 7) ∷ (held s page, 9)
+    ∷ (frameBlocked s frame, 10) ∷ []
 
 unfoldable pub earlyRows : List ℕ → List ℕ → State → ℕ → ℕ → List Row
 earlyRows v m s page frame = stateRows v m s (loadTail (geometryOf v) (frameCount (length m)) s page frame)

@@ -92,10 +92,12 @@ fn restore(
     w: Walked,
 ) -> Repair
     requires { ⌜ Ready (now volume) g first e page ⌝ }
-    requires { ⌜ (w ≡ walkedOf g page (viewOf g (now volume) first e page)) × (frameAt frame + 256 ≤ length (now memory)) ⌝ }
+    requires { ⌜ (w ≡ walkedOf g page (viewOf g (now volume) first e page))
+        × (frameAt frame + 256 ≤ length (now memory)) ⌝ }
     ensures answer { λ r. ⌜ r ≡ repairOf g page (viewOf g (now (volume .entry)) first e page) ⌝ }
     ensures memory { λ _. ⌜ now (memory .exit)
-        ≡ splice (now (memory .entry)) (frameAt frame) (rebuilt g page (viewOf g (now (volume .entry)) first e page)) ⌝ }
+        ≡ splice (now (memory .entry)) (frameAt frame)
+        (rebuilt g page (viewOf g (now (volume .entry)) first e page)) ⌝ }
 {
     let at = memory::frame_at(frame);
     let end = at + 256;
@@ -108,7 +110,8 @@ fn restore(
 // (tried); every page blank (tried); every call refused (tried); 19 or 23 where the walk finds a start.
 pub fn load(s: State, volume: &[u8], memory: &mut [u8], page: u32, frame: u32) -> Reply
     ensures reply { λ r. ⌜ r ≡ replyOf (loadOf (now (volume .entry)) (now (memory .entry)) s page frame) ⌝ }
-    ensures memory { λ _. ⌜ now (memory .exit) ≡ loadOf (now (volume .entry)) (now (memory .entry)) s page frame .memory ⌝ }
+    ensures memory { λ _. ⌜ now (memory .exit)
+        ≡ loadOf (now (volume .entry)) (now (memory .entry)) s page frame .memory ⌝ }
 {
     let no = refusal(s, volume, memory.len(), page, frame);
     if no != 0 {

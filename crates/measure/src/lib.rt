@@ -5,12 +5,12 @@ ghost use Prim.Native.Nat.{_≤_};
 ghost use lib.Dec.{leb};
 ghost use Rattle.model.specs.Checksum.{checksum, byteSum};
 ghost use Rattle.measure.specs.Cycles.{isRefused, restartRun, commandAt, cycled};
-use codec::byte_sum;
-use codec::checksum;
 use model::answer::Answer;
 use model::change::Change;
 use model::command::Command;
 use store::Store;
+use sums::byte_sum;
+use sums::checksum;
 
 // The checksum of bytes. Ruled out: the sum of the first words only; a sum without its remainder.
 #[no_mangle]
@@ -73,8 +73,8 @@ fn cut(count: u32) -> u32
     if count <= 1024 { count } else { 1024 }
 }
 
-// Restarts from a volume, and gives the number of refusals, 1 or 0. Ruled out: a refusal that is not counted; a memory that
-// is left as it was.
+// Restarts from a volume, and gives the number of refusals, 1 or 0. Ruled out: a refusal that is not counted; a memory
+// that is left as it was.
 #[no_mangle]
 pub extern "C" fn pagestore_restart(volume: &[u8], memory: &mut [u8]) -> u32
     ensures refused { λ r. ⌜ r ≡ restartRun (now (volume .entry)) (now (memory .entry)) .refused ⌝ }

@@ -1,7 +1,7 @@
-// The log of a store held against its mirror's: `mirror FIRST SECOND`, two names of volumes. Prints that they agree, which
-// lacks how many records at its end, or the first number where they differ; then a line for each page that a record from
-// there on is of. A refusal of either volume is the only line. A file that cannot be read is told by its name, on standard
-// error. All that matters is in `compare`, which is proved; this file only reads and prints.
+// The log of a store held against its mirror's: `mirror FIRST SECOND`, two names of volumes. Prints that they agree,
+// which lacks how many records at its end, or the first number where they differ; then a line for each page that a
+// record from there on is of. A refusal of either volume is the only line. A file that cannot be read is told by its
+// name, on standard error. All that matters is in `compare`, which is proved; this file only reads and prints.
 use libc::STDERR_FILENO;
 use model::reading::Compared;
 use model::reading::Comparison;

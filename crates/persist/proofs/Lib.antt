@@ -3,4 +3,3 @@ pub mod Rows
 pub mod Outcomes
 pub mod Room
 pub mod Parts
-pub mod Full

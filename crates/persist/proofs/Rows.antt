@@ -31,7 +31,8 @@ module _ (v m : List ℕ) (s : State) (n page : ℕ) (e : n ≡ firstOf (stateRo
   unfolding backupRows
   backup-first slot = refusal-first v m s (backupOwn slot) n e
 
-  module _ (g : Geometry) (f lsn r : ℕ) (z : n ≡ 0) (eg : g ≡ geometryOf v) (ef : f ≡ holder s page) (el : lsn ≡ imageLsn (frameBytes m f)) where
+  module _ (g : Geometry) (f lsn r : ℕ) (z : n ≡ 0) (eg : g ≡ geometryOf v) (ef : f ≡ holder s page)
+      (el : lsn ≡ imageLsn (frameBytes m f)) where
     pub write-rows : r ≡ firstOf (writeTail g v s page f lsn) → r ≡ firstOf (writeRows v m s page)
     unfolding writeRows
     write-rows er = refusal-last v m s writeOwn n r e z (er ∙ rw (el, ef, eg))

@@ -12,8 +12,8 @@ use Rattle.model.specs.declared.state.State.{State}
 
 -- those that both have, where t holds
 abbrev pub noteTail : Geometry → List ℕ → State → Bool → ℕ → List Row → List Row
-noteTail g v s t lsn rest = (t && notePending (s .note), 13) ∷ (t && notesFull g v s, 14) ∷ (t && ltb (s .durable) lsn, 15)
-    ∷ rest
+noteTail g v s t lsn rest =
+    (t && notePending (s .note), 13) ∷ (t && notesFull g v s, 14) ∷ (t && ltb (s .durable) lsn, 15) ∷ rest
 
 abbrev pub writeTail : Geometry → List ℕ → State → ℕ → ℕ → ℕ → List Row
 writeTail g v s page f lsn = (not (within (g .pages) page), 3) ∷ (not (ltb 0 f), 8) ∷ noteTail g v s

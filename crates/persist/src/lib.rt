@@ -2,6 +2,5 @@
 pub mod backup;
 mod image;
 pub mod note;
-mod notes;
 mod noting;
 pub mod write;

@@ -9,9 +9,8 @@ use state::next;
 use volume::heading;
 use volume::place;
 
-// Stores the pending note in its number's slot and enters it in the index. Nothing where none is pending.
-// Ruled out: a note stored in another number's slot; Nothing while a note is pending; an index with another number than the
-// note's.
+// Stores the pending note in its number's slot and enters it in the index. Nothing where none is pending. Ruled out: a
+// note stored in another number's slot; Nothing while a note is pending; an index with another number than the note's.
 pub fn note(s: State, volume: &mut [u8], memory: &[u8]) -> Reply
     ensures reply { λ r. ⌜ r ≡ replyOf (noteCall (now (volume .entry)) (now (memory .entry)) s) ⌝ }
     ensures volume { λ _.

@@ -4,10 +4,10 @@ ghost use mathlib.Core.Bool.{true, _&&_, cond};
 ghost use lib.Dec.{ltb};
 ghost use Rattle.model.specs.Geometry.{geometryOf, validVolume};
 ghost use Rattle.model.specs.State.{notePending, notesFull};
-use crate::notes;
 use model::geometry::Geometry;
 use model::state::PendingNote;
 use model::state::State;
+use room::notes;
 use volume::rows;
 
 // A note is to be stored.

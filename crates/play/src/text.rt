@@ -4,10 +4,10 @@ ghost use Prim.Native.Nat.{_<_, _≤_};
 ghost use lib.ListN.{length};
 ghost use Rattle.play.specs.Text.{sameBetween};
 use crate::one;
-use codec::byte_sum;
 use codec::field;
 use print::number;
 use print::say;
+use sums::byte_sum;
 
 // The 44 bytes from a place on.
 fn row_at(s: &[u8], at: usize) -> [u8; 44]

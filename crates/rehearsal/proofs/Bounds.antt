@@ -48,7 +48,8 @@ evicted-bounded t m f b h =
     let x = useRow (m .frames) f in
     let s : Small b (pageRow (m .pages) (x .page)) = h (x .page - 1) in
     byCases (isWritten (t .victim) && x .dirty)
-    (λ e. rw e (bounded-set (b + 1) (m .pages) (x .page - 1) (withImage (pageRow (m .pages) (x .page))) (bounded-more b (b + 1) (m .pages) (omega arith) h) (omega arith)))
+    (λ e. rw e (bounded-set (b + 1) (m .pages) (x .page - 1) (withImage (pageRow (m .pages) (x .page)))
+    (bounded-more b (b + 1) (m .pages) (omega arith) h) (omega arith)))
     (λ e. rw e (bounded-more b (b + 1) (m .pages) (omega arith) h))
 
 pub evicted-more : (t : Settings) (m : Rehearsal) (f : ℕ) → Bounded 900000 (m .pages) → Bounded 900300 (evicted t m f)
@@ -68,15 +69,18 @@ module _ (t : Settings) (low : 1 ≤ t .every) (high : t .every ≤ 255) where
       let n : replayedBy t (pageRow pages p .records) ≤ 254 = replayed-small (pageRow pages p .records) in
       byCases (eqb (r .records) 0)
       (λ e. rw e (bounded-more b (b + 254) pages (omega arith) h))
-      (λ e. rw e (bounded-set (b + 254) pages (p - 1) (withLoad r (replayedBy t (r .records))) (bounded-more b (b + 254) pages (omega arith) h) (omega arith)))
+      (λ e. rw e (bounded-set (b + 254) pages (p - 1) (withLoad r (replayedBy t (r .records)))
+      (bounded-more b (b + 254) pages (omega arith) h) (omega arith)))
 
-  pub touched-bounded : (i : ℕ) (m : Rehearsal) (p : ℕ) (c : Bool) (b : ℕ) → Bounded b (m .pages) → Bounded (b + 255) (touched t i m p c .pages)
+  pub touched-bounded : (i : ℕ) (m : Rehearsal) (p : ℕ) (c : Bool) (b : ℕ) → Bounded b (m .pages)
+      → Bounded (b + 255) (touched t i m p c .pages)
   unfolding touched
   touched-bounded i m p c b h =
       let l = leastUsed (m .frames) (t .frames) in
       byCases (ltb 0 (holding (m .frames) p (t .frames)))
       (λ e. rw e (bounded-more b (b + 255) (m .pages) (omega arith) h))
-      (λ e. rw e (bounded-more (b + 1 + 254) (b + 255) (broughtIn t (evicted t m l) p) (omega arith) (brought-bounded (evicted t m l) p (b + 1) (evicted-bounded t m l b h))))
+      (λ e. rw e (bounded-more (b + 1 + 254) (b + 255) (broughtIn t (evicted t m l) p) (omega arith)
+      (brought-bounded (evicted t m l) p (b + 1) (evicted-bounded t m l b h))))
 
   change-small : (r : Figures) (b : ℕ) → Small b r → Small (b + 1) (withChange (t .every) r)
   unfolding withChange
@@ -85,7 +89,8 @@ module _ (t : Settings) (low : 1 ≤ t .every) (high : t .every ≤ 255) where
   changed-bounded : (m : Rehearsal) (p b : ℕ) → Bounded b (m .pages) → Bounded (b + 1) (changed t m p .pages)
   unfolding changed
   changed-bounded m p b h =
-      bounded-set (b + 1) (m .pages) (p - 1) (withChange (t .every) (pageRow (m .pages) p)) (bounded-more b (b + 1) (m .pages) (omega arith) h)
+      bounded-set (b + 1) (m .pages) (p - 1) (withChange (t .every) (pageRow (m .pages) p))
+      (bounded-more b (b + 1) (m .pages) (omega arith) h)
       (change-small (pageRow (m .pages) p) b (h (p - 1)))
 
   pub step-bounded : (i : ℕ) (m : Rehearsal) (a : Access) (b : ℕ) → Bounded b (m .pages) → Bounded (b + 256) (stepOn t i m a .pages)
@@ -96,9 +101,11 @@ module _ (t : Settings) (low : 1 ≤ t .every) (high : t .every ≤ 255) where
       (λ e. rw e (bounded-more (b + 255) (b + 256) (touched t i m p false .pages) (omega arith) (touched-bounded i m p false b h)))
   step-bounded i m (Change p) b h =
       let x = touched t i m p true in
-      bounded-more (b + 255 + 1) (b + 256) (changed t x p .pages) (omega arith) (changed-bounded x p (b + 255) (touched-bounded i m p true b h))
+      bounded-more (b + 255 + 1) (b + 256) (changed t x p .pages) (omega arith)
+      (changed-bounded x p (b + 255) (touched-bounded i m p true b h))
 
-  pub touched-more : (i : ℕ) (m x : Rehearsal) (p : ℕ) (c : Bool) → Bounded 900000 (m .pages) → x ≡ touched t i m p c → Bounded 900600 (x .pages)
+  pub touched-more : (i : ℕ) (m x : Rehearsal) (p : ℕ) (c : Bool) → Bounded 900000 (m .pages) → x ≡ touched t i m p c
+      → Bounded 900600 (x .pages)
   touched-more i m x p c h e =
       rw e (bounded-more (900000 + 255) 900600 (touched t i m p c .pages) (omega arith) (touched-bounded i m p c 900000 h))
 
@@ -106,10 +113,12 @@ module _ (t : Settings) (low : 1 ≤ t .every) (high : t .every ≤ 255) where
 pub played-room : (i n : ℕ) (pages : List Figures) → i < n → n ≤ 1024 → Bounded (256 * i) pages → Bounded 900000 pages
 played-room i n pages l h f = bounded-more (256 * i) 900000 pages (omega arith) f
 
-pub played-more : (t : Settings) → 1 ≤ t .every → t .every ≤ 255 → (i : ℕ) (m x : Rehearsal) (a : Access) → Bounded (256 * i) (m .pages) → x ≡ stepOn t (i + 1) m a
+pub played-more : (t : Settings) → 1 ≤ t .every → t .every ≤ 255 → (i : ℕ) (m x : Rehearsal) (a : Access) → Bounded (256 * i) (m .pages)
+    → x ≡ stepOn t (i + 1) m a
     → Bounded (256 * (i + 1)) (x .pages)
 played-more t low high i m x a f e =
-    rw e (bounded-more (256 * i + 256) (256 * (i + 1)) (stepOn t (i + 1) m a .pages) (omega arith) (step-bounded t low high (i + 1) m a (256 * i) f))
+    rw e (bounded-more (256 * i + 256) (256 * (i + 1)) (stepOn t (i + 1) m a .pages) (omega arith)
+    (step-bounded t low high (i + 1) m a (256 * i) f))
 
 pub idle-bounded : (x : Rehearsal) → x ≡ idle → Bounded (256 * 0) (x .pages)
 unfolding idle
@@ -122,5 +131,12 @@ sums-room n a l s = omega arith
 
 module _ (a : Totals) (l r i b n p : ℕ) where
   pub plus-sums : l ≤ 4294967295 → r ≤ 4294967295 → i ≤ 4294967295 → b ≤ 4294967295 → n ≤ 4294967295 → p ≤ 4294967295 → (k : ℕ) → Sums k a
-      → Sums (suc k) (record { loads = a .loads + l; records = a .records + r; images = a .images + i; backups = a .backups + b; notes = a .notes + n; replayed = a .replayed + p })
+      → Sums (suc k) (record {
+        loads = a .loads + l;
+        records = a .records + r;
+        images = a .images + i;
+        backups = a .backups + b;
+        notes = a .notes + n;
+        replayed = a .replayed + p;
+      })
   plus-sums el er ei eb en ep k s = omega arith

@@ -74,7 +74,8 @@ module _ (s : List ℕ) (i : ℕ) (l : i < length s) where
   unfolding pagesFit
   fit-not t = rw (drop-cons s i 0 l, t)
 
-  pub play-on : (t : Settings) (m : Rehearsal) → playFrom t i m (drop i s) ≡ playFrom t (i + 1) (stepOn t (i + 1) m (accessOf (getD s i 0))) (drop (i + 1) s)
+  pub play-on : (t : Settings) (m : Rehearsal)
+      → playFrom t i m (drop i s) ≡ playFrom t (i + 1) (stepOn t (i + 1) m (accessOf (getD s i 0))) (drop (i + 1) s)
   unfolding playFrom
   play-on t m = rw (add-one i, drop-cons s i 0 l)
 
@@ -88,22 +89,27 @@ play-end s i t m l = rw (drop-of-length-le s l)
 
 -- ---- a page that makes way, and one that comes in
 
-pub evict-written : (t : Settings) (m : Rehearsal) (f : ℕ) (r q : Figures) (out : List Figures) → (isWritten (t .victim) && useRow (m .frames) f .dirty) ≡ true
-    → r ≡ pageRow (m .pages) (useRow (m .frames) f .page) → q ≡ withImage r → out ≡ setRow (m .pages) (useRow (m .frames) f .page) q → out ≡ evicted t m f
+pub evict-written : (t : Settings) (m : Rehearsal) (f : ℕ) (r q : Figures) (out : List Figures)
+    → (isWritten (t .victim) && useRow (m .frames) f .dirty) ≡ true
+    → r ≡ pageRow (m .pages) (useRow (m .frames) f .page) → q ≡ withImage r
+    → out ≡ setRow (m .pages) (useRow (m .frames) f .page) q → out ≡ evicted t m f
 unfolding evicted
 evict-written t m f r q out e er eq eo = rw (e, eo, eq, er)
 
-pub evict-not : (t : Settings) (m : Rehearsal) (f : ℕ) → (isWritten (t .victim) && useRow (m .frames) f .dirty) ≡ false → m .pages ≡ evicted t m f
+pub evict-not : (t : Settings) (m : Rehearsal) (f : ℕ) → (isWritten (t .victim) && useRow (m .frames) f .dirty) ≡ false
+    → m .pages ≡ evicted t m f
 unfolding evicted
 evict-not t m f e = rw e
 
-pub bring-load : (t : Settings) (pages : List Figures) (p n : ℕ) (r q : Figures) (out : List Figures) → r ≡ pageRow pages p → (r .records ≡ 0 → ⊥)
+pub bring-load : (t : Settings) (pages : List Figures) (p n : ℕ) (r q : Figures) (out : List Figures)
+    → r ≡ pageRow pages p → (r .records ≡ 0 → ⊥)
     → n ≡ replayedBy t (r .records) → q ≡ withLoad r n → out ≡ setRow pages p q → out ≡ broughtIn t pages p
 unfolding broughtIn
 bring-load t pages p n r q out er ne en eq eo =
     let z : eqb (pageRow pages p .records) 0 ≡ false = rw (← er) (ne-eqb (r .records) 0 ne) in rw (z, eo, eq, en, er)
 
-pub bring-begin : (t : Settings) (pages : List Figures) (p : ℕ) (r : Figures) → r ≡ pageRow pages p → r .records ≡ 0 → pages ≡ broughtIn t pages p
+pub bring-begin : (t : Settings) (pages : List Figures) (p : ℕ) (r : Figures) → r ≡ pageRow pages p → r .records ≡ 0
+    → pages ≡ broughtIn t pages p
 unfolding broughtIn
 bring-begin t pages p r er z =
     let e : eqb (pageRow pages p .records) 0 ≡ true = rw (← er) (eq-eqb (r .records) 0 z) in rw e
@@ -120,11 +126,13 @@ change-plain k r e = rw (ne-eqb ((r .records + 1) % k) 0 e)
 
 -- a load replays no more than the page's changes
 pub replayed-most : (t : Settings) (n b x : ℕ) → x ≡ replayedBy t n → n ≤ b → x ≤ b
-replayed-most t n b x e l = rw e (byCases (isWritten (t .victim)) (λ w. rw w (omega arith)) (λ w. rw w (omega (arith, mod-le n (t .every)))))
+replayed-most t n b x e l =
+    rw e (byCases (isWritten (t .victim)) (λ w. rw w (omega arith)) (λ w. rw w (omega (arith, mod-le n (t .every)))))
 
 -- ---- a step
 
-pub bring-is : (t : Settings) (i : ℕ) (m : Rehearsal) (p : ℕ) (c w : Bool) (f : ℕ) (a b : List Figures) → a ≡ evicted t m f → b ≡ broughtIn t a p → w ≡ isWritten (t .victim)
+pub bring-is : (t : Settings) (i : ℕ) (m : Rehearsal) (p : ℕ) (c w : Bool) (f : ℕ) (a b : List Figures) → a ≡ evicted t m f
+    → b ≡ broughtIn t a p → w ≡ isWritten (t .victim)
     → record { frames = set (m .frames) f (record { page = p; used = i; dirty = c || not w }); pages = b } ≡ missing t i m p c f
 bring-is t i m p c w f a b ea eb ew = rw (eb, ea, ew)
 
@@ -142,7 +150,8 @@ module _ (t : Settings) (i : ℕ) (m out : Rehearsal) (p : ℕ) where
   unfolding stepOn
   read-none r e z = let y : eqb (pageRow (m .pages) p .records) 0 ≡ true = rw (← e) (eq-eqb (r .records) 0 z) in rw y
 
-  pub read-touch : (r : Figures) → r ≡ pageRow (m .pages) p → (r .records ≡ 0 → ⊥) → out ≡ touched t i m p false → out ≡ stepOn t i m (Read p)
+  pub read-touch : (r : Figures) → r ≡ pageRow (m .pages) p → (r .records ≡ 0 → ⊥) → out ≡ touched t i m p false
+      → out ≡ stepOn t i m (Read p)
   unfolding stepOn
   read-touch r e z o = let y : eqb (pageRow (m .pages) p .records) 0 ≡ false = rw (← e) (ne-eqb (r .records) 0 z) in rw (y, o)
 
@@ -155,7 +164,8 @@ module _ (t : Settings) (i : ℕ) (m out : Rehearsal) (p : ℕ) where
 
 -- ---- totals
 
-pub total-none : (pages : List Figures) → totalOf pages 0 ≡ record { loads = 0; records = 0; images = 0; backups = 0; notes = 0; replayed = 0 }
+pub total-none : (pages : List Figures)
+    → totalOf pages 0 ≡ record { loads = 0; records = 0; images = 0; backups = 0; notes = 0; replayed = 0 }
 unfolding totalOf
 total-none pages = refl
 
@@ -163,20 +173,30 @@ pub total-more : (pages : List Figures) (n : ℕ) → totalOf pages (n + 1) ≡ 
 unfolding totalOf
 total-more pages n = rw (add-one n)
 
-pub plus-is : (a : Totals) (x : Figures) (l r i b n p : ℕ) → l ≡ x .loads → r ≡ x .records → i ≡ x .images → b ≡ x .backups → n ≡ x .notes → p ≡ x .replayed
-    → record { loads = a .loads + l; records = a .records + r; images = a .images + i; backups = a .backups + b; notes = a .notes + n; replayed = a .replayed + p } ≡ plus a x
+pub plus-is : (a : Totals) (x : Figures) (l r i b n p : ℕ) → l ≡ x .loads → r ≡ x .records → i ≡ x .images → b ≡ x .backups
+    → n ≡ x .notes → p ≡ x .replayed
+    → record {
+      loads = a .loads + l;
+      records = a .records + r;
+      images = a .images + i;
+      backups = a .backups + b;
+      notes = a .notes + n;
+      replayed = a .replayed + p;
+    } ≡ plus a x
 plus-is a x l r i b n p el er ei eb en ep = rw (el, er, ei, eb, en, ep)
 
 -- ---- the whole call
 
 module _ (events : List ℕ) (frames every : ℕ) (v : Victim) where
-  pub refusal-is : (fit : Bool) (a b c d : ℕ) → fit ≡ pagesFit events → a ≡ cond (not fit) 25 0 → b ≡ cond (not (within 255 every)) 25 a → c ≡ cond (not (within 16 frames)) 25 b
+  pub refusal-is : (fit : Bool) (a b c d : ℕ) → fit ≡ pagesFit events → a ≡ cond (not fit) 25 0 → b ≡ cond (not (within 255 every)) 25 a
+      → c ≡ cond (not (within 16 frames)) 25 b
       → d ≡ cond (not (leb (length events) 1024)) 25 c → d ≡ firstOf (rehearsalRows events (settings frames every v))
   unfolding rehearsalRows
   refusal-is fit a b c d ef ea eb ec ed = rw (ed, ec, eb, ea, ef)
 
   module _ (no : ℕ) (e : no ≡ firstOf (rehearsalRows events (settings frames every v))) where
-    pub rehearse-refused : (no ≡ 0 → ⊥) → record { answer = Refused no; pages = replicate 64 noFigures } ≡ rehearsalOf events (settings frames every v)
+    pub rehearse-refused : (no ≡ 0 → ⊥)
+        → record { answer = Refused no; pages = replicate 64 noFigures } ≡ rehearsalOf events (settings frames every v)
     unfolding rehearsalOf
     rehearse-refused ne =
         let z : eqb (firstOf (rehearsalRows events (settings frames every v))) 0 ≡ false = rw (← e) (ne-eqb no 0 ne) in rw (z, ← e)

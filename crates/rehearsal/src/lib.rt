@@ -65,7 +65,8 @@ fn start() -> Rehearsal
 
 // All events, one after the other.
 fn play(events: &[u8], t: Settings) -> Rehearsal
-    requires { ⌜ (length (now events) ≤ 1024) × (1 ≤ t .frames) × (t .frames ≤ 16) × (1 ≤ t .every) × (t .every ≤ 255) ⌝ }
+    requires { ⌜ (length (now events) ≤ 1024)
+        × (1 ≤ t .frames) × (t .frames ≤ 16) × (1 ≤ t .every) × (t .every ≤ 255) ⌝ }
     ensures { λ r. ⌜ r ≡ playFrom t 0 idle (now (events .entry)) ⌝ }
 {
     let mut m = start();

@@ -1,5 +1,5 @@
-// The two lists that come with the program, and one that is given. Both have the same 336 changes: 16 pages of a thread,
-// each begun and then changed 20 times.
+// The two lists that come with the program, and one that is given. Both have the same 336 changes: 16 pages of a
+// thread, each begun and then changed 20 times.
 
 // At most 1,024 events.
 pub struct List {

@@ -1,7 +1,7 @@
 // The program of a planner: plays a list of reads and changes under frames, victims and backup habits, and prints what
-// each costs. With nothing on standard input it plays the two lists that come with it; otherwise the input is the list, a
-// byte an event: below 128 a read of that page, else a change of page − 128. All that matters is in `rehearsal`, which is
-// proved; this file makes the two lists and prints.
+// each costs. With nothing on standard input it plays the two lists that come with it; otherwise the input is the list,
+// a byte an event: below 128 a read of that page, else a change of page − 128. All that matters is in `rehearsal`,
+// which is proved; this file makes the two lists and prints.
 
 mod lists;
 mod table;

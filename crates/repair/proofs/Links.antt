@@ -13,7 +13,7 @@ use Rattle.model.specs.Item.{recordOf, recordLayout, isFormat, firstIsFormat}
 use Rattle.model.specs.Repair.{Walk, stopAt, behind, chainRecord, walkFrom}
 use Rattle.model.specs.declared.answer.Stop.the-variants.{Own, Backup, Format, Broken, Below}
 use Rattle.model.specs.declared.item.LogRecord.{LogRecord}
-use Rattle.repair.specs.Walked.{stepOf}
+use Rattle.repair.specs.Walked.{stepOf, Sound}
 use Rattle.repair.specs.declared.walk.Step.{Step}
 use Rattle.repair.specs.declared.walk.Step.the-variants.{Halt, Read}
 
@@ -33,6 +33,14 @@ link p n r h =
 or-not : (a b : Bool) → (a || b) ≡ true → a ≡ false → b ≡ true
 or-not true b h e = cc
 or-not false b h e = h
+
+or-not-right : (a b : Bool) → (a || b) ≡ true → b ≡ false → a ≡ true
+or-not-right true b h e = refl
+or-not-right false b h e = cc
+
+or-right : (a b : Bool) → (a || b) ≡ false → b ≡ false
+or-right true b h = cc
+or-right false b h = h
 
 -- one that is no format names an earlier record
 pub link-back : (p n : ℕ) (r : List ℕ) → Link p n r → isFormat (recordOf r) ≡ false → 1 ≤ recordOf r .prev
@@ -55,7 +63,8 @@ pick-read false false false false true q p f t h = (refl, refl, cc, cc)
 pick-read false false false false false q p f t h = (cc, cc, cc, cc)
 
 pick-backup : (z a b w o : Bool) (q : ℕ) (f : Bool)
-    → cond z (Halt Broken) (cond a (Halt Own) (cond b (Halt Backup) (cond w (Halt Below) (cond o (Read q f) (Halt Broken))))) ≡ Halt Backup → b ≡ true
+    → cond z (Halt Broken)
+    (cond a (Halt Own) (cond b (Halt Backup) (cond w (Halt Below) (cond o (Read q f) (Halt Broken))))) ≡ Halt Backup → b ≡ true
 pick-backup true a b w o q f h = cc
 pick-backup false true b w o q f h = cc
 pick-backup false false true w o q f h = refl
@@ -85,7 +94,8 @@ module _ (log : ℕ → List ℕ) (first p own backup : ℕ) where
   pub step-reads : (n prev : ℕ) (format : Bool) → stepOf log first p own backup n ≡ Read prev format → Reads n prev format
   unfolding stepOf
   step-reads n prev format h =
-      let k = pick-read (eqb n 0) (eqb own n) (eqb backup n) (ltb n first) (chainRecord p n (log n)) (recordOf (log n) .prev) prev (isFormat (recordOf (log n))) format h in
+      let k = pick-read (eqb n 0) (eqb own n) (eqb backup n) (ltb n first) (chainRecord p n (log n)) (recordOf (log n) .prev) prev
+      (isFormat (recordOf (log n))) format h in
       record { link-is = k .1; prev-is = k .2; format-is = k .3 }
 
   pub step-zero : stepOf log first p own backup 0 ≡ Halt Broken
@@ -111,17 +121,25 @@ module _ (log : ℕ → List ℕ) (first p own backup : ℕ) where
         unfolding stepOf
         step-below l = rw (ne-eqb n 0 some, ne-eqb own n not-own, ne-eqb backup n not-backup, lt-ltb n first l)
 
-        module _ (held : first ≤ n) (r : List ℕ) (r-is : r ≡ log n) (b : Bool) (b-is : b ≡ chainRecord p n r) where
-          pub step-broken : b ≡ false → Halt Broken ≡ stepOf log first p own backup n
+        module _ (held : first ≤ n) (r : List ℕ) (r-is : r ≡ log n) (sure : Bool) (sound : sure ≡ true → Sound log first p own backup n)
+            (b : Bool) (b-is : b ≡ (sure || chainRecord p n r)) where
+          broken-by : chainRecord p n r ≡ false → Halt Broken ≡ stepOf log first p own backup n
           unfolding stepOf
-          step-broken t =
-              let z : chainRecord p n r ≡ false = sym b-is ∙ t in
-              rw (ne-eqb n 0 some, ne-eqb own n not-own, ne-eqb backup n not-backup, le-ltb n first held, ← r-is, z)
+          broken-by z = rw (ne-eqb n 0 some, ne-eqb own n not-own, ne-eqb backup n not-backup, le-ltb n first held, ← r-is, z)
+
+          pub step-broken : b ≡ false → Halt Broken ≡ stepOf log first p own backup n
+          step-broken t = broken-by (or-right sure (chainRecord p n r) (sym b-is ∙ t))
+
+          -- a record that was not tested may be read
+          readable : b ≡ true → chainRecord p n r ≡ true
+          readable t =
+              byCases (chainRecord p n r) (λ z. z)
+              (λ z. absurd (some (sound (or-not-right sure (chainRecord p n r) (sym b-is ∙ t) z) (sym (broken-by z)))))
 
           pub step-read : (e : LogRecord) → e ≡ recordOf r → b ≡ true → Read (e .prev) (eqb (e .kind) 1) ≡ stepOf log first p own backup n
           unfolding stepOf
           step-read e e-is t =
-              let z : chainRecord p n r ≡ true = sym b-is ∙ t in
+              let z : chainRecord p n r ≡ true = readable t in
               rw (ne-eqb n 0 some, ne-eqb own n not-own, ne-eqb backup n not-backup, le-ltb n first held, ← r-is, z, ← e-is)
 
   pub step-falls : (n prev : ℕ) (format : Bool) → stepOf log first p own backup n ≡ Read prev format → prev < n
@@ -164,7 +182,8 @@ module _ (log : ℕ → List ℕ) (first p own backup : ℕ) where
   walk-linked top (suc f) n h l = rw (walk-follows f n h) (go (λ q. walk-linked top f q) (stepOf log first p own backup n) refl)
     where
       go : ((q : ℕ) → 1 ≤ q → q ≤ top → Linked log p top (walkFrom f log first p own backup q .chain))
-          → (s : Step) → stepOf log first p own backup n ≡ s → Linked log p top (follow s n (λ q. walkFrom f log first p own backup q) .chain)
+          → (s : Step) → stepOf log first p own backup n ≡ s
+          → Linked log p top (follow s n (λ q. walkFrom f log first p own backup q) .chain)
       go ih (Halt s) e = tt
       go ih (Read prev true) e = (step-reads n prev true e .link-is, h, l, tt)
       go ih (Read prev false) e =
@@ -174,14 +193,16 @@ module _ (log : ℕ → List ℕ) (first p own backup : ℕ) where
   step-backup : (n : ℕ) → stepOf log first p own backup n ≡ Halt Backup → backup ≡ n
   unfolding stepOf
   step-backup n h =
-      eqb-true backup n (pick-backup (eqb n 0) (eqb own n) (eqb backup n) (ltb n first) (chainRecord p n (log n)) (recordOf (log n) .prev) (isFormat (recordOf (log n))) h)
+      eqb-true backup n (pick-backup (eqb n 0) (eqb own n) (eqb backup n) (ltb n first) (chainRecord p n (log n)) (recordOf (log n) .prev)
+      (isFormat (recordOf (log n))) h)
 
   pub walk-backup : (f n : ℕ) → 1 ≤ n → walkFrom f log first p own backup n .stop ≡ Backup → 1 ≤ backup
   walk-backup zero n h e = absurd (let z : Broken ≡ Backup = rw (walk-none n) at e in let q : _≡_ {A = ℕ} 0 1 = cc in omega arith)
   walk-backup (suc f) n h e = go (λ q. walk-backup f q) (stepOf log first p own backup n) refl (rw (walk-follows f n h) at e)
     where
       go : ((q : ℕ) → 1 ≤ q → walkFrom f log first p own backup q .stop ≡ Backup → 1 ≤ backup)
-          → (s : Step) → stepOf log first p own backup n ≡ s → follow s n (λ q. walkFrom f log first p own backup q) .stop ≡ Backup → 1 ≤ backup
+          → (s : Step) → stepOf log first p own backup n ≡ s
+          → follow s n (λ q. walkFrom f log first p own backup q) .stop ≡ Backup → 1 ≤ backup
       go ih (Halt s) q t = let b : backup ≡ n = step-backup n (q ∙ ap Halt t) in omega arith
       go ih (Read prev true) q t = let z : _≡_ {A = ℕ} 0 1 = cc in absurd (omega arith)
       go ih (Read prev false) q t = ih prev (step-back n prev q) t

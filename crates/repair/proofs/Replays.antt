@@ -1,7 +1,7 @@
 -- The replay as a loop makes it, from the end of the chain to its front, and the image that is built around it.
 use Prim.Native.Nat.{ℕ, zero, suc, _+_, _-_, _≤_, _<_}
 use mathlib.Core.Path.{_≡_, sym, ap, _∙_, subst}
-use mathlib.Core.Bool.{Bool, true}
+use mathlib.Core.Bool.{Bool, true, false}
 use mathlib.Core.List.{List}
 use native.Mathlib.Omega.{arith}
 use native.Mathlib.Numerals.{add-one}
@@ -10,11 +10,11 @@ use lib.Seq.{drop-cons, drop-length, getD-take, length-take-le}
 use borrow.Rule.Slice.PartMut.{putMid}
 use Rattle.laws.proofs.Chain.{chain-few}
 use Rattle.laws.proofs.Zeros.{zeros}
-use Rattle.laws.proofs.Parts.{splice-length, part-splice, put-splice}
+use Rattle.laws.proofs.Parts.{splice-length, put-part, put-splice}
 use Rattle.model.specs.Bytes.{part, splice}
 use Rattle.model.specs.Geometry.{pageAt, slotAt, item}
 use Rattle.model.specs.Item.{imageLsn, imageBody, validImage, frameImage, recordLayout, applyRecord}
-use Rattle.model.specs.Repair.{classOf, View, viewOf, walkFrom, walkOf, ownStart, backupStart, replayChain, startBody, rebuiltBody, rebuilt, startOf, repairOf}
+use Rattle.model.specs.Repair.{classOf, classIn, isBroken, View, viewOf, walkFrom, walkOf, ownStart, backupStart, replayChain, startBody, rebuiltBody, rebuilt, startOf, repairOf}
 use Rattle.model.specs.declared.answer.Stop.{Stop}
 use Rattle.model.specs.declared.answer.Stop.the-variants.{Own, Backup, Format, Broken, Below}
 use Rattle.model.specs.declared.answer.Class.{Class}
@@ -22,7 +22,8 @@ use Rattle.model.specs.declared.answer.Start.{Start}
 use Rattle.model.specs.declared.answer.Repair.{Repair}
 use Rattle.model.specs.declared.state.Entry.{Entry}
 use Rattle.model.specs.declared.geometry.Geometry.{Geometry}
-use Rattle.repair.specs.Walked.{walkedOf, chainFrom}
+use Rattle.repair.specs.Walked.{Whole, logOf, counted, walkedOf, chainFrom}
+use Rattle.repair.specs.declared.walk.Traced.{Traced}
 use Rattle.repair.specs.declared.walk.Walked.{Walked}
 use Rattle.repair.proofs.Links.{link, Linked, linked-at, walk-none, walk-linked, walk-backup}
 use Rattle.repair.proofs.Walks.{walk-chain}
@@ -37,7 +38,8 @@ module _ (g : Geometry) (p : ℕ) (w : View) where
     where
       go : (n : ℕ) → Linked (w .log) p n (walkFrom n (w .log) (w .first) p (ownStart g p w) (backupStart g p w) n .chain)
       go zero = rw (walk-none (w .log) (w .first) p (ownStart g p w) (backupStart g p w) 0) tt
-      go (suc n) = walk-linked (w .log) (w .first) p (ownStart g p w) (backupStart g p w) (suc n) (suc n) (suc n) (omega arith) (omega arith)
+      go (suc n) =
+          walk-linked (w .log) (w .first) p (ownStart g p w) (backupStart g p w) (suc n) (suc n) (suc n) (omega arith) (omega arith)
 
   -- where it stops at the backup, there is one
   pub stop-backup : walkOf g p w .stop ≡ Backup → 1 ≤ backupStart g p w
@@ -66,7 +68,7 @@ module _ (g : Geometry) (p : ℕ) (w : View) where
   unfolding walkOf
   chain-most h = omega (arith, chain-few (w .durable) (w .log) (w .first) p (ownStart g p w) (backupStart g p w) (w .durable))
 
-  -- the struct that holds its two numbers
+  -- the struct that holds what it found
   module _ (c : Walked) (c-is : c ≡ walkedOf g p w) where
     pub stop-is : c .stop ≡ walkOf g p w .stop
     unfolding walkedOf
@@ -75,6 +77,10 @@ module _ (g : Geometry) (p : ℕ) (w : View) where
     pub count-is : c .count ≡ length (walkOf g p w .chain)
     unfolding walkedOf
     count-is = ap (λ (k : Walked). k .count) c-is
+
+    pub class-is : c .class ≡ classIn g p w
+    unfolding walkedOf
+    class-is = ap (λ (k : Walked). k .class) c-is
 
 -- ---- the loop
 
@@ -128,7 +134,8 @@ module _ (log : ℕ → List ℕ) (k : ℕ) (lsns : List ℕ) where
           held = h .held;
           made =
               x-is ∙ ap (λ (y : List ℕ). applyRecord y body) (r-is ∙ ap log (sym number-is))
-              ∙ ap (applyRecord (log (getD (take k lsns) (i - 1) 0))) (h .made ∙ ap (λ (n : ℕ). replayChain log (drop n (take k lsns)) body₀) e)
+              ∙ ap (applyRecord (log (getD (take k lsns) (i - 1) 0)))
+              (h .made ∙ ap (λ (n : ℕ). replayChain log (drop n (take k lsns)) body₀) e)
               ∙ replay-more log (take k lsns) (i - 1) body₀ inside;
           size = l ∙ h .size;
         }
@@ -138,7 +145,11 @@ module _ (log : ℕ → List ℕ) (k : ℕ) (lsns : List ℕ) where
     replayed p top linked =
         let f = linked-at log p top (take k lsns) linked (i - 1) inside in
         subst (Replayed log top) number-is
-        (record { layout = link p (getD (take k lsns) (i - 1) 0) (log (getD (take k lsns) (i - 1) 0)) (f .0) .layout; low = f .1; high = f .2 })
+        (record {
+          layout = link p (getD (take k lsns) (i - 1) 0) (log (getD (take k lsns) (i - 1) 0)) (f .0) .layout;
+          low = f .1;
+          high = f .2;
+        })
 
     pub in-array : i - 1 < length lsns
     in-array = omega (arith, h .below, h .held)
@@ -157,18 +168,17 @@ module _ (dst b : List ℕ) (size : length dst ≡ 256) (len : length b ≡ 244)
   pub around-length : length (putMid 8 244 dst b) ≡ 256
   around-length = rw (put-splice dst 8 244 b len) (splice-length dst 8 b fits ∙ size)
 
-  pub around-body : part (putMid 8 244 dst b) 8 244 ≡ b
-  around-body = rw (put-splice dst 8 244 b len) (ap (part (splice dst 8 b) 8) (sym len) ∙ part-splice dst 8 b fits)
-
 -- what was begun, replayed and built is the rebuilt image
-pub built : (g : Geometry) (p : ℕ) (w : View) (c : Walked) → c ≡ walkedOf g p w → (dst first last out : List ℕ) → length dst ≡ 256 → length last ≡ 244
+pub built : (g : Geometry) (p : ℕ) (w : View) (c : Walked) → c ≡ walkedOf g p w
+    → (dst first last out : List ℕ) → length dst ≡ 256 → length last ≡ 244
     → first ≡ startBody (c .stop) w → last ≡ replayChain (w .log) (walkOf g p w .chain) first
     → out ≡ frameImage p (w .durable) (part (putMid 8 244 dst last) 8 244) → out ≡ rebuilt g p w
 unfolding rebuiltBody
 built g p w c c-is dst first last out size len f l o =
     let s : first ≡ startBody (walkOf g p w .stop) w = f ∙ ap (λ (k : Stop). startBody k w) (stop-is g p w c c-is) in
-    let b : last ≡ replayChain (w .log) (walkOf g p w .chain) (startBody (walkOf g p w .stop) w) = l ∙ ap (replayChain (w .log) (walkOf g p w .chain)) s in
-    o ∙ ap (frameImage p (w .durable)) (around-body dst last size len ∙ b)
+    let b : last ≡ replayChain (w .log) (walkOf g p w .chain) (startBody (walkOf g p w .stop) w) = l
+    ∙ ap (replayChain (w .log) (walkOf g p w .chain)) s in
+    o ∙ ap (frameImage p (w .durable)) (put-part dst 8 244 last len (omega (arith, size)) ∙ b)
 
 -- ---- the start and the answer
 
@@ -176,7 +186,8 @@ module _ (g : Geometry) (v : List ℕ) (f : ℕ) (e : Entry) (p : ℕ) (stop : S
   pub begun-own : (x : List ℕ) → stop ≡ Own → x ≡ item g v (pageAt p) → b ≡ imageBody x → b ≡ startBody stop (viewOf g v f e p)
   begun-own x s x-is b-is = rw s (b-is ∙ ap imageBody x-is)
 
-  pub begun-backup : (x : List ℕ) → stop ≡ Backup → x ≡ item g v (slotAt (e .slot)) → b ≡ imageBody x → b ≡ startBody stop (viewOf g v f e p)
+  pub begun-backup : (x : List ℕ) → stop ≡ Backup → x ≡ item g v (slotAt (e .slot)) → b ≡ imageBody x
+      → b ≡ startBody stop (viewOf g v f e p)
   begun-backup x s x-is b-is = rw s (b-is ∙ ap imageBody x-is)
 
   module _ (n : ℕ) (len : n ≡ 244) (b-is : b ≡ zeros n) where
@@ -189,9 +200,23 @@ module _ (g : Geometry) (v : List ℕ) (f : ℕ) (e : Entry) (p : ℕ) (stop : S
     pub begun-below : stop ≡ Below → b ≡ startBody stop (viewOf g v f e p)
     begun-below s = rw s (b-is ∙ ap zeros len)
 
-pub answered : (g : Geometry) (v : List ℕ) (f : ℕ) (e : Entry) (p : ℕ) (c : Walked) → c ≡ walkedOf g p (viewOf g v f e p) → (x : List ℕ) (valid : Bool) (n : ℕ) (k : Class) (s : Start)
-    → x ≡ item g v (pageAt p) → valid ≡ validImage g p x → n ≡ imageLsn x → k ≡ classOf valid n (e .durable) (e .written) → s ≡ startOf (c .stop)
-    → _≡_ {A = Repair} (record { class = k; start = s; count = c .count }) (repairOf g p (viewOf g v f e p))
+pub answered : (g : Geometry) (p : ℕ) (w : View) (c : Walked) → c ≡ walkedOf g p w → (s : Start) → s ≡ startOf (c .stop)
+    → _≡_ {A = Repair} (record { class = c .class; start = s; count = c .count }) (repairOf g p w)
 unfolding repairOf
-answered g v f e p c c-is x valid n k s x-is valid-is n-is k-is s-is =
-    rw (k-is, valid-is, n-is, x-is, s-is, stop-is g p (viewOf g v f e p) c c-is, count-is g p (viewOf g v f e p) c c-is)
+answered g p w c c-is s s-is = rw (class-is g p w c c-is, s-is, stop-is g p w c c-is, count-is g p w c c-is)
+
+-- ---- the walk from what was read
+
+module _ (g : Geometry) (v : List ℕ) (f : ℕ) (e : Entry) (p own backup : ℕ) (own-is : own ≡ ownStart g p (viewOf g v f e p))
+    (backup-is : backup ≡ backupStart g p (viewOf g v f e p)) where
+  pub walk-whole : Whole g p (viewOf g v f e p) → 1 ≤ e .durable
+      → isBroken (walkFrom (e .durable) (logOf g v) f p own backup (e .durable) .stop) ≡ false
+  unfolding walkOf
+  walk-whole h l = rw (own-is, backup-is) (h l)
+
+  pub walked : (t : Traced) (k : Class) (x : List ℕ) (b : Bool) (n : ℕ)
+      → t ≡ counted (walkFrom (e .durable) (logOf g v) f p own backup (e .durable))
+      → x ≡ item g v (pageAt p) → b ≡ validImage g p x → n ≡ imageLsn x → k ≡ classOf b n (e .durable) (e .written)
+      → _≡_ {A = Walked} (record { stop = t .stop; count = t .count; class = k }) (walkedOf g p (viewOf g v f e p))
+  unfolding walkedOf walkOf
+  walked t k x b n t-is x-is b-is n-is k-is = rw (t-is, k-is, b-is, n-is, x-is, own-is, backup-is)

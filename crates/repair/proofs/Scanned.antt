@@ -1,5 +1,5 @@
--- What a scan that refuses nothing tells, for any bytes: each record of the run as the restart rule has it, and the index's entries, which a
--- page's repair may be handed.
+-- What a scan that refuses nothing tells, for any bytes: each record of the run as the restart rule has it, and the index's entries, which
+-- a page's repair may be handed.
 use Prim.Native.Nat.{ℕ, zero, suc, _+_, _-_, _≤_, _<_}
 use mathlib.Core.Path.{_≡_, refl, sym, ap, _∙_, subst}
 use mathlib.Core.Logic.{_≢_, _⊎_, inl, inr, ⊎-elim}
@@ -40,7 +40,8 @@ module _ (g : Geometry) (v : List ℕ) where
   unfolding firstHeld
   first-low n =
       byCases (ring g)
-      (λ t. rw t (byCases (sealed 60 (item g v (logSlot g (suc (n - g .records))))) (λ u. rw u (omega arith)) (λ u. rw u (omega arith)))) (λ t. rw t (omega arith))
+      (λ t. rw t (byCases (sealed 60 (item g v (logSlot g (suc (n - g .records))))) (λ u. rw u (omega arith)) (λ u. rw u (omega arith))))
+      (λ t. rw t (omega arith))
 
   -- the run is no longer than the log
   run-room : (n : ℕ) → (ring g ≡ false → n ≤ g .records) → n < firstHeld g v n + g .records
@@ -84,7 +85,8 @@ unfolding recordFits
 fit g v f i h =
     let e = logRecord g v (f + i) in
     let l = entryOf (logIndex g v f i) (e .page) .last in
-    let tests = sealed 60 (item g v (logSlot g (f + i))) ∷ recordLayout (item g v (logSlot g (f + i))) ∷ eqb (e .lsn) (f + i) ∷ within (g .pages) (e .page) ∷ linked f l e ∷ [] in
+    let tests = sealed 60 (item g v (logSlot g (f + i))) ∷ recordLayout (item g v (logSlot g (f + i))) ∷ eqb (e .lsn) (f + i)
+    ∷ within (g .pages) (e .page) ∷ linked f l e ∷ [] in
     let w = within-bounds (g .pages) (e .page) (all-at tests 3 h) in
     record {
       whole = all-at tests 0 h;
@@ -122,7 +124,14 @@ module _ (g : Geometry) (v : List ℕ) (f m : ℕ) (few : g .pages ≤ 64) (ok :
   unfolding logIndex emptyIndex
   newest zero p h l =
       rw (empty-row 64 (p - 1))
-      (record { same = refl; low = λ z. absurd (z refl); high = λ z. absurd (z refl); page = λ z. absurd (z refl); slot = refl; backup = refl })
+      (record {
+        same = refl;
+        low = λ z. absurd (z refl);
+        high = λ z. absurd (z refl);
+        page = λ z. absurd (z refl);
+        slot = refl;
+        backup = refl;
+      })
   newest (suc n) p h l =
       let r = ok n h in
       let q = logRecord g v (f + n) .page in
@@ -136,7 +145,14 @@ module _ (g : Geometry) (v : List ℕ) (f m : ℕ) (few : g .pages ≤ 64) (ok :
         | no z ↦
             let ne : p - 1 ≢ q - 1 = λ e. z (omega (arith, r .low)) in
             rw (getD-set-other (logIndex g v f n) (q - 1) (p - 1) _ emptyEntry ne)
-            (record { same = k .same; low = k .low; high = λ s. omega (arith, k .high s); page = k .page; slot = k .slot; backup = k .backup })
+            (record {
+              same = k .same;
+              low = k .low;
+              high = λ s. omega (arith, k .high s);
+              page = k .page;
+              slot = k .slot;
+              backup = k .backup;
+            })
       ]
 
 -- ---- the index of log and notes
@@ -278,10 +294,12 @@ module _ (v : List ℕ) (g : Geometry) (valid : validVolume v ≡ true) (g-is : 
       let index = noteIndex g v f (suc k - f) in
       let ok = every-at (λ i. noteFits g v (noteIndex g v f i) (f + i)) (suc k - f) (and-left _ _ notes) in
       rw (List·getD-map settled index (p - 1) emptyEntry)
-      (settled-row g v p (entryOf index p) (row g v (sized v g valid g-is .pages) log-fits f (suc k - f) ok (suc k - f) p (omega arith) low))
+      (settled-row g v p (entryOf index p)
+      (row g v (sized v g valid g-is .pages) log-fits f (suc k - f) ok (suc k - f) p (omega arith) low))
 
   -- so its repair may be handed the entry
-  pub scanned-ready : (p : ℕ) → validNotes g v ≡ true → 1 ≤ p → p ≤ g .pages → Ready v g (firstHeld g v (durableCount g v)) (entryOf (indexOf g v) p) p
+  pub scanned-ready : (p : ℕ) → validNotes g v ≡ true → 1 ≤ p → p ≤ g .pages
+      → Ready v g (firstHeld g v (durableCount g v)) (entryOf (indexOf g v) p) p
   scanned-ready p notes low high =
       let r = scanned-row p notes low in
       record {

@@ -8,8 +8,11 @@ use native.Mathlib.Omega.{arith}
 use lib.Dec.{eqb}
 use lib.ListN.{length}
 use borrow.Author.Tests.{eq-eqb, ne-eqb}
+use Rattle.laws.proofs.Tables.{byCases}
 use Rattle.laws.proofs.Places.{total, In, valid-facts, place-fits, item-length}
 use Rattle.model.specs.Geometry.{geometryOf, validVolume, pageAt, slotAt, logSlot, start, item}
+use Rattle.model.specs.Bytes.{field}
+use Rattle.model.specs.Checksum.{imageSealed}
 use Rattle.model.specs.Item.{imageLsn, validImage}
 use Rattle.model.specs.Repair.{viewOf, ownStart, backupStart}
 use Rattle.model.specs.declared.geometry.Geometry.{Geometry}
@@ -61,14 +64,33 @@ module _ (v : List ℕ) (g : Geometry) (f : ℕ) (e : Entry) (p : ℕ) (h : Read
     pub slot-length : length (item g v (slotAt (e .slot))) ≡ 256
     slot-length = item-length g v (ready-sized .size) (slotAt (e .slot)) (positive (e .slot) some, h .slot)
 
+-- ---- images judged by a cheap test first
+
+module _ (g : Geometry) (p : ℕ) (x : List ℕ) where
+  -- an image of another page is not valid
+  pub valid-other : (k : ℕ) → k ≡ field 2 0 x → (k ≡ p → ⊥) → false ≡ validImage g p x
+  unfolding validImage
+  valid-other k e ne =
+      let z : eqb (field 2 0 x) p ≡ false = ne-eqb (field 2 0 x) p (λ q. ne (e ∙ q)) in
+      rw z (byCases (imageSealed g x) (λ t. rw t) (λ t. rw t))
+
+  -- nor is one of another number the one that is looked for
+  pub number-other : (k n : ℕ) → k ≡ imageLsn x → (k ≡ n → ⊥) → false ≡ (validImage g p x && eqb (imageLsn x) n)
+  number-other k n e ne =
+      let z : eqb (imageLsn x) n ≡ false = ne-eqb (imageLsn x) n (λ q. ne (e ∙ q)) in
+      rw z (byCases (validImage g p x) (λ t. rw t) (λ t. rw t))
+
+  pub number-own : (k n : ℕ) → k ≡ imageLsn x → k ≡ n → (b : Bool) → b ≡ validImage g p x → b ≡ (validImage g p x && eqb (imageLsn x) n)
+  number-own k n e q b b-is =
+      let z : eqb (imageLsn x) n ≡ true = eq-eqb (imageLsn x) n (sym e ∙ q) in
+      b-is ∙ rw z (byCases (validImage g p x) (λ t. rw t) (λ t. rw t))
+
 -- ---- the own image's number
 
-module _ (v : List ℕ) (g : Geometry) (f : ℕ) (e : Entry) (p : ℕ) (x : List ℕ) (x-is : x ≡ item g v (pageAt p)) (b : Bool) (b-is : b ≡ validImage g p x) where
-  pub own-valid : (n : ℕ) → n ≡ imageLsn x → b ≡ true → n ≡ ownStart g p (viewOf g v f e p)
-  own-valid n q t = let z : validImage g p x ≡ true = sym b-is ∙ t in rw (← x-is, z) q
-
-  pub own-none : b ≡ false → 0 ≡ ownStart g p (viewOf g v f e p)
-  own-none t = let z : validImage g p x ≡ false = sym b-is ∙ t in rw (← x-is, z)
+pub own-is : (v : List ℕ) (g : Geometry) (f : ℕ) (e : Entry) (p : ℕ) (x : List ℕ) (b : Bool) (n o : ℕ)
+    → x ≡ item g v (pageAt p) → b ≡ validImage g p x
+    → n ≡ imageLsn x → o ≡ cond b n 0 → o ≡ ownStart g p (viewOf g v f e p)
+own-is v g f e p x b n o x-is b-is n-is o-is = o-is ∙ rw (b-is, n-is, x-is)
 
 -- ---- the backup's number
 
@@ -82,18 +104,19 @@ slot-none v g f e p z =
     same true = refl
     same false = refl
 
-module _ (v : List ℕ) (g : Geometry) (f : ℕ) (e : Entry) (p : ℕ) (some : e .slot ≡ 0 → ⊥) (x : List ℕ) (x-is : x ≡ item g v (slotAt (e .slot)))
-    (b : Bool) (b-is : b ≡ validImage g p x) (n : ℕ) (n-is : n ≡ imageLsn x) where
-  noted : (t : Bool) → (b && eqb n (e .backup)) ≡ t → cond t (e .backup) 0 ≡ backupStart g p (viewOf g v f e p)
+module _ (v : List ℕ) (g : Geometry) (f : ℕ) (e : Entry) (p : ℕ) (some : e .slot ≡ 0 → ⊥) (x : List ℕ)
+    (x-is : x ≡ item g v (slotAt (e .slot)))
+    (b : Bool) (b-is : b ≡ (validImage g p x && eqb (imageLsn x) (e .backup))) where
+  noted : (t : Bool) → b ≡ t → cond t (e .backup) 0 ≡ backupStart g p (viewOf g v f e p)
   noted t q =
       let f : eqb (e .slot) 0 ≡ false = ne-eqb (e .slot) 0 some in
-      let z : (validImage g p x && eqb (imageLsn x) (e .backup)) ≡ t = rw (← b-is, ← n-is) q in
+      let z : (validImage g p x && eqb (imageLsn x) (e .backup)) ≡ t = sym b-is ∙ q in
       rw (f, ← x-is, z)
 
-  pub backup-valid : (b && eqb n (e .backup)) ≡ true → e .backup ≡ backupStart g p (viewOf g v f e p)
+  pub backup-valid : b ≡ true → e .backup ≡ backupStart g p (viewOf g v f e p)
   backup-valid q = noted true q
 
-  pub backup-none : (b && eqb n (e .backup)) ≡ false → 0 ≡ backupStart g p (viewOf g v f e p)
+  pub backup-none : b ≡ false → 0 ≡ backupStart g p (viewOf g v f e p)
   backup-none q = noted false q
 
 -- where a walk can stop at the backup, its slot is not 0

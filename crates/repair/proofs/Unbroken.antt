@@ -1,5 +1,5 @@
--- Refusal 19 never comes after a clean scan: where log and notes keep the restart rule, the walk for a page from the index meets only records that it
--- may read, or goes below the run. It holds for any bytes, whatever the images are.
+-- Refusal 19 never comes after a clean scan: where log and notes keep the restart rule, the walk for a page from the index meets only
+-- records that it may read, or goes below the run. It holds for any bytes, whatever the images are.
 use Prim.Native.Nat.{ℕ, zero, suc, _+_, _-_, _≤_, _<_}
 use mathlib.Core.Path.{_≡_, refl, sym, ap, _∙_, subst}
 use mathlib.Core.Logic.{_⊎_, inl, inr, ⊎-elim}
@@ -17,7 +17,7 @@ use Rattle.model.specs.Index.{entryOf}
 use Rattle.model.specs.Scan.{logRecord, durableCount, firstHeld, logIndex, validLog, validNotes, indexOf}
 use Rattle.model.specs.Repair.{viewOf, ownStart, backupStart, chainRecord, walkFrom, walkOf, isBroken}
 use Rattle.model.specs.declared.geometry.Geometry.{Geometry}
-use Rattle.repair.specs.Walked.{logOf}
+use Rattle.repair.specs.Walked.{Whole, logOf}
 use Rattle.repair.proofs.Links.{link, link-back}
 use Rattle.repair.proofs.Scanned.{first-low, Linked, Fit, Newest, newest, Held, Stands, log-fits, scanned-row}
 use Rattle.repair.proofs.Starts.{sized}
@@ -38,7 +38,8 @@ module _ (g : Geometry) (v : List ℕ) (few : g .pages ≤ 64)
     here = ok i b
 
     prev-is : Linked first (entryOf (logIndex g v first i) p .last) (logRecord g v (first + i) .prev)
-    prev-is = subst (λ (q : ℕ). Linked first (entryOf (logIndex g v first i) q .last) (logRecord g v (first + i) .prev)) page-is (here .prev)
+    prev-is =
+        subst (λ (q : ℕ). Linked first (entryOf (logIndex g v first i) q .last) (logRecord g v (first + i) .prev)) page-is (here .prev)
 
     some : 1 ≤ first
     unfolding first
@@ -48,7 +49,8 @@ module _ (g : Geometry) (v : List ℕ) (few : g .pages ≤ 64)
     falls : logRecord g v (first + i) .prev < first + i
     falls =
         let l = entryOf (logIndex g v first i) p .last in
-        ⊎-elim (λ e. elim (ℕ-discrete l 0) [ yes z ↦ omega (arith, some) | no z ↦ omega (arith, before .high z) ]) (λ e. omega (arith, some, e .2)) prev-is
+        ⊎-elim (λ e. elim (ℕ-discrete l 0) [ yes z ↦ omega (arith, some) | no z ↦ omega (arith, before .high z) ])
+        (λ e. omega (arith, some, e .2)) prev-is
 
     -- and, where there is one, the walk may be there
     stands : 1 ≤ logRecord g v (first + i) .prev → Stands g v p (logRecord g v (first + i) .prev)
@@ -58,7 +60,11 @@ module _ (g : Geometry) (v : List ℕ) (few : g .pages ≤ 64)
         ⊎-elim
         (λ e.
         let z : l ≡ 0 → ⊥ = λ q. omega arith in
-        inr (record { low = omega (arith, before .low z); high = omega (arith, before .high z); page = ap (λ (n : ℕ). logRecord g v n .page) e ∙ before .page z }))
+        inr (record {
+          low = omega (arith, before .low z);
+          high = omega (arith, before .high z);
+          page = ap (λ (n : ℕ). logRecord g v n .page) e ∙ before .page z;
+        }))
         (λ e. inl (omega (arith, some, e .2))) prev-is
 
     readable : chainRecord p (first + i) (item g v (logSlot g (first + i))) ≡ true
@@ -66,8 +72,8 @@ module _ (g : Geometry) (v : List ℕ) (few : g .pages ≤ 64)
     readable =
         let e = logRecord g v (first + i) in
         all-holds
-        (sealed 60 (item g v (logSlot g (first + i))) ∷ eqb (e .lsn) (first + i) ∷ eqb (e .page) p ∷ recordLayout (item g v (logSlot g (first + i)))
-        ∷ ltb (e .prev) (first + i) ∷ firstIsFormat e ∷ [])
+        (sealed 60 (item g v (logSlot g (first + i))) ∷ eqb (e .lsn) (first + i) ∷ eqb (e .page) p
+        ∷ recordLayout (item g v (logSlot g (first + i))) ∷ ltb (e .prev) (first + i) ∷ firstIsFormat e ∷ [])
         (here .whole, (eq-eqb _ _ (here .lsn-is), (eq-eqb _ _ page-is, (here .layout, (lt-ltb _ _ falls, (here .first, tt))))))
 
   -- a number in the run, by its place
@@ -84,14 +90,16 @@ module _ (g : Geometry) (v : List ℕ) (few : g .pages ≤ 64)
       subst At e (record { readable-is = readable (n - first) b q; stands-next = stands (n - first) b q })
 
   -- the walk from a number at which it may be
-  unbroken-from : (own backup steps n : ℕ) → n ≤ steps → 1 ≤ n → Stands g v p n → isBroken (walkFrom steps (logOf g v) first p own backup n .stop) ≡ false
+  unbroken-from : (own backup steps n : ℕ) → n ≤ steps → 1 ≤ n → Stands g v p n
+      → isBroken (walkFrom steps (logOf g v) first p own backup n .stop) ≡ false
   unfolding walkFrom first
   unbroken-from own backup zero n h l s = absurd (omega arith)
   unbroken-from own backup (suc steps) n h l s =
       byCases (eqb own n) (λ t. rw t refl)
       (λ t. rw t (byCases (eqb backup n) (λ u. rw u refl)
       (λ u. rw u (byCases (ltb n first) (λ w. rw w refl)
-      (λ w. rw (w, at n (held w) .readable-is) (byCases (isFormat (logRecord g v n)) (λ m. rw m refl) (λ m. rw m (go w m (λ q. unbroken-from own backup steps q)))))))))
+      (λ w. rw (w, at n (held w) .readable-is)
+      (byCases (isFormat (logRecord g v n)) (λ m. rw m refl) (λ m. rw m (go w m (λ q. unbroken-from own backup steps q)))))))))
     where
       held : ltb n first ≡ false → Held g v p n
       held w = let o : first ≤ n = ltb-false n first w in ⊎-elim (λ b. absurd (omega arith)) (λ k. k) s
@@ -105,7 +113,8 @@ module _ (g : Geometry) (v : List ℕ) (few : g .pages ≤ 64)
           let l : 1 ≤ logRecord g v n .prev = link-back p n (item g v (logSlot g n)) k m in
           ih (logRecord g v n .prev) (omega (arith, k .falls)) l (a .stands-next l)
 
-pub unbroken : (v : List ℕ) (g : Geometry) (p : ℕ) → validVolume v ≡ true → g ≡ geometryOf v → validLog g v ≡ true → validNotes g v ≡ true → 1 ≤ p
+pub unbroken : (v : List ℕ) (g : Geometry) (p : ℕ) → validVolume v ≡ true → g ≡ geometryOf v → validLog g v ≡ true
+    → validNotes g v ≡ true → 1 ≤ p
     → (entryOf (indexOf g v) p .durable ≡ 0 → ⊥)
     → isBroken (walkOf g p (viewOf g v (firstHeld g v (durableCount g v)) (entryOf (indexOf g v) p) p) .stop) ≡ false
 unfolding walkOf first
@@ -113,4 +122,11 @@ unbroken v g p valid g-is log notes low some =
     let e = entryOf (indexOf g v) p in
     let r = scanned-row v g valid g-is log p notes low in
     let s : Stands g v p (e .durable) = subst (Stands g v p) (sym (r .same)) (r .last-stands (λ z. some (r .same ∙ z))) in
-    unbroken-from g v (sized v g valid g-is .pages) (log-fits v g valid g-is log) p low _ _ (e .durable) (e .durable) (omega arith) (omega (arith, some)) s
+    unbroken-from g v (sized v g valid g-is .pages) (log-fits v g valid g-is log) p low _ _ (e .durable) (e .durable)
+    (omega arith) (omega (arith, some)) s
+
+-- so its walk may be followed untested
+pub scanned-whole : (v : List ℕ) (g : Geometry) (p : ℕ) → validVolume v ≡ true → g ≡ geometryOf v → validLog g v ≡ true
+    → validNotes g v ≡ true → 1 ≤ p
+    → Whole g p (viewOf g v (firstHeld g v (durableCount g v)) (entryOf (indexOf g v) p) p)
+scanned-whole v g p valid g-is log notes low some = unbroken v g p valid g-is log notes low (λ z. omega (arith, some, z))

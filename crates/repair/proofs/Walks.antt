@@ -9,18 +9,19 @@ use native.Mathlib.Nat.{add-zero, zero-add}
 use native.Mathlib.Numerals.{add-one}
 use lib.ListN.{length, take, set}
 use lib.Seq.{take-suc-set}
+use Rattle.laws.proofs.Tables.{true-not-false}
 use Rattle.model.specs.Item.{recordOf}
-use Rattle.model.specs.Repair.{Walk, stopAt, behind, walkFrom}
+use Rattle.model.specs.Repair.{Walk, stopAt, behind, walkFrom, isBroken}
 use Rattle.model.specs.declared.answer.Stop.{Stop}
 use Rattle.model.specs.declared.answer.Stop.the-variants.{Format, Broken}
-use Rattle.repair.specs.Walked.{counted, stepOf, chainFrom}
-use Rattle.repair.specs.declared.walk.Walked.{Walked}
+use Rattle.repair.specs.Walked.{counted, stepOf, Sound, chainFrom}
+use Rattle.repair.specs.declared.walk.Traced.{Traced}
 use Rattle.repair.specs.declared.walk.Step.{Step}
 use Rattle.repair.specs.declared.walk.Step.the-variants.{Halt, Read}
 use Rattle.repair.proofs.Links.{follow, walk-none, walk-follows, step-zero, step-falls, step-back, step-reads}
 
 -- a walk behind k records
-abbrev pub passed : ℕ → Walk → Walked
+abbrev pub passed : ℕ → Walk → Traced
 passed k w = record { stop = w .stop; count = k + length (w .chain) }
 
 -- ---- the loop
@@ -43,13 +44,25 @@ module _ (log : ℕ → List ℕ) (first p own backup from : ℕ) where
   module _ (n count : ℕ) (d : Down n count) where
     -- the walk that is left, by its step
     left-is : (s : Step) → 1 ≤ n → stepOf log first p own backup n ≡ s
-        → counted (walkFrom from log first p own backup from) ≡ passed count (follow s n (λ q. walkFrom (from - (count + 1)) log first p own backup q))
+        → counted (walkFrom from log first p own backup from)
+        ≡ passed count (follow s n (λ q. walkFrom (from - (count + 1)) log first p own backup q))
     left-is s h e =
         let k : from - count ≡ suc (from - (count + 1)) = omega (arith, d .room) in
         d .same
         ∙ ap (λ (f : ℕ). passed count (walkFrom f log first p own backup n)) k
         ∙ ap (passed count) (walk-follows log first p own backup (from - (count + 1)) n h)
         ∙ ap (λ (t : Step). passed count (follow t n (λ q. walkFrom (from - (count + 1)) log first p own backup q))) e
+
+    -- a walk that is not broken comes to no record that it may not read
+    pub down-sound : (1 ≤ from → isBroken (walkFrom from log first p own backup from .stop) ≡ false) → Sound log first p own backup n
+    down-sound whole e = go n refl
+      where
+        go : (m : ℕ) → n ≡ m → n ≡ 0
+        go zero z = z
+        go (suc m) z =
+            let t = ap (λ (w : Traced). isBroken (w .stop)) (left-is (Halt Broken) (omega arith) e) in
+            let f = whole (omega (arith, d .room)) in
+            absurd (true-not-false t f)
 
     -- a record that is read, and the walk goes on
     pub down-on : (prev : ℕ) (format : Bool) → stepOf log first p own backup n ≡ Read prev format → format ≡ false → Down prev (count + 1)
@@ -67,7 +80,7 @@ module _ (log : ℕ → List ℕ) (first p own backup from : ℕ) where
 
     -- a format: the walk's end
     pub down-format : (prev : ℕ) (format : Bool) → stepOf log first p own backup n ≡ Read prev format → format ≡ true
-        → _≡_ {A = Walked} (record { stop = Format; count = count + 1 }) (counted (walkFrom from log first p own backup from))
+        → _≡_ {A = Traced} (record { stop = Format; count = count + 1 }) (counted (walkFrom from log first p own backup from))
     down-format prev format q t =
         let e : stepOf log first p own backup n ≡ Read prev true = q ∙ ap (Read prev) t in
         let f : prev < n = step-falls log first p own backup n prev true e in
@@ -75,7 +88,7 @@ module _ (log : ℕ → List ℕ) (first p own backup from : ℕ) where
 
     -- the walk halts
     pub down-halt : (s : Stop) → stepOf log first p own backup n ≡ Halt s
-        → _≡_ {A = Walked} (record { stop = s; count = count }) (counted (walkFrom from log first p own backup from))
+        → _≡_ {A = Traced} (record { stop = s; count = count }) (counted (walkFrom from log first p own backup from))
     down-halt s e = ap (λ (k : ℕ). record { stop = s; count = k }) (sym (add-zero count)) ∙ sym (go n refl)
       where
         go : (m : ℕ) → n ≡ m → counted (walkFrom from log first p own backup from) ≡ passed count (stopAt s [])
@@ -97,11 +110,14 @@ pub walk-chain : (log : ℕ → List ℕ) (first p own backup f n : ℕ) → 1 �
     → walkFrom f log first p own backup n .chain ≡ chainFrom (length (walkFrom f log first p own backup n .chain)) log n
 unfolding chainFrom
 walk-chain log first p own backup zero n h = rw (walk-none log first p own backup n)
-walk-chain log first p own backup (suc f) n h = rw (walk-follows log first p own backup f n h) (go (λ q. walk-chain log first p own backup f q) (stepOf log first p own backup n) refl)
+walk-chain log first p own backup (suc f) n h =
+    rw (walk-follows log first p own backup f n h) (go (λ q. walk-chain log first p own backup f q) (stepOf log first p own backup n) refl)
   where
-    go : ((q : ℕ) → 1 ≤ q → walkFrom f log first p own backup q .chain ≡ chainFrom (length (walkFrom f log first p own backup q .chain)) log q)
+    go : ((q : ℕ) → 1 ≤ q
+        → walkFrom f log first p own backup q .chain ≡ chainFrom (length (walkFrom f log first p own backup q .chain)) log q)
         → (s : Step) → stepOf log first p own backup n ≡ s
-        → follow s n (λ q. walkFrom f log first p own backup q) .chain ≡ chainFrom (length (follow s n (λ q. walkFrom f log first p own backup q) .chain)) log n
+        → follow s n (λ q. walkFrom f log first p own backup q) .chain
+        ≡ chainFrom (length (follow s n (λ q. walkFrom f log first p own backup q) .chain)) log n
     go ih (Halt s) e = refl
     go ih (Read prev true) e = refl
     go ih (Read prev false) e =
@@ -141,4 +157,5 @@ module _ (log : ℕ → List ℕ) (top count : ℕ) where
   collected-all lsns n i c h =
       let e : i ≡ count = omega (arith, c .below) in
       let z : count - i ≡ 0 = omega arith in
-      ap (λ (x : ℕ). take x lsns) (sym e) ∙ sym (append-nil (take i lsns)) ∙ ap (λ (x : ℕ). take i lsns ++ chainFrom x log n) (sym z) ∙ c .same
+      ap (λ (x : ℕ). take x lsns) (sym e) ∙ sym (append-nil (take i lsns))
+      ∙ ap (λ (x : ℕ). take i lsns ++ chainFrom x log n) (sym z) ∙ c .same

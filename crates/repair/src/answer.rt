@@ -2,15 +2,12 @@
 ghost use mathlib.Core.Path.{_≡_};
 ghost use Rattle.model.specs.Repair.{viewOf, startOf, repairOf};
 ghost use Rattle.repair.specs.Walked.{Ready, walkedOf};
-use crate::class;
 use crate::walk::Walked;
-use item::image;
 use model::answer::Repair;
 use model::answer::Start;
 use model::answer::Stop;
 use model::geometry::Geometry;
 use model::state::Entry;
-use volume::place;
 
 // The start that is answered.
 fn start(stop: Stop) -> Start
@@ -32,13 +29,7 @@ pub fn answer(volume: &[u8], g: Geometry, first: u64, e: Entry, page: u32, w: Wa
     requires { ⌜ w ≡ walkedOf g page (viewOf g (now volume) first e page) ⌝ }
     ensures { λ r. ⌜ r ≡ repairOf g page (viewOf g (now (volume .entry)) first e page) ⌝ }
 {
-    let x = place::page(volume, g, page);
-    let class = class::class(
-        image::valid(g, page, x),
-        image::lsn(x),
-        e.durable,
-        e.written,
-    );
+    let class = w.class;
     let stop = w.stop;
     let start = start(stop);
     Repair {

@@ -1,4 +1,5 @@
-// The rebuilt page: the body at which the walk stopped, the records of the chain replayed on it, and the image around it.
+// The rebuilt page: the body at which the walk stopped, the records of the chain replayed on it, and the image around
+// it.
 ghost use mathlib.Core.Path.{_≡_};
 ghost use Prim.Native.Nat.{_≤_};
 ghost use lib.ListN.{length, take};
@@ -75,7 +76,8 @@ fn apply(
     requires { ⌜ Ready (now volume) g first e page ⌝ }
     requires { ⌜ take count (now lsns) ≡ walkOf g page (viewOf g (now volume) first e page) .chain ⌝ }
     requires { ⌜ (count ≤ length (now lsns)) × (length (now body) ≡ 244) ⌝ }
-    ensures { λ _. ⌜ now (body .exit) ≡ replayChain (logOf g (now (volume .entry))) (take count (now (lsns .entry))) (now (body .entry)) ⌝ }
+    ensures { λ _. ⌜ now (body .exit)
+        ≡ replayChain (logOf g (now (volume .entry))) (take count (now (lsns .entry))) (now (body .entry)) ⌝ }
 {
     let mut i = count as usize;
     while 0 < i {
@@ -85,16 +87,44 @@ fn apply(
     }
 }
 
-// Replays a chain of `count` records on a body. A chain has no more records than a log has slots.
+// Replays a chain of `count` records on a body, with room for their numbers.
+fn replay_in(
+    volume: &[u8],
+    g: Geometry,
+    first: u64,
+    e: Entry,
+    page: u32,
+    count: u32,
+    lsns: &mut [u32],
+    body: &mut [u8],
+)
+    requires { ⌜ Ready (now volume) g first e page ⌝ }
+    requires { ⌜ count ≡ length (walkOf g page (viewOf g (now volume) first e page) .chain) ⌝ }
+    requires { ⌜ (count ≤ length (now lsns)) × (length (now body) ≡ 244) ⌝ }
+    ensures { λ _. ⌜ now (body .exit)
+        ≡ replayChain (logOf g (now (volume .entry)))
+        (walkOf g page (viewOf g (now (volume .entry)) first e page) .chain) (now (body .entry)) ⌝ }
+{
+    collect(volume, g, e.durable, count, lsns);
+    apply(volume, g, first, e, page, lsns, count, body);
+}
+
+// Replays a chain. It has no more records than a log has slots, and mostly few: then less is cleared for their numbers.
 fn replay(volume: &[u8], g: Geometry, first: u64, e: Entry, page: u32, count: u32, body: &mut [u8])
     requires { ⌜ Ready (now volume) g first e page ⌝ }
     requires { ⌜ count ≡ length (walkOf g page (viewOf g (now volume) first e page) .chain) ⌝ }
     requires { ⌜ length (now body) ≡ 244 ⌝ }
-    ensures { λ _. ⌜ now (body .exit) ≡ replayChain (logOf g (now (volume .entry))) (walkOf g page (viewOf g (now (volume .entry)) first e page) .chain) (now (body .entry)) ⌝ }
+    ensures { λ _. ⌜ now (body .exit)
+        ≡ replayChain (logOf g (now (volume .entry)))
+        (walkOf g page (viewOf g (now (volume .entry)) first e page) .chain) (now (body .entry)) ⌝ }
 {
-    let mut lsns = [0u32; 1024];
-    collect(volume, g, e.durable, count, &mut lsns);
-    apply(volume, g, first, e, page, &lsns, count, body);
+    if count <= 32 {
+        let mut few = [0u32; 32];
+        replay_in(volume, g, first, e, page, count, &mut few, body);
+    } else {
+        let mut lsns = [0u32; 1024];
+        replay_in(volume, g, first, e, page, count, &mut lsns, body);
+    }
 }
 
 // The page's image as a frame holds it, from the start that the walk found and the records behind it.

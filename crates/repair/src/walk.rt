@@ -1,17 +1,23 @@
-// The chain walk: from the newest durable number down, to the page's own image, the noted backup or a format; or below the run.
+// The chain walk: from the newest durable number down, to the page's own image, the noted backup or a format; or below
+// the run.
 ghost use mathlib.Core.Path.{_≡_};
-ghost use mathlib.Core.Bool.{true};
+ghost use mathlib.Core.Bool.{true, false, cond, _&&_, _||_};
 ghost use Prim.Native.Nat.{_≤_};
+ghost use lib.Dec.{eqb};
 ghost use lib.ListN.{length};
 ghost use Rattle.model.specs.Geometry.{geometryOf, validVolume};
-ghost use Rattle.model.specs.Repair.{viewOf, ownStart, backupStart, chainRecord, walkFrom, isBroken, isBelow};
-ghost use Rattle.repair.specs.Walked.{Ready, logOf, counted, walkedOf, stepOf};
-use codec::checksum;
+ghost use Rattle.model.specs.Item.{imageLsn, validImage};
+ghost use Rattle.model.specs.Repair.{viewOf, backupStart, chainRecord, walkFrom, isBroken, isBelow};
+ghost use Rattle.repair.specs.Walked.{Ready, Whole, Sound, logOf, counted, walkedOf, stepOf};
+use crate::class;
+use codec::field;
 use item::image;
 use item::record;
+use model::answer::Class;
 use model::answer::Stop;
 use model::geometry::Geometry;
 use model::state::Entry;
+use sums::checksum;
 use volume::place;
 
 // What the walk finds at a number: it halts there, or it reads the record, which names the one before it.
@@ -20,23 +26,44 @@ pub enum Step {
     Read { prev: u32, format: bool },
 }
 
-// What a walk found: where it stopped, and how many records are to be replayed.
-pub struct Walked {
+// Where a walk stopped, and how many records are to be replayed.
+pub struct Traced {
     pub stop: Stop,
     pub count: u32,
 }
 
-// The number at which the walk may stop at the page's own image; 0 is none.
-fn own_number(volume: &[u8], g: Geometry, first: u64, e: Entry, page: u32) -> u32
-    requires { ⌜ Ready (now volume) g first e page ⌝ }
-    ensures { λ r. ⌜ r ≡ ownStart g page (viewOf g (now (volume .entry)) first e page) ⌝ }
+// What a walk found, and the class of the own image, which it had to judge.
+pub struct Walked {
+    pub stop: Stop,
+    pub count: u32,
+    pub class: Class,
+}
+
+// The image is valid as the page's. Its page number is looked at first, since a sum is slow.
+fn judge(g: Geometry, page: u32, x: &[u8]) -> bool
+    ensures { λ r. ⌜ r ≡ validImage g page (now (x .entry)) ⌝ }
 {
-    let x = place::page(volume, g, page);
-    if image::valid(g, page, x) {
-        image::lsn(x)
-    } else {
-        0
+    if field::u16_at(x, 0) as u32 != page {
+        return false;
     }
+    image::valid(g, page, x)
+}
+
+// The image is valid as the page's and has number n.
+fn numbered(g: Geometry, page: u32, n: u32, x: &[u8]) -> bool
+    ensures { λ r. ⌜ r ≡ (validImage g page (now (x .entry)) && eqb (imageLsn (now (x .entry))) n) ⌝ }
+{
+    if image::lsn(x) != n {
+        return false;
+    }
+    judge(g, page, x)
+}
+
+// The number at which the walk may stop at an own image of number n; 0 is none.
+fn own_number(valid: bool, n: u32) -> u32
+    ensures { λ r. ⌜ r ≡ cond valid n 0 ⌝ }
+{
+    if valid { n } else { 0 }
 }
 
 // The number at which the walk may stop at the noted backup; 0 is none, and slot 0 is no backup.
@@ -49,7 +76,7 @@ fn backup_number(volume: &[u8], g: Geometry, first: u64, e: Entry, page: u32) ->
         return 0;
     }
     let x = place::slot(volume, g, slot);
-    let noted = image::valid(g, page, x) & (image::lsn(x) == e.backup);
+    let noted = numbered(g, page, e.backup, x);
     if noted { e.backup } else { 0 }
 }
 
@@ -64,9 +91,30 @@ fn readable(page: u32, n: u32, r: &[u8]) -> bool
     checksum::holds(r, 60) & ((e.lsn == n) & ((owner == page) & (record::layout(r) & linked)))
 }
 
+// The walk goes on at a record: it may read it, which need not be tested where it is sure.
+fn passes(sure: bool, page: u32, n: u32, r: &[u8]) -> bool
+    requires { ⌜ 60 ≤ length (now r) ⌝ }
+    ensures { λ b. ⌜ b ≡ (sure || chainRecord page n (now (r .entry))) ⌝ }
+{
+    if sure {
+        return true;
+    }
+    readable(page, n, r)
+}
+
 // The walk's step at number n: own image, else the backup, else the record, where the run holds it.
-fn look(volume: &[u8], g: Geometry, first: u64, page: u32, own: u32, backup: u32, n: u32) -> Step
+fn look(
+    volume: &[u8],
+    g: Geometry,
+    first: u64,
+    page: u32,
+    own: u32,
+    backup: u32,
+    sure: bool,
+    n: u32,
+) -> Step
     requires { ⌜ (validVolume (now volume) ≡ true) × (g ≡ geometryOf (now volume)) ⌝ }
+    requires { ⌜ (sure ≡ true → Sound (logOf g (now volume)) first page own backup n) ⌝ }
     ensures { λ r. ⌜ r ≡ stepOf (logOf g (now (volume .entry))) first page own backup n ⌝ }
 {
     if n == 0 {
@@ -82,7 +130,7 @@ fn look(volume: &[u8], g: Geometry, first: u64, page: u32, own: u32, backup: u32
         return Step::Halt(Stop::Below);
     }
     let r = place::record(volume, g, n);
-    if !readable(page, n, r) {
+    if !passes(sure, page, n, r) {
         return Step::Halt(Stop::Broken);
     }
     let e = record::read(r);
@@ -93,6 +141,7 @@ fn look(volume: &[u8], g: Geometry, first: u64, page: u32, own: u32, backup: u32
 }
 
 // The chain walk from a number down, that may stop at the own image and at the backup with these numbers; 0 is none.
+// Where it is sure that the walk is not broken, no record is tested.
 // Ruled out: a start taken at a number that is not its own (tried); a format left out of the count (tried).
 pub fn trace(
     volume: &[u8],
@@ -101,15 +150,18 @@ pub fn trace(
     page: u32,
     own: u32,
     backup: u32,
+    sure: bool,
     from: u32,
-) -> Walked
+) -> Traced
     requires { ⌜ (validVolume (now volume) ≡ true) × (g ≡ geometryOf (now volume)) ⌝ }
+    requires { ⌜ (sure ≡ true → 1 ≤ from
+        → isBroken (walkFrom from (logOf g (now volume)) first page own backup from .stop) ≡ false) ⌝ }
     ensures { λ r. ⌜ r ≡ counted (walkFrom from (logOf g (now (volume .entry))) first page own backup from) ⌝ }
 {
     let mut n = from;
     let mut count: u32 = 0;
     let stop = loop {
-        match look(volume, g, first, page, own, backup, n) {
+        match look(volume, g, first, page, own, backup, sure, n) {
             Step::Halt(s) => break s,
             Step::Read { prev, format } => {
                 count += 1;
@@ -120,18 +172,47 @@ pub fn trace(
             }
         }
     };
-    Walked { stop, count }
+    Traced { stop, count }
 }
 
-// The chain walk, from the newest durable number down.
-// Ruled out: an older own image, or the backup, taken at a number that is not its own (both tried); a format left out of the count.
+// The chain walk, from the newest durable number down; the own image is judged once, for the walk and for its class.
+fn descend(volume: &[u8], g: Geometry, first: u64, e: Entry, page: u32, sure: bool) -> Walked
+    requires { ⌜ Ready (now volume) g first e page ⌝ }
+    requires { ⌜ (sure ≡ true → Whole g page (viewOf g (now volume) first e page)) ⌝ }
+    ensures { λ r. ⌜ r ≡ walkedOf g page (viewOf g (now (volume .entry)) first e page) ⌝ }
+{
+    let x = place::page(volume, g, page);
+    let valid = judge(g, page, x);
+    let n = image::lsn(x);
+    let own = own_number(valid, n);
+    let backup = backup_number(volume, g, first, e, page);
+    let t = trace(volume, g, first, page, own, backup, sure, e.durable);
+    let class = class::class(valid, n, e.durable, e.written);
+    let stop = t.stop;
+    Walked {
+        stop,
+        count: t.count,
+        class,
+    }
+}
+
+// The chain walk on any volume: each record is tested. Ruled out: an older own image, or the backup, taken at a number
+// that is not its own (both tried); a format left out of the count.
 pub fn walk(volume: &[u8], g: Geometry, first: u64, e: Entry, page: u32) -> Walked
     requires { ⌜ Ready (now volume) g first e page ⌝ }
     ensures { λ r. ⌜ r ≡ walkedOf g page (viewOf g (now (volume .entry)) first e page) ⌝ }
 {
-    let own = own_number(volume, g, first, e, page);
-    let backup = backup_number(volume, g, first, e, page);
-    trace(volume, g, first, page, own, backup, e.durable)
+    descend(volume, g, first, e, page, false)
+}
+
+// The chain walk after a clean scan, which tested each record: no sum is taken again.
+// Ruled out: what `walk` rules out; the records of a volume that was not scanned trusted (tried).
+pub fn follow(volume: &[u8], g: Geometry, first: u64, e: Entry, page: u32) -> Walked
+    requires { ⌜ Ready (now volume) g first e page ⌝ }
+    requires { ⌜ Whole g page (viewOf g (now volume) first e page) ⌝ }
+    ensures { λ r. ⌜ r ≡ walkedOf g page (viewOf g (now (volume .entry)) first e page) ⌝ }
+{
+    descend(volume, g, first, e, page, true)
 }
 
 // The walk met a record that it may not read.

@@ -46,17 +46,22 @@ module _ (v m : List ℕ) where
       → (_≡_ {A = Reply} (record { answer = Refused n; state = t }) (replyOf (restartOf v m))) × (m ≡ restartOf v m .memory)
   unfolding restartOf
   refused n t e ne et =
-      rw (ne-eqb (firstOf (restartRows v m)) 0 (λ z. ne (e ∙ z)))
-      (ap (λ (k : ℕ). record { answer = Refused k; state = t }) e ∙ ap (λ (x : State). record { answer = Refused (firstOf (restartRows v m)); state = x }) et, refl)
+      rw (ne-eqb (firstOf (restartRows v m)) 0 (λ z. ne (e ∙ z))) (
+        ap (λ (k : ℕ). record { answer = Refused k; state = t }) e
+            ∙ ap (λ (x : State). record { answer = Refused (firstOf (restartRows v m)); state = x }) et,
+        refl,
+      )
 
   scan-clean : firstOf (restartRows v m) ≡ 0 → scanRefusal v ≡ 0
   unfolding restartRows
   scan-clean h =
       let own : Numbered (restartRows v m) = (eqb-false 1 0 refl, (eqb-false 2 0 refl, (eqb-false 17 0 refl, (eqb-false 18 0 refl, tt)))) in
       let none = none-at (restartRows v m) own h in
-      clean v (not-false (validVolume v) (none 0)) (not-false (validLog (geometryOf v) v) (none 2)) (not-false (validNotes (geometryOf v) v) (none 3))
+      clean v (not-false (validVolume v) (none 0)) (not-false (validLog (geometryOf v) v) (none 2))
+      (not-false (validNotes (geometryOf v) v) (none 3))
 
-  pub done : (scanned : Scanned) (t : State) (w : List ℕ) → scanned .refusal ≡ scanRefusal v → (scanned .refusal ≡ 0 → scanned ≡ scannedOf v)
+  pub done : (scanned : Scanned) (t : State) (w : List ℕ) → scanned .refusal ≡ scanRefusal v
+      → (scanned .refusal ≡ 0 → scanned ≡ scannedOf v)
       → firstOf (restartRows v m) ≡ 0
       → t ≡ resumedState scanned
       → w ≡ replicate (length m) 0

@@ -6,4 +6,11 @@ use Rattle.model.specs.declared.state.State.{State}
 use Rattle.index.specs.declared.Scanned.{Scanned}
 
 abbrev pub resumedState : Scanned → State
-resumedState x = record { durable = x .durable; pending = 0; notes = x .notes; note = Absent; frames = replicate 16 emptyFrame; index = x .index }
+resumedState x = record {
+  durable = x .durable;
+  pending = 0;
+  notes = x .notes;
+  note = Absent;
+  frames = replicate 16 emptyFrame;
+  index = x .index;
+}

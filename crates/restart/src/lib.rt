@@ -41,9 +41,8 @@ fn resumed(scan: Scanned) -> State
     }
 }
 
-// Restarts from a volume.
-// Ruled out: records of before the restart left in the memory (tried); a durable count that is the notes' (tried); every
-// call refused (tried); a refusal that gives a state, or zeroes the memory.
+// Restarts from a volume. Ruled out: records of before the restart left in the memory (tried); a durable count that is
+// the notes' (tried); every call refused (tried); a refusal that gives a state, or zeroes the memory.
 pub fn restart(volume: &[u8], memory: &mut [u8]) -> Reply
     ensures reply { λ r. ⌜ r ≡ replyOf (restartOf (now (volume .entry)) (now (memory .entry))) ⌝ }
     ensures memory { λ _. ⌜ now (memory .exit) ≡ restartOf (now (volume .entry)) (now (memory .entry)) .memory ⌝ }

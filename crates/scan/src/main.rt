@@ -1,7 +1,7 @@
 // The program of a field engineer: reads one volume of at most 32,768 bytes from standard input and prints, a line for
-// each page, how Inspect found it: a page that the log can no longer rebuild does not hide the others. Any other refusal, or a longer
-// input, is the only line. All that matters is in `inspect`, which is proved; this file only prints. What room is left goes
-// to standard error, behind the last page's line.
+// each page, how Inspect found it: a page that the log can no longer rebuild does not hide the others. Any other
+// refusal, or a longer input, is the only line. All that matters is in `inspect`, which is proved; this file only
+// prints. What room is left goes to standard error, behind the last page's line.
 mod room;
 
 use libc::STDIN_FILENO;
@@ -22,7 +22,8 @@ fn print_repair(page: u32, r: Repair) {
     say(b"\n");
 }
 
-// Prints the line of a page without a repair: blank, or lost, which does not hide the others; false where the volume is refused.
+// Prints the line of a page without a repair: blank, or lost, which does not hide the others; false where the volume is
+// refused.
 fn print_unserved(page: u32, n: u32) -> bool {
     if n == 7 {
         number(page);

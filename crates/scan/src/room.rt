@@ -2,12 +2,12 @@
 // notes stored before 14, and which page stands in the way then. In a ring it is the page whose record, or note, stands
 // whole in the slot that comes next and is not spare. Counted as if every new record were forced and no such page were
 // backed up or written meanwhile, which would make room for more.
-use codec::checksum;
 use codec::field;
 use index::rows;
 use libc::STDERR_FILENO;
 use model::geometry::Geometry;
 use model::state::Entry;
+use sums::checksum;
 use volume::heading;
 use volume::place;
 use volume::ring;

@@ -75,7 +75,8 @@ pub frame-is : (g : Geometry) (count : ℕ) (table : List Frame) (index : List E
     → r ≡ frameIn g count table index i
 frame-is g count table index i last only r eo el er =
     er
-    ∙ given g count i (getD table i emptyFrame) only (soleIn table i) last (entryOf index (getD table i emptyFrame .page) .last) eo el ∙ frame-once g count i (getD table i emptyFrame) (firstIn table i) (entryOf index (getD table i emptyFrame .page) .last)
+    ∙ given g count i (getD table i emptyFrame) only (soleIn table i) last (entryOf index (getD table i emptyFrame .page) .last) eo el
+    ∙ frame-once g count i (getD table i emptyFrame) (firstIn table i) (entryOf index (getD table i emptyFrame .page) .last)
 
 module _ (g : Geometry) (s : State) where
   frames-are : (count : ℕ) → every 16 (frameIn g count (s .frames) (s .index)) ≡ every 16 (frameFits g count s)

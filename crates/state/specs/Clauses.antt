@@ -62,4 +62,5 @@ keptIn table page e = eqb (e .last) (e .durable) || ltb 0 (holderFrom 0 page tab
 abbrev pub countClauses : Geometry → ℕ → ℕ → ℕ → PendingNote → Bool
 countClauses g durable pending notes p =
     all
-    (leb (durable + pending) (most g) ∷ leb pending 16 ∷ leb notes (mostNotes g) ∷ pendingNoteFits g notes durable p ∷ [])
+    (leb (durable + pending) (most g) ∷ leb pending 16 ∷ leb notes (mostNotes g)
+    ∷ pendingNoteFits g notes durable p ∷ [])

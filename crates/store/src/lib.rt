@@ -41,7 +41,8 @@ impl Store {
     // another length than theirs; the first heading.
     pub fn make(volume: &mut [u8], pages: u32, slots: u32, records: u32, notes: u32) -> Answer
         ensures answer { λ r. ⌜ r ≡ makeOf Second (now (volume .entry)) pages slots records notes .answer ⌝ }
-        ensures volume { λ _. ⌜ now (volume .exit) ≡ makeOf Second (now (volume .entry)) pages slots records notes .volume ⌝ }
+        ensures volume { λ _. ⌜ now (volume .exit)
+            ≡ makeOf Second (now (volume .entry)) pages slots records notes .volume ⌝ }
     {
         volume::make::make(volume, pages, slots, records, notes)
     }
@@ -50,7 +51,8 @@ impl Store {
     // counts that Make takes.
     pub fn make_first(volume: &mut [u8], pages: u32, slots: u32, records: u32, notes: u32) -> Answer
         ensures answer { λ r. ⌜ r ≡ makeOf First (now (volume .entry)) pages slots records notes .answer ⌝ }
-        ensures volume { λ _. ⌜ now (volume .exit) ≡ makeOf First (now (volume .entry)) pages slots records notes .volume ⌝ }
+        ensures volume { λ _. ⌜ now (volume .exit)
+            ≡ makeOf First (now (volume .entry)) pages slots records notes .volume ⌝ }
     {
         volume::make::make_first(volume, pages, slots, records, notes)
     }
@@ -98,8 +100,8 @@ impl Store {
         }
     }
 
-    // Begins a blank page in a frame. Ruled out: 12 on an empty log; a record given that will displace one that is still
-    // needed; a page with a pending change that leaves its frame.
+    // Begins a blank page in a frame. Ruled out: 12 on an empty log; a record given that will displace one that is
+    // still needed; a page with a pending change that leaves its frame.
     pub fn begin(
         self,
         volume: &[u8],
@@ -220,8 +222,8 @@ impl Store {
         wrap(persist::note::note(s, volume, memory))
     }
 
-    // Begins to carry a volume over: the first heading becomes the third. Ruled out: the second heading stored at once; done
-    // on a volume that has another heading than the first.
+    // Begins to carry a volume over: the first heading becomes the third. Ruled out: the second heading stored at once;
+    // done on a volume that has another heading than the first.
     pub fn start_carry(self, volume: &mut [u8], memory: &[u8]) -> Returned
         ensures outcome { λ r.
             ⌜ r ≡ wrapped (replyOf (startCarryOf (now (volume .entry)) (now (memory .entry)) (self .state))) ⌝ }
@@ -234,8 +236,8 @@ impl Store {
         wrap(convert::start::start(s, volume, memory))
     }
 
-    // Gives the first image that passes only the old sum the byte sum. Ruled out: a failing image sealed; Nothing with such
-    // an image left.
+    // Gives the first image that passes only the old sum the byte sum. Ruled out: a failing image sealed; Nothing with
+    // such an image left.
     pub fn restamp(self, volume: &mut [u8], memory: &[u8]) -> Returned
         ensures outcome { λ r.
             ⌜ r ≡ wrapped (replyOf (restampOf (now (volume .entry)) (now (memory .entry)) (self .state))) ⌝ }
@@ -248,8 +250,8 @@ impl Store {
         wrap(convert::restamp::restamp(s, volume, memory))
     }
 
-    // Ends it: the second heading. Ruled out: done while an image passes only the old sum; 20 on a volume that has another
-    // heading.
+    // Ends it: the second heading. Ruled out: done while an image passes only the old sum; 20 on a volume that has
+    // another heading.
     pub fn finish_carry(self, volume: &mut [u8], memory: &[u8]) -> Returned
         ensures outcome { λ r.
             ⌜ r ≡ wrapped (replyOf (finishCarryOf (now (volume .entry)) (now (memory .entry)) (self .state))) ⌝ }

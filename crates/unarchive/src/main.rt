@@ -1,7 +1,7 @@
-// What a log archive holds: reads one archive of at most 65,792 bytes from standard input, rebuilds every page of it and
-// prints a line for each: the page, and the number of its last record; or that it is blank. An archive that breaks its
-// rules, or a longer input, is the only line, `REFUSED 22`. All that matters is in `extract`, which is proved; this file
-// only prints.
+// What a log archive holds: reads one archive of at most 65,792 bytes from standard input, rebuilds every page of it
+// and prints a line for each: the page, and the number of its last record; or that it is blank. An archive that breaks
+// its rules, or a longer input, is the only line, `REFUSED 22`. All that matters is in `extract`, which is proved; this
+// file only prints.
 use codec::field;
 use libc::STDIN_FILENO;
 use model::answer::Answer;

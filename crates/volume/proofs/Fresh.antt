@@ -26,7 +26,8 @@ over-zeros k m n ys r e =
     let head : take k (zeros n ++ r) ≡ zeros k = take-append-le k (zeros n) r (omega arith) ∙ take-zeros k n (omega arith) in
     let rest : n - (k + length ys) ≡ m = omega arith in
     let tail : drop (k + length ys) (zeros n ++ r) ≡ zeros m ++ r =
-    drop-append-le (k + length ys) (zeros n) r (omega arith) ∙ ap (λ (l : List ℕ). l ++ r) (drop-zeros (k + length ys) n (omega arith) ∙ ap zeros rest) in
+    drop-append-le (k + length ys) (zeros n) r (omega arith)
+    ∙ ap (λ (l : List ℕ). l ++ r) (drop-zeros (k + length ys) n (omega arith) ∙ ap zeros rest) in
     rw (head, tail)
 
 -- a count of four bytes
@@ -34,8 +35,10 @@ count-over : (k m n c : ℕ) (r : List ℕ) → n ≡ k + 4 + m → splice (zero
 count-over k m n c r e = over-zeros k m n (bytesOf 4 c) r (rw bytesOf-length e)
 
 -- zeros, and then each heading from the last one down
-pub fresh : (h : Heading) (p b l n k : ℕ) (v₀ v₁ v₂ v₃ v₄ v₅ : List ℕ) → k ≡ lengthFor p b l n → v₀ ≡ zeros k → v₁ ≡ splice v₀ (noteCountAt p b l) (bytesOf 4 n)
-    → v₂ ≡ splice v₁ (recordCountAt p b) (bytesOf 4 l) → v₃ ≡ splice v₂ (slotCountAt p) (bytesOf 4 b) → v₄ ≡ splice v₃ 4 (bytesOf 4 p) → v₅ ≡ splice v₄ 0 (magic h)
+pub fresh : (h : Heading) (p b l n k : ℕ) (v₀ v₁ v₂ v₃ v₄ v₅ : List ℕ) → k ≡ lengthFor p b l n → v₀ ≡ zeros k
+    → v₁ ≡ splice v₀ (noteCountAt p b l) (bytesOf 4 n)
+    → v₂ ≡ splice v₁ (recordCountAt p b) (bytesOf 4 l) → v₃ ≡ splice v₂ (slotCountAt p) (bytesOf 4 b) → v₄ ≡ splice v₃ 4 (bytesOf 4 p)
+    → v₅ ≡ splice v₄ 0 (magic h)
     → v₅ ≡ emptyVolume h p b l n
 unfolding emptyVolume
 fresh h p b l n k v₀ v₁ v₂ v₃ v₄ v₅ ek e₀ e₁ e₂ e₃ e₄ e₅ =
@@ -45,11 +48,14 @@ fresh h p b l n k v₀ v₁ v₂ v₃ v₄ v₅ ek e₀ e₁ e₂ e₃ e₄ e₅
     let pages : List ℕ = bytesOf 4 p ++ (zeros (256 * p) ++ slots) in
     let s₁ : v₁ ≡ zeros (noteCountAt p b l) ++ notes =
     e₁ ∙ ap (λ (v : List ℕ). splice v (noteCountAt p b l) (bytesOf 4 n)) (e₀ ∙ sym (append-nil (zeros k)))
-    ∙ count-over (noteCountAt p b l) (16 * n) k n [] (omega arith) ∙ ap (λ (r : List ℕ). zeros (noteCountAt p b l) ++ (bytesOf 4 n ++ r)) (append-nil (zeros (16 * n))) in
+    ∙ count-over (noteCountAt p b l) (16 * n) k n [] (omega arith)
+    ∙ ap (λ (r : List ℕ). zeros (noteCountAt p b l) ++ (bytesOf 4 n ++ r)) (append-nil (zeros (16 * n))) in
     let s₂ : v₂ ≡ zeros (recordCountAt p b) ++ records =
-    e₂ ∙ ap (λ (v : List ℕ). splice v (recordCountAt p b) (bytesOf 4 l)) s₁ ∙ count-over (recordCountAt p b) (64 * l) (noteCountAt p b l) l notes (omega arith) in
+    e₂ ∙ ap (λ (v : List ℕ). splice v (recordCountAt p b) (bytesOf 4 l)) s₁
+    ∙ count-over (recordCountAt p b) (64 * l) (noteCountAt p b l) l notes (omega arith) in
     let s₃ : v₃ ≡ zeros (slotCountAt p) ++ slots =
-    e₃ ∙ ap (λ (v : List ℕ). splice v (slotCountAt p) (bytesOf 4 b)) s₂ ∙ count-over (slotCountAt p) (256 * b) (recordCountAt p b) b records (omega arith) in
+    e₃ ∙ ap (λ (v : List ℕ). splice v (slotCountAt p) (bytesOf 4 b)) s₂
+    ∙ count-over (slotCountAt p) (256 * b) (recordCountAt p b) b records (omega arith) in
     let s₄ : v₄ ≡ zeros 4 ++ pages =
     e₄ ∙ ap (λ (v : List ℕ). splice v 4 (bytesOf 4 p)) s₃ ∙ count-over 4 (256 * p) (slotCountAt p) p slots (omega arith) in
     e₅ ∙ ap (λ (v : List ℕ). splice v 0 (magic h)) s₄ ∙ over-zeros 0 0 4 (magic h) pages refl
@@ -68,7 +74,8 @@ module _ (v : List ℕ) (h : Heading) (p b l n : ℕ) (c : Bool) (k : ℕ) (ec :
   pub make-fits : not (c && eqb (length v) k) ≡ false → length v ≡ lengthFor p b l n
   make-fits t = eqb-true _ _ (and-right c (eqb (length v) k) (not-false _ t)) ∙ ek
 
-  pub make-done : not (c && eqb (length v) k) ≡ false → (Done ≡ makeOf h v p b l n .answer) × (emptyVolume h p b l n ≡ makeOf h v p b l n .volume)
+  pub make-done : not (c && eqb (length v) k) ≡ false
+      → (Done ≡ makeOf h v p b l n .answer) × (emptyVolume h p b l n ≡ makeOf h v p b l n .volume)
   unfolding makeOf makeRows
   make-done t =
       let e : (validCounts p b l n && eqb (length v) (lengthFor p b l n)) ≡ true = sym tested ∙ not-false _ t in

@@ -1,5 +1,6 @@
 // What a volume's heading says, and whether heading, counts and length are right. Reads of any bytes are safe.
 ghost use mathlib.Core.Path.{_≡_};
+ghost use Rattle.model.specs.Bytes.{byteAt};
 ghost use Rattle.model.specs.Geometry.{magic, magicOf, headed, knownMagic, lengthFor, geometryOf, validCounts, validVolume};
 use codec::field;
 use codec::part;
@@ -39,11 +40,13 @@ pub fn headed(v: &[u8], tag: u8) -> bool
     part::starts(v, &bytes)
 }
 
-// The volume starts with one of the three headings.
-fn known(v: &[u8]) -> bool
+// The volume, with this tag, starts with one of the three headings: its bytes are compared once.
+fn known(v: &[u8], tag: u8) -> bool
+    requires { ⌜ tag ≡ byteAt (now v) 3 ⌝ }
     ensures { λ r. ⌜ r ≡ knownMagic (now (v .entry)) ⌝ }
 {
-    headed(v, FIRST_TAG) | (headed(v, SECOND_TAG) | headed(v, CARRY_TAG))
+    let one = (tag == FIRST_TAG) | ((tag == SECOND_TAG) | (tag == CARRY_TAG));
+    one & headed(v, tag)
 }
 
 // The geometry; where the volume is not valid the numbers mean nothing.
@@ -81,14 +84,19 @@ pub fn size(p: u32, b: u32, l: u32, n: u32) -> usize
     20 + 256 * (p as usize) + 256 * (b as usize) + 64 * (l as usize) + 16 * (n as usize)
 }
 
+// Heading, counts and length are right, of a volume with this geometry.
+pub fn sound(v: &[u8], g: Geometry) -> bool
+    requires { ⌜ g ≡ geometryOf (now v) ⌝ }
+    ensures { λ r. ⌜ r ≡ validVolume (now (v .entry)) ⌝ }
+{
+    let length = size(g.pages, g.slots, g.records, g.notes);
+    let right = counts(g.pages, g.slots, g.records, g.notes) & (v.len() == length);
+    known(v, g.tag) & right
+}
+
 // Heading, counts and length are right.
 pub fn valid(v: &[u8]) -> bool
     ensures { λ r. ⌜ r ≡ validVolume (now (v .entry)) ⌝ }
 {
-    if !known(v) {
-        return false;
-    }
-    let g = geometry(v);
-    let length = size(g.pages, g.slots, g.records, g.notes);
-    counts(g.pages, g.slots, g.records, g.notes) & (v.len() == length)
+    sound(v, geometry(v))
 }

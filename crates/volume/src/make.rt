@@ -29,7 +29,8 @@ fn write(v: &mut [u8], h: Heading, p: u32, b: u32, l: u32, n: u32)
 
 // Makes a volume under a heading with these counts, if they may be and its length is theirs.
 fn make_under(v: &mut [u8], h: Heading, p: u32, b: u32, l: u32, n: u32) -> Answer
-    ensures { λ r. ⌜ (r ≡ makeOf h (now (v .entry)) p b l n .answer) × (now (v .exit) ≡ makeOf h (now (v .entry)) p b l n .volume) ⌝ }
+    ensures { λ r. ⌜ (r ≡ makeOf h (now (v .entry)) p b l n .answer)
+        × (now (v .exit) ≡ makeOf h (now (v .entry)) p b l n .volume) ⌝ }
 {
     let fits = heading::counts(p, b, l, n) & (v.len() == heading::size(p, b, l, n));
     if !fits {
@@ -41,14 +42,16 @@ fn make_under(v: &mut [u8], h: Heading, p: u32, b: u32, l: u32, n: u32) -> Answe
 
 // Make: the second heading.
 pub fn make(v: &mut [u8], p: u32, b: u32, l: u32, n: u32) -> Answer
-    ensures { λ r. ⌜ (r ≡ makeOf Second (now (v .entry)) p b l n .answer) × (now (v .exit) ≡ makeOf Second (now (v .entry)) p b l n .volume) ⌝ }
+    ensures { λ r. ⌜ (r ≡ makeOf Second (now (v .entry)) p b l n .answer)
+        × (now (v .exit) ≡ makeOf Second (now (v .entry)) p b l n .volume) ⌝ }
 {
     make_under(v, Heading::Second, p, b, l, n)
 }
 
 // The Make of the first heading.
 pub fn make_first(v: &mut [u8], p: u32, b: u32, l: u32, n: u32) -> Answer
-    ensures { λ r. ⌜ (r ≡ makeOf First (now (v .entry)) p b l n .answer) × (now (v .exit) ≡ makeOf First (now (v .entry)) p b l n .volume) ⌝ }
+    ensures { λ r. ⌜ (r ≡ makeOf First (now (v .entry)) p b l n .answer)
+        × (now (v .exit) ≡ makeOf First (now (v .entry)) p b l n .volume) ⌝ }
 {
     make_under(v, Heading::First, p, b, l, n)
 }

@@ -32,8 +32,9 @@ fn before(n: u32) -> u32
     if n == 0 { 0 } else { n - 1 }
 }
 
-// A number of items before, in turns of `slots`: before the first turn there is nothing to divide, and a division is slow.
-fn turned(b: u32, slots: u32) -> u32
+// A number of items before, in turns of `slots`: before the first turn there is nothing to divide, and a division is
+// slow.
+pub fn turned(b: u32, slots: u32) -> u32
     requires { ⌜ 1 ≤ slots ⌝ }
     ensures { λ r. ⌜ (r ≡ b % slots) × (r < slots) ⌝ }
 {

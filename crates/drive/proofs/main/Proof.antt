@@ -7,7 +7,8 @@ use Rattle.drive.proofs.main.Statement.{statement}
 use Rattle.drive.proofs.main.Tie as tie
 
 abbrev Inv-loop : tie.InvT-loop
-Inv-loop volume₀ memory₀ lent₀ second₀ d₀ left₀ volume memory lent second d left = (length volume ≡ 131200) × (length memory ≡ 5376) × (length lent ≡ 65920) × (length second ≡ 131200)
+Inv-loop volume₀ memory₀ lent₀ second₀ d₀ left₀ volume memory lent second d left =
+    (length volume ≡ 131200) × (length memory ≡ 5376) × (length lent ≡ 65920) × (length second ≡ 131200)
 
 abbrev μ-loop : tie.MeasureT-loop
 μ-loop volume₀ memory₀ lent₀ second₀ d₀ left₀ volume memory lent second d left = left
@@ -16,7 +17,12 @@ empty-requires : tie.Need-empty-requires Inv-loop μ-loop
 empty-requires c κs = search needs
 
 loop-holds : tie.Need-loop-holds Inv-loop μ-loop
-loop-holds c = (length-replicate {A = ℕ} 131200 0, length-replicate {A = ℕ} 5376 0, length-replicate {A = ℕ} 65920 0, length-replicate {A = ℕ} 131200 0)
+loop-holds c = (
+  length-replicate {A = ℕ} 131200 0,
+  length-replicate {A = ℕ} 5376 0,
+  length-replicate {A = ℕ} 65920 0,
+  length-replicate {A = ℕ} 131200 0,
+)
 
 slice-aggregate-read-full : tie.Need-slice-aggregate-read-full Inv-loop μ-loop
 slice-aggregate-read-full c = search needs

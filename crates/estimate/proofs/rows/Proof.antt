@@ -13,7 +13,7 @@ use Rattle.model.specs.Forecast.{counted, figureOf}
 use Rattle.repair.specs.Walked.{Ready}
 use Rattle.estimate.specs.Figures.{figureFor}
 use Rattle.estimate.proofs.Fills.{Filling, none-filled, one-filled, all-filled}
-use Rattle.estimate.proofs.Outcomes.{few, page-ready, page-figured}
+use Rattle.estimate.proofs.Outcomes.{few, page-ready, page-whole, page-figured}
 use Rattle.estimate.proofs.rows.Statement.{statement}
 use Rattle.estimate.proofs.rows.Tie as tie
 use Rattle.estimate.proofs.rows.Reads as reads
@@ -38,11 +38,14 @@ mul-e c = omega (arith, few _ _ (c .before .before .before .pre), c .loop-test .
 array-copy-out-e : tie.Need-array-copy-out-e Inv-loop μ-loop
 array-copy-out-e c = omega (arith, few _ _ (c .before .before .before .pre), c .loop-test .taken)
 
-add-walk : tie.Need-add-walk Inv-loop μ-loop
-add-walk c = search needs
+add-follow : tie.Need-add-follow Inv-loop μ-loop
+add-follow c = search needs
 
-walk-requires : tie.Need-walk-requires Inv-loop μ-loop
-walk-requires c κs = page-ready _ _ _ _ (c .before .before .before .before .pre) (c .before .before .loop .i) (c .before .loop-test .taken)
+follow-requires : tie.Need-follow-requires Inv-loop μ-loop
+follow-requires c κs =
+    let p = c .before .before .before .before .pre in
+    let i = c .before .before .loop .i in
+    (page-ready _ _ _ _ p i (c .before .loop-test .taken), page-whole _ _ _ _ p i)
 
 figure-requires : tie.Need-figure-requires Inv-loop μ-loop
 figure-requires c κs = search needs
@@ -51,7 +54,8 @@ mul-pages : tie.Need-mul-pages Inv-loop μ-loop
 mul-pages c = omega (arith, few _ _ (c .before .before .before .before .before .before .pre), c .before .before .before .loop-test .taken)
 
 array-set-from-pages : tie.Need-array-set-from-pages Inv-loop μ-loop
-array-set-from-pages c = omega (arith, few _ _ (c .before .before .before .before .before .before .pre), c .before .before .before .loop-test .taken)
+array-set-from-pages c =
+    omega (arith, few _ _ (c .before .before .before .before .before .before .pre), c .before .before .before .loop-test .taken)
 
 add-i : tie.Need-add-i Inv-loop μ-loop
 add-i c = search needs
@@ -67,7 +71,7 @@ loop-again c =
     let k = c .before .before .before .before .loop in (
       omega (arith, t),
       one-filled _ (counted 0) 64 (k .pages) (k .i) _ (k .inv .1) (omega (arith, few _ _ p, t))
-          (page-figured (a .g) (now (a .volume)) (a .first) (a .t4) (k .i) _ _ (c .before .walk .ensures) (c .figure .ensures)),
+          (page-figured (a .g) (now (a .volume)) (a .first) (a .t4) (k .i) _ _ (c .before .follow .ensures) (c .figure .ensures)),
     )
 
 returns : tie.Need-returns Inv-loop μ-loop
@@ -88,8 +92,8 @@ rows-spec =
     cast-k
     mul-e
     array-copy-out-e
-    add-walk
-    walk-requires
+    add-follow
+    follow-requires
     figure-requires
     mul-pages
     array-set-from-pages

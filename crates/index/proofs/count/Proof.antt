@@ -3,6 +3,9 @@ use borrow.Author.Needs.{needs}
 use Rattle.index.proofs.count.Statement.{statement}
 use Rattle.index.proofs.count.Tie as tie
 
+geometry-requires : tie.Need-geometry-requires
+geometry-requires c κs = search needs
+
 slice-aggregate-fill : tie.Need-slice-aggregate-fill
 slice-aggregate-fill c = search needs
 
@@ -25,6 +28,7 @@ pub count-spec : {M : Type 1} → statement M
 count-spec =
     tie.close
     (tie.spec
+    geometry-requires
     slice-aggregate-fill
     slice-aggregate-fill-2
     slice-aggregate-fill-3

@@ -6,6 +6,7 @@ use borrow.Author.Tests.{not-true, not-false, eqb-false}
 use denote.Ref.{now}
 use lib.ListN.{length, length-replicate}
 use Rattle.model.specs.Geometry.{validVolume}
+use Rattle.index.specs.Sections.{Sized}
 use Rattle.index.proofs.ColumnLaws.{blank-long}
 use Rattle.index.proofs.Whole.{volume-refused, refuses, sized, log-refused, notes-refused, scan-clean}
 use borrow.Author.Needs.{needs}
@@ -19,30 +20,33 @@ use Rattle.index.proofs.log.scan.Reads as log-scan-reads
 use Rattle.index.proofs.notes.run.Reads as notes-run-reads
 use Rattle.index.proofs.notes.scan.Reads as notes-scan-reads
 use Rattle.index.proofs.refused.Reads as refused-reads
-use Rattle.volume.proofs.heading.geometry.Reads as geometry-reads
-use Rattle.volume.proofs.heading.valid.Reads as valid-reads
+use Rattle.volume.proofs.heading.sound.Reads as sound-reads
+
+abbrev entry : tie.Else1 → tie.Start
+entry c = c .before .before .before .before .before .before .before
 
 -- past the first test
-opened : (c : tie.Else1) → validVolume (now (c .before .before .before .before .before .before .before .args .volume)) ≡ true
-opened c = sym (c .before .valid .ensures) ∙ not-false _ (c .if1 .left)
+opened : (c : tie.Else1) → validVolume (now (entry c .args .volume)) ≡ true
+opened c = sym (c .before .sound .ensures) ∙ not-false _ (c .if1 .left)
 
-valid-requires : tie.Need-valid-requires
-valid-requires c κs = search needs
+size : (c : tie.Else1) → Sized (entry c .args .g) (now (entry c .args .volume))
+size c = sized _ (opened c) _ (entry c .pre .0)
+
+sound-requires : tie.Need-sound-requires
+sound-requires c κs = c .before .before .before .before .before .pre .0
 
 refused-requires : tie.Need-refused-requires
 refused-requires c κs = search needs
 
 returns : tie.Need-returns
-returns c = refuses _ _ _ (c .refused .ensures) (volume-refused _ (sym (c .before .before .valid .ensures) ∙ not-true _ (c .before .if1 .taken))) (eqb-false 1 0 refl)
-
-geometry-requires : tie.Need-geometry-requires
-geometry-requires c κs = search needs
+returns c = refuses _ _ _ (c .refused .ensures)
+    (volume-refused _ (sym (c .before .before .sound .ensures) ∙ not-true _ (c .before .if1 .taken))) (eqb-false 1 0 refl)
 
 run-requires : tie.Need-run-requires
-run-requires c κs = sized _ (opened (c .before)) _ (c .geometry .ensures)
+run-requires c κs = size c
 
 scan-requires : tie.Need-scan-requires
-scan-requires c κs = (sized _ (opened (c .before .before .before)) _ (c .before .before .geometry .ensures), (c .before .run .ensures, c .before .before .before .before .before .before .before .before .before .before .pre .0))
+scan-requires c κs = let e = c .before .before in (size e, (c .before .run .ensures, entry e .pre .1 .0))
 
 refused-requires-2 : tie.Need-refused-requires-2
 refused-requires-2 c κs = search needs
@@ -51,25 +55,40 @@ same-length : tie.Need-same-length
 same-length c = search needs
 
 returns-2 : tie.Need-returns-2
-returns-2 c = refuses _ _ _ (c .refused2 .ensures) (log-refused _ (opened (c .before .before .before .before .before .before .before .before)) _ (c .before .before .before .before .before .before .before .geometry .ensures) _ (c .before .before .before .before .scan .ensures .0) (not-true _ (c .before .if2 .taken))) (eqb-false 17 0 refl)
+returns-2 c =
+    let e = c .before .before .before .before .before .before .before in
+    refuses _ _ _ (c .refused2 .ensures) (log-refused _ (opened e) _ (entry e .pre .0) _
+    (c .before .before .before .before .scan .ensures .0) (not-true _ (c .before .if2 .taken))) (eqb-false 17 0 refl)
 
 run-requires-2 : tie.Need-run-requires-2
-run-requires-2 c κs = sized _ (opened (c .before .before .before .before .before .before .before)) _ (c .before .before .before .before .before .before .geometry .ensures)
+run-requires-2 c κs = size (c .before .before .before .before .before .before)
 
 scan-requires-2 : tie.Need-scan-requires-2
-scan-requires-2 c κs = (sized _ (opened (c .before .before .before .before .before .before .before .before .before .before .before)) _ (c .before .before .before .before .before .before .before .before .before .before .geometry .ensures), ((c .before .before .before .before .before .before .before .before .before .run .ensures, c .before .before .before .run2 .ensures), c .before .before .before .before .before .before .before .before .before .before .before .before .before .before .before .before .before .before .pre .1))
+scan-requires-2 c κs = let e = c .before .before .before .before .before .before .before .before .before .before in (
+  size e,
+  (
+    (c .before .before .before .before .before .before .before .before .before .run .ensures, c .before .before .before .run2 .ensures),
+    entry e .pre .1 .1,
+  ),
+)
+
+cast-ordered : tie.Need-cast-ordered
+cast-ordered c = search needs
 
 ordered-requires : tie.Need-ordered-requires
 ordered-requires c κs =
-    let s = c .before .before .before .before .before .before .before .before .before .before .before .before .before .before .before .before .before .before .before .before .before .before .before .before .before .before .before .before .before in
-    let b = blank-long _ _ _ (s .pre .1) in
-    let k = c .before .before .before .before .before .before .before .before .before .before .scan2 .kept in
-    record {
-      last-wide = c .before .before .before .before .before .before .before .before .before .before .before .before .before .before .before .before .before .before .scan .kept .1 .1 .1 .0 ∙ ap length (s .pre .0) ∙ length-replicate {A = ℕ} 64 0;
-      written-wide = k .1 .1 .1 .1 .0 ∙ b .written-long;
-      slots-wide = k .1 .1 .1 .1 .1 .0 ∙ b .slots-long;
-      backup-wide = k .1 .1 .1 .1 .1 .1 .0 ∙ b .backup-long;
-    }
+    let e = c .before .before .before .before .before .before .before .before .before .before .before .before .before .before .before .before .before .before .before .before .before .before in
+    let s = entry e in
+    let b = blank-long _ _ _ (s .pre .1 .1) in
+    let k = c .before .before .before .before .before .before .before .before .before .before .before .scan2 .kept in (
+      record {
+        last-wide = c .before .before .before .before .before .before .before .before .before .before .before .before .before .before .before .before .before .before .before .scan .kept .1 .1 .1 .0 ∙ ap length (s .pre .1 .0) ∙ length-replicate {A = ℕ} 64 0;
+        written-wide = k .1 .1 .1 .1 .0 ∙ b .written-long;
+        slots-wide = k .1 .1 .1 .1 .1 .0 ∙ b .slots-long;
+        backup-wide = k .1 .1 .1 .1 .1 .1 .0 ∙ b .backup-long;
+      },
+      size e .pages,
+    )
 
 refused-requires-3 : tie.Need-refused-requires-3
 refused-requires-3 c κs = search needs
@@ -88,8 +107,11 @@ same-length-5 c = search needs
 
 returns-3 : tie.Need-returns-3
 returns-3 c =
+    let e = c .before .before .before .before .before .before .before .before .before .before .before .before .before .before .before .before .before .before .before .before .before .before .before .before .before in
+    let l = c .before .before .before .before .before .before .before .before .before .before .before .before .before .before .before .before .before .before .before .before .before .before .scan .ensures in
+    let n = c .before .before .before .before .before .before .before .before .before .before .before .before .before .before .scan2 .ensures in
     refuses _ _ _ (c .refused3 .ensures)
-    (notes-refused _ (opened (c .before .before .before .before .before .before .before .before .before .before .before .before .before .before .before .before .before .before .before .before .before .before .before .before .before)) _ (c .before .before .before .before .before .before .before .before .before .before .before .before .before .before .before .before .before .before .before .before .before .before .before .before .geometry .ensures) _ (c .before .before .before .before .before .before .before .before .before .before .before .before .before .before .before .before .before .before .before .before .before .scan .ensures .0) (not-false _ (c .before .before .before .before .before .before .before .before .before .before .before .before .before .before .before .before .before .before .if2 .left)) _ _ _ _ (c .before .before .before .before .before .before .before .before .before .before .before .before .before .before .before .before .before .before .before .before .before .scan .ensures .1) _ (c .before .before .before .before .before .before .before .before .before .before .before .before .before .scan2 .ensures .0) (c .before .before .before .before .before .before .before .before .before .before .before .before .before .scan2 .ensures .1)
+    (notes-refused _ (opened e) _ (entry e .pre .0) _ (l .0) (not-false _ (c .before .before .before .before .before .before .before .before .before .before .before .before .before .before .before .before .before .before .before .if2 .left)) _ _ _ _ (l .1) _ (n .0) (n .1)
     _ (c .before .before .ordered .ensures) (not-true _ (c .before .if3 .taken))) (eqb-false 18 0 refl)
 
 same-length-6 : tie.Need-same-length-6
@@ -106,17 +128,19 @@ same-length-9 c = search needs
 
 returns-4 : tie.Need-returns-4
 returns-4 c =
-    scan-clean _ (opened (c .before .before .before .before .before .before .before .before .before .before .before .before .before .before .before .before .before .before .before .before .before .before .before .before)) _ (c .before .before .before .before .before .before .before .before .before .before .before .before .before .before .before .before .before .before .before .before .before .before .before .geometry .ensures) _ (c .before .before .before .before .before .before .before .before .before .before .before .before .before .before .before .before .before .before .before .before .scan .ensures .0) (not-false _ (c .before .before .before .before .before .before .before .before .before .before .before .before .before .before .before .before .before .if2 .left)) _ _ _ _ (c .before .before .before .before .before .before .before .before .before .before .before .before .before .before .before .before .before .before .before .before .scan .ensures .1) _ (c .before .before .before .before .before .before .before .before .before .before .before .before .scan2 .ensures .0) (c .before .before .before .before .before .before .before .before .before .before .before .before .scan2 .ensures .1)
-    _ (c .before .ordered .ensures) (not-false _ (c .if3 .left)) _ _ (c .before .before .before .before .before .before .before .before .before .before .before .before .before .before .before .before .before .before .before .before .before .before .run .ensures) (c .before .before .before .before .before .before .before .before .before .before .before .before .before .before .before .before .run2 .ensures)
+    let e = c .before .before .before .before .before .before .before .before .before .before .before .before .before .before .before .before .before .before .before .before .before .before .before .before in
+    let l = c .before .before .before .before .before .before .before .before .before .before .before .before .before .before .before .before .before .before .before .before .before .scan .ensures in
+    let n = c .before .before .before .before .before .before .before .before .before .before .before .before .before .scan2 .ensures in
+    scan-clean _ (opened e) _ (entry e .pre .0) _ (l .0) (not-false _ (c .before .before .before .before .before .before .before .before .before .before .before .before .before .before .before .before .before .before .if2 .left)) _ _ _ _ (l .1) _ (n .0) (n .1)
+    _ (c .before .ordered .ensures) (not-false _ (c .if3 .left)) _ _ (c .before .before .before .before .before .before .before .before .before .before .before .before .before .before .before .before .before .before .before .before .before .before .before .run .ensures) (c .before .before .before .before .before .before .before .before .before .before .before .before .before .before .before .before .before .run2 .ensures)
 
 pub fill-spec : {M : Type 1} → statement M
 fill-spec =
     tie.close
     (tie.spec
-    valid-requires
+    sound-requires
     refused-requires
     returns
-    geometry-requires
     run-requires
     scan-requires
     refused-requires-2
@@ -124,6 +148,7 @@ fill-spec =
     returns-2
     run-requires-2
     scan-requires-2
+    cast-ordered
     ordered-requires
     refused-requires-3
     same-length-2

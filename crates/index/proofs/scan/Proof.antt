@@ -4,6 +4,9 @@ use borrow.Author.Needs.{needs}
 use Rattle.index.proofs.scan.Statement.{statement}
 use Rattle.index.proofs.scan.Tie as tie
 
+geometry-requires : tie.Need-geometry-requires
+geometry-requires c κs = search needs
+
 slice-aggregate-fill : tie.Need-slice-aggregate-fill
 slice-aggregate-fill c = search needs
 
@@ -35,12 +38,14 @@ gather-requires : tie.Need-gather-requires
 gather-requires c κs = search needs
 
 returns : tie.Need-returns
-returns c = let f = c .before .before .before .before .before .before .before .before .before .fill in (f .ensures .0, λ z. gives _ _ _ (f .ensures .1 .0 z) (c .gather .ensures _ (f .ensures .1 .1 z)))
+returns c = let f = c .before .before .before .before .before .before .before .before .before .fill in
+    (f .ensures .0, λ z. gives _ _ _ (f .ensures .1 .0 z) (c .gather .ensures _ (f .ensures .1 .1 z)))
 
 pub scan-spec : {M : Type 1} → statement M
 scan-spec =
     tie.close
     (tie.spec
+    geometry-requires
     slice-aggregate-fill
     slice-aggregate-fill-2
     slice-aggregate-fill-3

@@ -9,20 +9,24 @@ use Rattle.inspect.proofs.inspect.Tie as tie
 use Rattle.item.proofs.image.seal.Reads as seal-reads
 
 -- the refusal's number is that of the rows before the walk
-number : (c : tie.After-refusal) → let s = c .before .before .before .before .before .before in c .refusal .result ≡ early (now (s .args .volume)) (s .args .page) (now (s .args .buffer))
+number : (c : tie.After-refusal) → let s = c .before .before .before .before .before .before in
+    c .refusal .result ≡ early (now (s .args .volume)) (s .args .page) (now (s .args .buffer))
 number c =
     let s = c .before .before .before .before .before .before in
-    let f = c .before .before .before .find in
-    refusal-is (now (s .args .volume)) (s .args .page) (now (s .args .buffer)) (f .result) _ _ (f .ensures .0) (c .before .before .geometry .ensures) (f .ensures .1) (c .refusal .ensures)
+    let f = c .before .before .seek in
+    refusal-is (now (s .args .volume)) (s .args .page) (now (s .args .buffer)) (f .result) _ _ (f .ensures .0)
+    (c .before .before .before .geometry .ensures) (f .ensures .1) (c .refusal .ensures)
 
-known : (c : tie.Else1) → let s = c .before .before .before .before .before .before .before in Open (now (s .args .volume)) (s .args .page) (now (s .args .buffer)) (c .before .before .before .geometry .result) (c .before .before .before .before .find .result)
-known c = let f = c .before .before .before .before .find in opened _ _ _ (f .result) _ (f .ensures .0) (c .before .before .before .geometry .ensures) (f .ensures .1) (sym (number (c .before)) ∙ c .if1 .left)
-
-find-requires : tie.Need-find-requires
-find-requires c κs = search needs
+known : (c : tie.Else1) → let s = c .before .before .before .before .before .before .before in Open (now (s .args .volume)) (s .args .page)
+    (now (s .args .buffer)) (c .before .before .before .before .geometry .result) (c .before .before .before .seek .result)
+known c = let f = c .before .before .before .seek in opened _ _ _ (f .result) _ (f .ensures .0)
+    (c .before .before .before .before .geometry .ensures) (f .ensures .1) (sym (number (c .before)) ∙ c .if1 .left)
 
 geometry-requires : tie.Need-geometry-requires
 geometry-requires c κs = search needs
+
+seek-requires : tie.Need-seek-requires
+seek-requires c κs = c .geometry .ensures
 
 refusal-requires : tie.Need-refusal-requires
 refusal-requires c κs = search needs
@@ -30,41 +34,46 @@ refusal-requires c κs = search needs
 returns : tie.Need-returns
 returns c = refused _ _ _ _ (number (c .before)) (c .if1 .taken)
 
-walk-requires : tie.Need-walk-requires
-walk-requires c κs = known c .ready
+follow-requires : tie.Need-follow-requires
+follow-requires c κs = (known c .ready, known c .whole)
 
 below-requires : tie.Need-below-requires
 below-requires c κs = search needs
 
 returns-2 : tie.Need-returns-2
-returns-2 c = below _ _ _ _ (c .before .before .before .before .before .before .before .find .result) (known (c .before .before .before)) _ _ (c .before .before .walk .ensures) (c .before .below .ensures) (c .if2 .taken)
+returns-2 c = below _ _ _ _ (c .before .before .before .before .before .before .seek .result) (known (c .before .before .before)) _ _
+    (c .before .before .follow .ensures) (c .before .below .ensures) (c .if2 .taken)
 
 rebuild-requires : tie.Need-rebuild-requires
-rebuild-requires c κs = let k = known (c .before .before .before .before) in (k .ready, (c .before .before .before .walk .ensures, k .size))
+rebuild-requires c κs = let k = known (c .before .before .before .before) in
+    (k .ready, (c .before .before .before .follow .ensures, k .size))
 
 seal-requires : tie.Need-seal-requires
 seal-requires c κs = let z = known (c .before .before .before .before .before .before .before .before) .size in search needs
 
 answer-requires : tie.Need-answer-requires
-answer-requires c κs = (known (c .before .before .before .before .before .before .before .before .before .before .before) .ready, c .before .before .before .before .before .before .before .before .before .before .walk .ensures)
+answer-requires c κs = (
+  known (c .before .before .before .before .before .before .before .before .before .before .before) .ready,
+  c .before .before .before .before .before .before .before .before .before .before .follow .ensures,
+)
 
 same-length : tie.Need-same-length
 same-length c = search needs
 
 returns-3 : tie.Need-returns-3
 returns-3 c =
-    done _ _ _ _ (c .before .before .before .before .before .before .before .before .before .before .before .before .before .before .before .before .find .result) (known (c .before .before .before .before .before .before .before .before .before .before .before .before)) _ _ _ _ _ (c .before .before .before .before .before .before .before .before .before .before .before .walk .ensures) (c .before .before .before .before .before .before .before .before .before .before .below .ensures) (c .before .before .before .before .before .before .before .before .before .if2 .left) (c .answer .ensures)
+    done _ _ _ _ (c .before .before .before .before .before .before .before .before .before .before .before .before .before .before .before .seek .result) (known (c .before .before .before .before .before .before .before .before .before .before .before .before)) _ _ _ _ _ (c .before .before .before .before .before .before .before .before .before .before .before .follow .ensures) (c .before .before .before .before .before .before .before .before .before .before .below .ensures) (c .before .before .before .before .before .before .before .before .before .if2 .left) (c .answer .ensures)
     (c .before .before .before .before .before .before .before .rebuild .ensures) (c .before .before .before .seal .ensures)
 
 pub inspect-spec : {M : Type 1} → statement M
 inspect-spec =
     tie.close
     (tie.spec
-    find-requires
     geometry-requires
+    seek-requires
     refusal-requires
     returns
-    walk-requires
+    follow-requires
     below-requires
     returns-2
     rebuild-requires

@@ -25,8 +25,10 @@ first-requires-5 c κs = search needs
 returns : tie.Need-returns
 returns c =
     let a = c .before .before .before .before .before .args in
-    chained (eqb (a .scan) 1) (not (eqb (a .size) 256)) (not (within (a .pages) (a .page))) (not (eqb (a .scan) 0)) (eqb (a .durable) 0) (a .scan) _ _ _ _ _
-    (c .before .before .before .before .first .ensures) (c .before .before .before .first2 .ensures) (c .before .before .first3 .ensures) (c .before .first4 .ensures) (c .first5 .ensures)
+    chained (eqb (a .scan) 1) (not (eqb (a .size) 256)) (not (within (a .pages) (a .page))) (not (eqb (a .scan) 0))
+    (eqb (a .durable) 0) (a .scan) _ _ _ _ _
+    (c .before .before .before .before .first .ensures) (c .before .before .before .first2 .ensures) (c .before .before .first3 .ensures)
+    (c .before .first4 .ensures) (c .first5 .ensures)
 
 pub refusal-spec : {M : Type 1} → statement M
 refusal-spec =

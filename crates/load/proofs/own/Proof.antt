@@ -33,7 +33,8 @@ returns c =
     let l = c .before .before .before .before .before in
     let s = l .before .before .before .before in
     own-is (s .args .g) (s .args .count) (s .args .s) (s .args .page) (s .args .frame) _ _ _ _ _ _ _ _ (l .before .before .blank .ensures)
-    (l .before .held .ensures) (l .blocked .ensures) (c .before .before .before .before .first .ensures) (c .before .before .before .first2 .ensures)
+    (l .before .held .ensures) (l .blocked .ensures) (c .before .before .before .before .first .ensures)
+    (c .before .before .before .first2 .ensures)
     (c .before .before .first3 .ensures) (c .before .first4 .ensures) (c .first5 .ensures)
 
 pub own-spec : {M : Type 1} → statement M

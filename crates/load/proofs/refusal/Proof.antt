@@ -22,7 +22,8 @@ first-requires c κs = search needs
 returns : tie.Need-returns
 returns c = λ m e.
     let g = c .before .before .before in
-    early-is _ m _ _ _ _ _ _ _ _ _ (g .before .refusal .ensures m e) (g .geometry .ensures) (c .before .before .frames .ensures) (c .before .own .ensures)
+    early-is _ m _ _ _ _ _ _ _ _ _ (g .before .refusal .ensures m e) (g .geometry .ensures) (c .before .before .frames .ensures)
+    (c .before .own .ensures)
     (c .first .ensures) e
 
 pub refusal-spec : {M : Type 1} → statement M

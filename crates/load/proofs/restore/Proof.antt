@@ -40,7 +40,8 @@ returns c =
     let b = f .before .before .before in (
       c .answer .ensures,
       put-back (now (b .args .memory)) _ _ _ _ (f .frame-at .ensures)
-          (r .rebuild .kept .1 .1 .1 .1 .1 .1 .0 ∙ lent-length (now (b .args .memory)) _ _ (f .frame-at .ensures) (b .pre .1 .1)) (r .rebuild .ensures),
+          (r .rebuild .kept .1 .1 .1 .1 .1 .1 .0 ∙ lent-length (now (b .args .memory)) _ _ (f .frame-at .ensures) (b .pre .1 .1))
+          (r .rebuild .ensures),
     )
 
 pub restore-spec : {M : Type 1} → statement M

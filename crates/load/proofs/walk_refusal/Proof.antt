@@ -22,7 +22,8 @@ first-requires-2 : tie.Need-first-requires-2
 first-requires-2 c κs = search needs
 
 returns : tie.Need-returns
-returns c = tail-is (c .before .before .before .before .args .stop) _ _ _ _ (c .before .before .before .broken .ensures) (c .before .before .below .ensures) (c .before .first .ensures) (c .first2 .ensures)
+returns c = tail-is (c .before .before .before .before .args .stop) _ _ _ _ (c .before .before .before .broken .ensures)
+    (c .before .before .below .ensures) (c .before .first .ensures) (c .first2 .ensures)
 
 pub walk-refusal-spec : {M : Type 1} → statement M
 walk-refusal-spec =

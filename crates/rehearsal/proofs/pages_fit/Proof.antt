@@ -27,7 +27,8 @@ fits-requires c κs = search needs
 returns : tie.Need-returns Inv-loop μ-loop
 returns c =
     let k = c .before .before .before .before in
-    sym (fit-not _ _ (c .before .before .before .loop-test .taken) (sym (c .before .fits2 .ensures) ∙ not-true _ (c .if1 .taken))) ∙ k .loop .inv .1
+    sym (fit-not _ _ (c .before .before .before .loop-test .taken) (sym (c .before .fits2 .ensures) ∙ not-true _ (c .if1 .taken)))
+    ∙ k .loop .inv .1
 
 add-i : tie.Need-add-i Inv-loop μ-loop
 add-i c = search needs
@@ -37,8 +38,11 @@ loop-less c = search needs
 
 loop-again : tie.Need-loop-again Inv-loop μ-loop
 loop-again c =
-    let k = c .before .before .before .before in
-    (search needs, sym (fit-on _ _ (c .before .before .before .loop-test .taken) (sym (c .before .fits2 .ensures) ∙ not-false _ (c .if1 .left))) ∙ k .loop .inv .1)
+    let k = c .before .before .before .before in (
+      search needs,
+      sym (fit-on _ _ (c .before .before .before .loop-test .taken) (sym (c .before .fits2 .ensures) ∙ not-false _ (c .if1 .left)))
+          ∙ k .loop .inv .1,
+    )
 
 returns-2 : tie.Need-returns-2 Inv-loop μ-loop
 returns-2 c = sym (fit-end _ _ (c .loop-test .left)) ∙ c .before .loop .inv .1

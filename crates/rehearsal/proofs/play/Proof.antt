@@ -13,7 +13,8 @@ use Rattle.rehearsal.proofs.play.Statement.{statement}
 use Rattle.rehearsal.proofs.play.Tie as tie
 
 abbrev Inv-loop : tie.InvT-loop
-Inv-loop events t m₀ i₀ m i = (i ≤ length events) × (playFrom t i m (drop i events) ≡ playFrom t 0 idle events) × Bounded (256 * i) (m .pages)
+Inv-loop events t m₀ i₀ m i = (i ≤ length events) × (playFrom t i m (drop i events) ≡ playFrom t 0 idle events)
+    × Bounded (256 * i) (m .pages)
 
 abbrev μ-loop : tie.MeasureT-loop
 μ-loop events t m₀ i₀ m i = length events - i
@@ -59,7 +60,8 @@ loop-again c =
     c .step .ensures ∙ ap (stepOn (a .t) (k .loop .i + 1) (k .loop .m)) (c .before .access .ensures) in (
       search needs,
       ap (λ (m : Rehearsal). playFrom (a .t) (k .loop .i + 1) m (drop (k .loop .i + 1) (now (a .events)))) s
-          ∙ (sym (play-on (now (a .events)) (k .loop .i) (c .before .before .before .loop-test .taken) (a .t) (k .loop .m)) ∙ k .loop .inv .1),
+          ∙ (sym (play-on (now (a .events)) (k .loop .i) (c .before .before .before .loop-test .taken) (a .t) (k .loop .m))
+          ∙ k .loop .inv .1),
       played-more (a .t) (q .3) (q .4) (k .loop .i) (k .loop .m) _ _ (k .loop .inv .2) s,
     )
 

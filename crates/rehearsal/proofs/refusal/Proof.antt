@@ -22,7 +22,8 @@ first-requires-4 c κs = search needs
 returns : tie.Need-returns
 returns c =
     let k = c .before .before .before in
-    refusal-is _ _ _ _ _ _ _ _ _ (k .before .pages-fit .ensures) (k .first .ensures) (c .before .before .first2 .ensures) (c .before .first3 .ensures) (c .first4 .ensures)
+    refusal-is _ _ _ _ _ _ _ _ _ (k .before .pages-fit .ensures) (k .first .ensures) (c .before .before .first2 .ensures)
+    (c .before .first3 .ensures) (c .first4 .ensures)
 
 pub refusal-spec : {M : Type 1} → statement M
 refusal-spec =

@@ -9,10 +9,12 @@ use Rattle.restart.proofs.restart.Statement.{statement}
 use Rattle.restart.proofs.restart.Tie as tie
 
 -- the refusal's number is the table's
-number : (c : tie.After-refusal) → let s = c .before .before .before .before .before in c .refusal .result ≡ firstOf (restartRows (now (s .args .volume)) (now (s .args .memory)))
+number : (c : tie.After-refusal) → let s = c .before .before .before .before .before in
+    c .refusal .result ≡ firstOf (restartRows (now (s .args .volume)) (now (s .args .memory)))
 number c =
     let s = c .before .before .before .before .before in
-    refusal-is (now (s .args .volume)) (now (s .args .memory)) _ _ _ (c .before .before .scan .ensures .0) (c .before .memory .ensures) (c .refusal .ensures)
+    refusal-is (now (s .args .volume)) (now (s .args .memory)) _ _ _ (c .before .before .scan .ensures .0)
+    (c .before .memory .ensures) (c .refusal .ensures)
 
 scan-requires : tie.Need-scan-requires
 scan-requires c κs = search needs
@@ -42,7 +44,8 @@ returns-2 : tie.Need-returns-2
 returns-2 c =
     let f = c .before .before .before in
     let r = f .before .before .before in
-    done _ _ _ _ _ (r .before .before .scan .ensures .0) (r .before .before .scan .ensures .1) (sym (number r) ∙ f .before .before .if1 .left) (c .resumed .ensures) (f .fill .ensures)
+    done _ _ _ _ _ (r .before .before .scan .ensures .0) (r .before .before .scan .ensures .1)
+    (sym (number r) ∙ f .before .before .if1 .left) (c .resumed .ensures) (f .fill .ensures)
 
 pub restart-spec : {M : Type 1} → statement M
 restart-spec =

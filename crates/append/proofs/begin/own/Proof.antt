@@ -30,7 +30,8 @@ returns : tie.Need-returns
 returns c =
     let l = c .before .before .before .before in
     let s = l .before .before .before .before .before in
-    begin-own (s .args .g) (now (s .args .volume)) (s .args .count) (s .args .s) (s .args .page) (s .args .frame) _ _ _ _ _ _ _ (l .before .before .blank .ensures)
+    begin-own (s .args .g) (now (s .args .volume)) (s .args .count) (s .args .s) (s .args .page) (s .args .frame) _ _ _ _ _ _ _
+    (l .before .before .blank .ensures)
     (l .before .blocked .ensures)
     (l .refusal .ensures) (c .before .before .before .first .ensures) (c .before .before .first2 .ensures) (c .before .first3 .ensures)
     (c .first4 .ensures)

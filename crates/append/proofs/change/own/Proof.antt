@@ -27,7 +27,8 @@ returns : tie.Need-returns
 returns c =
     let l = c .before .before .before in
     let s = l .before .before .before .before .before in
-    change-own (s .args .g) (now (s .args .volume)) (s .args .s) (s .args .page) (s .args .c) _ _ _ _ _ _ (l .before .before .obeys .ensures)
+    change-own (s .args .g) (now (s .args .volume)) (s .args .s) (s .args .page) (s .args .c) _ _ _ _ _ _
+    (l .before .before .obeys .ensures)
     (l .before .held .ensures) (l .refusal .ensures)
     (c .before .before .first .ensures) (c .before .first2 .ensures) (c .first3 .ensures)
 

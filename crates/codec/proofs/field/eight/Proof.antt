@@ -34,7 +34,14 @@ add-result c = search needs
 returns : tie.Need-returns
 returns c =
     let a = c .before .before .before .before .before .args in
-    omega (arith, field-add 4 4 (a .at) (now (a .s)), c .wide322 .ensures .0, c .before .four2 .ensures, c .before .before .wide32 .ensures .0, c .before .before .before .four .ensures)
+    omega (
+      arith,
+      field-add 4 4 (a .at) (now (a .s)),
+      c .wide322 .ensures .0,
+      c .before .four2 .ensures,
+      c .before .before .wide32 .ensures .0,
+      c .before .before .before .four .ensures,
+    )
 
 pub eight-spec : {M : Type 1} → statement M
 eight-spec =

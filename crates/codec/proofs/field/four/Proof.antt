@@ -34,7 +34,14 @@ add-result c = search needs
 returns : tie.Need-returns
 returns c =
     let a = c .before .before .before .before .before .args in
-    omega (arith, field-add 2 2 (a .at) (now (a .s)), c .wide162 .ensures .0, c .before .two2 .ensures, c .before .before .wide16 .ensures .0, c .before .before .before .two .ensures)
+    omega (
+      arith,
+      field-add 2 2 (a .at) (now (a .s)),
+      c .wide162 .ensures .0,
+      c .before .two2 .ensures,
+      c .before .before .wide16 .ensures .0,
+      c .before .before .before .two .ensures,
+    )
 
 pub four-spec : {M : Type 1} → statement M
 four-spec =

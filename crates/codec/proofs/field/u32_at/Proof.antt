@@ -49,7 +49,14 @@ returns-2 c = search needs
 returns-3 : tie.Need-returns-3
 returns-3 c =
     let a = c .before .before .before .before .before .before .before .args in
-    omega (arith, field-add 2 2 (a .at) (now (a .s)), c .wide162 .ensures .0, c .before .u16-at2 .ensures, c .before .before .wide16 .ensures .0, c .before .before .before .u16-at .ensures)
+    omega (
+      arith,
+      field-add 2 2 (a .at) (now (a .s)),
+      c .wide162 .ensures .0,
+      c .before .u16-at2 .ensures,
+      c .before .before .wide16 .ensures .0,
+      c .before .before .before .u16-at .ensures,
+    )
 
 pub u32-at-spec : {M : Type 1} → statement M
 u32-at-spec =

@@ -51,7 +51,8 @@ loop-again c =
     let l = c .before .before .before .before .before .loop in
     let xs = now (c .before .before .before .before .before .before .before .args .s) in
     let first = zero-field 8 (l .i) xs (omega arith) (sym (c .before .before .before .eight .ensures) ∙ c .before .before .if1 .left) in
-    let next : allZero (drop (l .i + 8) xs) ≡ allZero (drop (l .i + 8 + 8) xs) = zero-field 8 (l .i + 8) xs (omega arith) (sym (c .before .eight2 .ensures) ∙ c .if2 .left) in
+    let next : allZero (drop (l .i + 8) xs) ≡ allZero (drop (l .i + 8 + 8) xs) =
+    zero-field 8 (l .i + 8) xs (omega arith) (sym (c .before .eight2 .ensures) ∙ c .if2 .left) in
     let k : l .i + 8 + 8 ≡ l .i + 16 = omega arith in
     (search needs, sym (rw k at next) ∙ (sym first ∙ l .inv .1))
 

@@ -23,7 +23,8 @@ count-requires c κs =
 returns-2 : tie.Need-returns-2
 returns-2 c =
     let i = c .before .before .before in
-    failing-some _ _ _ _ _ (i .before .valid .ensures) (not-false _ (i .if1 .left)) (c .before .before .geometry .ensures) (c .count .ensures)
+    failing-some _ _ _ _ _ (i .before .valid .ensures) (not-false _ (i .if1 .left))
+    (c .before .before .geometry .ensures) (c .count .ensures)
 
 pub failing-spec : {M : Type 1} → statement M
 failing-spec =

@@ -28,7 +28,8 @@ returns : tie.Need-returns Inv-loop μ-loop
 returns c =
     let l = c .before .before .before .loop in
     let a = c .before .before .before .before .before .before .args in
-    sym (first-here (oldAt (a .g) (now (a .volume)) (a .index)) _ (l .i) (c .before .before .loop-test .taken) (sym (c .before .old-at .ensures) ∙ c .if1 .taken))
+    sym (first-here (oldAt (a .g) (now (a .volume)) (a .index)) _ (l .i) (c .before .before .loop-test .taken)
+    (sym (c .before .old-at .ensures) ∙ c .if1 .taken))
     ∙ l .inv .1
 
 add-i : tie.Need-add-i Inv-loop μ-loop
@@ -44,7 +45,8 @@ loop-again c =
     let l = c .before .before .before .loop in
     let a = c .before .before .before .before .before .before .args in (
       search needs,
-      sym (first-on (oldAt (a .g) (now (a .volume)) (a .index)) _ (l .i) (c .before .before .loop-test .taken) (sym (c .before .old-at .ensures) ∙ c .if1 .left))
+      sym (first-on (oldAt (a .g) (now (a .volume)) (a .index)) _ (l .i) (c .before .before .loop-test .taken)
+          (sym (c .before .old-at .ensures) ∙ c .if1 .left))
           ∙ l .inv .1,
     )
 

@@ -15,7 +15,8 @@ under-requires : tie.Need-under-requires
 under-requires c κs = search needs
 
 passes-requires : tie.Need-passes-requires
-passes-requires c κs = let s = c .before .before .before .before in let p = s .pre in under-count _ (s .args .g) _ _ (c .under .ensures) (p .2) (few _ _ (p .0) (p .1))
+passes-requires c κs = let s = c .before .before .before .before in let p = s .pre in
+    under-count _ (s .args .g) _ _ (c .under .ensures) (p .2) (few _ _ (p .0) (p .1))
 
 under-requires-2 : tie.Need-under-requires-2
 under-requires-2 c κs = search needs

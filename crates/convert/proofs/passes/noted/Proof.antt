@@ -51,7 +51,8 @@ returns : tie.Need-returns Inv-loop μ-loop
 returns c =
     let l = c .before .before .before .before .before .loop in
     let a = c .before .before .before .before .before .before .before .args in
-    sym (noted-here (a .g) (a .slot) (now (a .x)) (a .t4) (l .i) (search needs) (sym (c .before .given .ensures) ∙ c .if1 .taken)) ∙ l .inv .1
+    sym (noted-here (a .g) (a .slot) (now (a .x)) (a .t4) (l .i) (search needs) (sym (c .before .given .ensures) ∙ c .if1 .taken))
+    ∙ l .inv .1
 
 -- src/passes.rt:48:9
 add-i : tie.Need-add-i Inv-loop μ-loop
@@ -65,8 +66,11 @@ loop-less c = search needs
 loop-again : tie.Need-loop-again Inv-loop μ-loop
 loop-again c =
     let l = c .before .before .before .before .before .loop in
-    let a = c .before .before .before .before .before .before .before .args in
-    (search needs, sym (noted-on (a .g) (a .slot) (now (a .x)) (a .t4) (l .i) (search needs) (sym (c .before .given .ensures) ∙ c .if1 .left)) ∙ l .inv .1)
+    let a = c .before .before .before .before .before .before .before .args in (
+      search needs,
+      sym (noted-on (a .g) (a .slot) (now (a .x)) (a .t4) (l .i) (search needs)
+          (sym (c .before .given .ensures) ∙ c .if1 .left)) ∙ l .inv .1,
+    )
 
 -- src/passes.rt:39:1
 returns-2 : tie.Need-returns-2 Inv-loop μ-loop

@@ -45,7 +45,8 @@ same-length : tie.Need-same-length
 same-length c = search needs
 
 returns : tie.Need-returns
-returns c = restamp-refused _ _ _ _ (c .before .refusal .ensures (now (c .before .before .before .before .before .args .memory)) refl) (c .if1 .taken)
+returns c = restamp-refused _ _ _ _
+    (c .before .refusal .ensures (now (c .before .before .before .before .before .args .memory)) refl) (c .if1 .taken)
 
 geometry-requires : tie.Need-geometry-requires
 geometry-requires c κs = search needs

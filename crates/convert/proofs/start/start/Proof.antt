@@ -21,7 +21,8 @@ same-length c = search needs
 
 -- src/start.rt:21:9
 returns : tie.Need-returns
-returns c = start-refused _ _ _ _ (c .before .refusal .ensures (now (c .before .before .before .before .before .args .memory)) refl) (c .if1 .taken)
+returns c =
+    start-refused _ _ _ _ (c .before .refusal .ensures (now (c .before .before .before .before .before .args .memory)) refl) (c .if1 .taken)
 
 -- src/start.rt:26:5
 put-requires : tie.Need-put-requires
@@ -36,7 +37,8 @@ returns-2 : tie.Need-returns-2
 returns-2 c =
     let p = c .before .before in
     let i = p .before .before in
-    start-done _ _ _ _ (sym (i .before .refusal .ensures (now (i .before .before .before .before .before .args .memory)) refl) ∙ i .if1 .left) (p .put .ensures)
+    start-done _ _ _ _ (sym (i .before .refusal .ensures (now (i .before .before .before .before .before .args .memory)) refl)
+    ∙ i .if1 .left) (p .put .ensures)
 
 pub start-spec : {M : Type 1} → statement M
 start-spec =

@@ -5,7 +5,7 @@ use Rattle.extract.proofs.section.follows.Statement.{statement}
 use Rattle.extract.proofs.section.follows.Tie as tie
 use Rattle.extract.proofs.section.follows.Reads as reads
 use Rattle.extract.proofs.section.follows.Lts as lts
-use Rattle.codec.proofs.checksum.holds.Reads as holds-reads
+use Rattle.sums.proofs.checksum.holds.Reads as holds-reads
 use Rattle.item.proofs.record.layout.Reads as layout-reads
 use Rattle.item.proofs.record.read.Reads as read-reads
 

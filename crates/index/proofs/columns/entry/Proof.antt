@@ -18,13 +18,15 @@ row-requires : tie.Need-row-requires
 row-requires c κs = search needs
 
 row-requires-2 : tie.Need-row-requires-2
-row-requires-2 c κs = let b = c .before .before .before .before .before .before in (b .pre, omega (arith, c .row .ensures, row-below (b .args .page)))
+row-requires-2 c κs = let b = c .before .before .before .before .before .before in
+    (b .pre, omega (arith, c .row .ensures, row-below (b .args .page)))
 
 returns : tie.Need-returns
 returns c =
     let a = c .before .before .before .before .before .before .before .args in
     c .row2 .ensures
-    ∙ ap (λ (i : ℕ). columnRow (now (a .last)) (now (a .written)) (now (a .slots)) (now (a .backup)) i) (c .before .row .ensures ∙ row-is (a .page) (c .before .before .if1 .taken))
+    ∙ ap (λ (i : ℕ). columnRow (now (a .last)) (now (a .written)) (now (a .slots)) (now (a .backup)) i)
+    (c .before .row .ensures ∙ row-is (a .page) (c .before .before .if1 .taken))
 
 returns-2 : tie.Need-returns-2
 returns-2 c = row-past _ _ _ _ (c .before .before .before .before .before .pre) _ (omega (arith, c .if1 .left))

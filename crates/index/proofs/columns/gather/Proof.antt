@@ -47,7 +47,8 @@ loop-again c =
     let t = c .before .loop-test .taken in (
       omega (arith, t),
       length-set (l .index) (l .i) _ ∙ l .inv .1,
-      λ x k. gathered-more x _ _ _ _ k (l .index) (l .i) _ (omega (arith, t, l .inv .1)) (omega (arith, t, index-length x _ _ _ _ k, w .last-wide)) (l .inv .2 x k) (c .row .ensures),
+      λ x k. gathered-more x _ _ _ _ k (l .index) (l .i) _ (omega (arith, t, l .inv .1))
+          (omega (arith, t, index-length x _ _ _ _ k, w .last-wide)) (l .inv .2 x k) (c .row .ensures),
     )
 
 returns : tie.Need-returns Inv-loop μ-loop

@@ -16,16 +16,17 @@ use Rattle.index.proofs.columns.ordered.Lts as lts
 use Rattle.index.proofs.columns.row.Reads as row-reads
 
 abbrev Inv-loop : tie.InvT-loop
-Inv-loop last written slots backup kept₀ i₀ kept i = (i ≤ 64) × (kept ≡ every i (λ j. leb (columnRow last written slots backup j .written) (columnRow last written slots backup j .last)))
+Inv-loop last written slots backup pages kept₀ i₀ kept i =
+    (i ≤ pages) × (kept ≡ every i (λ j. leb (columnRow last written slots backup j .written) (columnRow last written slots backup j .last)))
 
 abbrev μ-loop : tie.MeasureT-loop
-μ-loop last written slots backup kept₀ i₀ kept i = 64 - i
+μ-loop last written slots backup pages kept₀ i₀ kept i = pages - i
 
 loop-holds : tie.Need-loop-holds Inv-loop μ-loop
 loop-holds c = (omega arith, sym (every-none _))
 
 row-requires : tie.Need-row-requires Inv-loop μ-loop
-row-requires c κs = (c .before .before .before .before .before .before .pre, c .loop-test .taken)
+row-requires c κs = let p = c .before .before .before .before .before .before .pre in (p .0, omega (arith, c .loop-test .taken, p .1))
 
 add-i : tie.Need-add-i Inv-loop μ-loop
 add-i c = search needs
@@ -36,11 +37,16 @@ loop-less c = search needs
 loop-again : tie.Need-loop-again Inv-loop μ-loop
 loop-again c =
     let a = c .before .before .before .before .before .before .before .before .args in
-    let l = c .before .before .before .loop in
-    (omega (arith, c .before .before .loop-test .taken), ordered-next (now (a .last)) (now (a .written)) (now (a .slots)) (now (a .backup)) _ _ _ (l .inv .1) (c .before .row .ensures))
+    let l = c .before .before .before .loop in (
+      omega (arith, c .before .before .loop-test .taken),
+      ordered-next (now (a .last)) (now (a .written)) (now (a .slots)) (now (a .backup)) _ _ _ (l .inv .1) (c .before .row .ensures),
+    )
 
 returns : tie.Need-returns Inv-loop μ-loop
-returns c = let l = c .before .loop in ordered-all _ _ _ _ _ _ (omega (arith, l .inv .0, c .loop-test .left)) (l .inv .1)
+returns c u =
+    let l = c .before .loop in
+    let p = c .before .before .before .before .before .before in
+    ordered-all _ _ _ _ (p .args .pages) (p .pre .1) u _ _ (omega (arith, l .inv .0, c .loop-test .left)) (l .inv .1)
 
 pub ordered-spec : {M : Type 1} → statement M
 ordered-spec =

@@ -43,8 +43,10 @@ loop-less c = search needs
 loop-again : tie.Need-loop-again Inv-loop μ-loop
 loop-again c =
     let l = c .before .before .before .loop in
-    let a = c .before .before .before .before .before .args in
-    (search needs, rw (c .wide .ensures) (sym (in-next (a .slot) (now (a .slots)) (l .i) (l .found) (c .before .before .loop-test .taken)) ∙ l .inv .1))
+    let a = c .before .before .before .before .before .args in (
+      search needs,
+      rw (c .wide .ensures) (sym (in-next (a .slot) (now (a .slots)) (l .i) (l .found) (c .before .before .loop-test .taken)) ∙ l .inv .1),
+    )
 
 returns : tie.Need-returns Inv-loop μ-loop
 returns c =

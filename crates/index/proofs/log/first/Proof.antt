@@ -1,5 +1,6 @@
 -- `index::log::first` meets its contract.
 use mathlib.Core.Path.{_∙_}
+use native.Mathlib.Omega.{arith}
 use Rattle.index.proofs.Located.{log-placed, log-first}
 use borrow.Author.Needs.{needs}
 use Rattle.index.proofs.log.first.Statement.{statement}
@@ -7,13 +8,13 @@ use Rattle.index.proofs.log.first.Tie as tie
 use Rattle.index.proofs.log.first.Reads as reads
 use Rattle.index.proofs.log.first.Lts as lts
 use Rattle.index.proofs.log.locate.Reads as locate-reads
-use Rattle.index.proofs.section.first.Reads as first-reads
+use Rattle.section.proofs.first.Reads as first-reads
 
 locate-requires : tie.Need-locate-requires
 locate-requires c κs = search needs
 
 first-requires : tie.Need-first-requires
-first-requires c κs = rw (c .locate .ensures) (log-placed _ _ (c .before .before .pre))
+first-requires c κs = (rw (c .locate .ensures) (log-placed _ _ (c .before .before .pre)), omega arith)
 
 returns : tie.Need-returns
 returns c = c .first .ensures ∙ rw (c .before .locate .ensures) (log-first _ _ _)

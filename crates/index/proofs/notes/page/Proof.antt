@@ -19,7 +19,8 @@ u16-at-requires c κs = search needs
 returns : tie.Need-returns
 returns c =
     let a = c .before .before .before .args in
-    c .u16-at .ensures ∙ ap (λ (k : ℕ). field 2 (k + 8) (now (a .volume))) (c .before .log-slot .ensures) ∙ sym (record-page (a .g) (now (a .volume)) (a .n))
+    c .u16-at .ensures ∙ ap (λ (k : ℕ). field 2 (k + 8) (now (a .volume))) (c .before .log-slot .ensures)
+    ∙ sym (record-page (a .g) (now (a .volume)) (a .n))
 
 pub page-spec : {M : Type 1} → statement M
 page-spec = tie.close (tie.spec log-slot-requires add-u16-at u16-at-requires returns)

@@ -24,7 +24,8 @@ first-requires c κs = search needs
 returns : tie.Need-returns
 returns c =
     let a = c .before .before .before .before .before .before .args in
-    let t = unlike (a .volume .now) (a .page) (a .buffer .now) (a .report .now) (ne-eqb (length (a .report .now)) 3 (c .before .before .if1 .taken)) (c .first .result)
+    let t = unlike (a .volume .now) (a .page) (a .buffer .now) (a .report .now)
+    (ne-eqb (length (a .report .now)) 3 (c .before .before .if1 .taken)) (c .first .result)
     (c .first .ensures ∙ rw (c .before .valid .ensures)) in
     (t .0, (t .1, t .2))
 
@@ -52,8 +53,10 @@ returns-2 : tie.Need-returns-2
 returns-2 c =
     let i = c .before .before .before .before .before .before .before in
     let a = i .before .before .before .before .before .before .args in
-    let t = alike (a .volume .now) (a .page) (a .buffer .now) (a .report .now) (i .before .before .if1 .left) (i .inspect .result) (i .inspect .ensures .0)
-    (i .inspect .last .1 .1 .0) (c .before .before .before .tell .last .1 .0) (i .inspect .ensures .1) (c .before .before .before .tell .ensures) (c .number .result)
+    let t = alike (a .volume .now) (a .page) (a .buffer .now) (a .report .now) (i .before .before .if1 .left) (i .inspect .result)
+    (i .inspect .ensures .0)
+    (i .inspect .last .1 .1 .0) (c .before .before .before .tell .last .1 .0) (i .inspect .ensures .1)
+    (c .before .before .before .tell .ensures) (c .number .result)
     (c .number .ensures) in
     (t .0, (t .1, t .2))
 

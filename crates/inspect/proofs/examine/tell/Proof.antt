@@ -54,7 +54,8 @@ returns : tie.Need-returns
 returns c =
     let i = c .before .before .before .before in
     let a = i .before .before .before .args in
-    told (a .a) (a .report .now) (i .before .before .before .pre) (i .class-after .result) (c .before .before .start-after .result) (c .count-after .result)
+    told (a .a) (a .report .now) (i .before .before .before .pre) (i .class-after .result) (c .before .before .start-after .result)
+    (c .count-after .result)
     (i .class-after .ensures) (c .before .before .start-after .ensures) (c .count-after .ensures)
 
 pub tell-spec : {M : Type 1} → statement M

@@ -10,10 +10,12 @@ use Rattle.item.proofs.change.apply.Statement.{statement}
 use Rattle.item.proofs.change.apply.Tie as tie
 
 -- what is known where the put, and where the slide, has been told
-put-known : (c : tie.After-c2) → Ready (c .c2 .given .0 .0) (c .c2 .given .0 .1 .0) (now (c .before .before .before .before .args .payload)) (now (c .before .before .before .before .args .body))
+put-known : (c : tie.After-c2) → Ready (c .c2 .given .0 .0) (c .c2 .given .0 .1 .0) (now (c .before .before .before .before .args .payload))
+    (now (c .before .before .before .before .args .body))
 put-known c = put-ready _ _ _ (c .before .before .before .before .pre) _ _ (c .c2 .given .1)
 
-slide-known : (c : tie.After-c3) → Ready (c .c3 .given .0 .0) (c .c3 .given .0 .1 .0) (now (c .before .before .before .before .args .payload)) (now (c .before .before .before .before .args .body))
+slide-known : (c : tie.After-c3) → Ready (c .c3 .given .0 .0) (c .c3 .given .0 .1 .0)
+    (now (c .before .before .before .before .args .payload)) (now (c .before .before .before .before .args .body))
 slide-known c = slide-ready _ _ _ (c .before .before .before .before .pre) _ _ (c .c3 .given .1)
 
 enum-known-c : tie.Need-enum-known-c

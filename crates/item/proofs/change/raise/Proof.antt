@@ -41,8 +41,13 @@ loop-again c =
     let a = c .before .before .before .args in
     let l = c .before .before .loop in
     let xs = now (a .s) in
-    let e : l .i ≡ l .i - 1 + 1 = omega arith in
-    (search needs, search needs, search needs, rw (l .inv .3) (ap (λ (j : ℕ). set (moved xs (a .n) j) (l .i - 1) (getD (moved xs (a .n) j) (l .i - 1 - a .n) 0)) e ∙ moved-on xs (a .n) (l .i - 1) (omega arith) (omega arith)))
+    let e : l .i ≡ l .i - 1 + 1 = omega arith in (
+      search needs,
+      search needs,
+      search needs,
+      rw (l .inv .3) (ap (λ (j : ℕ). set (moved xs (a .n) j) (l .i - 1) (getD (moved xs (a .n) j) (l .i - 1 - a .n) 0)) e
+          ∙ moved-on xs (a .n) (l .i - 1) (omega arith) (omega arith)),
+    )
 
 same-length : tie.Need-same-length Inv-loop μ-loop
 same-length c = search needs

@@ -30,7 +30,8 @@ returns c =
     let e₂ = e₃ .before .before .before .before in
     let e₁ = e₂ .before .before .before .before in
     let s = e₁ .before .before .before in
-    image-is (now (s .args .dst)) _ _ _ _ (s .args .page) (s .args .lsn) (s .pre .0) (e₁ .put-u16 .ensures) (e₂ .put-u162 .ensures) (e₃ .put-u32 .ensures) (e₄ .put-u322 .ensures)
+    image-is (now (s .args .dst)) _ _ _ _ (s .args .page) (s .args .lsn) (s .pre .0) (e₁ .put-u16 .ensures) (e₂ .put-u162 .ensures)
+    (e₃ .put-u32 .ensures) (e₄ .put-u322 .ensures)
 
 pub build-spec : {M : Type 1} → statement M
 build-spec =

@@ -6,8 +6,8 @@ use Rattle.item.proofs.image.sealed.Statement.{statement}
 use Rattle.item.proofs.image.sealed.Tie as tie
 use Rattle.item.proofs.image.sealed.Reads as reads
 use Rattle.item.proofs.image.sealed.Lts as lts
-use Rattle.codec.proofs.byte_sum.holds.Reads as byte-sum-holds-reads
-use Rattle.codec.proofs.checksum.holds.Reads as checksum-holds-reads
+use Rattle.sums.proofs.byte_sum.holds.Reads as byte-sum-holds-reads
+use Rattle.sums.proofs.checksum.holds.Reads as checksum-holds-reads
 
 -- src/image.rt:28:9
 holds-requires : tie.Need-holds-requires
@@ -35,7 +35,8 @@ holds-requires-4 c κs = search needs
 
 -- src/image.rt:24:1
 returns-3 : tie.Need-returns-3
-returns-3 c = rw (c .before .holds3 .ensures, c .holds4 .ensures) (sym (by-either _ _ (c .before .before .before .before .if1 .left) (c .before .before .if2 .left)))
+returns-3 c = rw (c .before .holds3 .ensures, c .holds4 .ensures)
+    (sym (by-either _ _ (c .before .before .before .before .if1 .left) (c .before .before .if2 .left)))
 
 pub sealed-spec : {M : Type 1} → statement M
 sealed-spec =

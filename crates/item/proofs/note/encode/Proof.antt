@@ -35,7 +35,8 @@ returns c =
     let e₂ = e₃ .before .before .before .before in
     let e₁ = e₂ .before .before .before .before in
     let s = e₁ .before .before .before in
-    note-is (now (s .args .dst)) _ _ _ _ (s .args .n) (s .pre) (e₁ .put-u32 .ensures) (e₂ .put-u16 .ensures) (e₃ .put-u322 .ensures) (e₄ .set .ensures)
+    note-is (now (s .args .dst)) _ _ _ _ (s .args .n) (s .pre) (e₁ .put-u32 .ensures) (e₂ .put-u16 .ensures)
+    (e₃ .put-u322 .ensures) (e₄ .set .ensures)
 
 pub encode-spec : {M : Type 1} → statement M
 encode-spec =

@@ -21,8 +21,13 @@ pad-requires : tie.Need-pad-requires
 pad-requires c κs =
     let f = c .before .before .before in
     let d = f .before .before .before in
-    let s = d .before .before in
-    (omega (arith, s .pre .0, f .fields .kept), omega (arith, length-few (s .args .lsn) (s .args .prev) (s .args .page) (s .args .c) (d .describe .result) (d .describe .ensures) (s .pre .1)))
+    let s = d .before .before in (
+      omega (arith, s .pre .0, f .fields .kept),
+      omega (
+        arith,
+        length-few (s .args .lsn) (s .args .prev) (s .args .page) (s .args .c) (d .describe .result) (d .describe .ensures) (s .pre .1),
+      ),
+    )
 
 set-requires : tie.Need-set-requires
 set-requires c κs = search needs
@@ -38,7 +43,8 @@ returns c =
     let d = f .before .before .before in
     let s = d .before .before in
     let l : length (s .args .payload) ≡ 44 = s .good .1 .1 .1 .1 .1 .0 .1 .0 .1 in
-    encode-is _ _ _ (s .args .c) _ (d .describe .ensures) (s .pre .1) (now (s .args .dst)) _ _ _ (s .args .payload) (s .pre .0) l (f .fields .ensures) (p .pad .ensures) (w .set .ensures)
+    encode-is _ _ _ (s .args .c) _ (d .describe .ensures) (s .pre .1) (now (s .args .dst)) _ _ _ (s .args .payload) (s .pre .0) l
+    (f .fields .ensures) (p .pad .ensures) (w .set .ensures)
 
 pub encode-spec : {M : Type 1} → statement M
 encode-spec =

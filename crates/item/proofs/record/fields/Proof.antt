@@ -41,7 +41,8 @@ returns c =
     let e₂ = e₃ .before .before .before .before in
     let e₁ = e₂ .before .before .before .before in
     let s = e₁ .before .before .before in
-    fields-is (now (s .args .dst)) _ _ _ _ (s .args .e) (s .pre) (e₁ .put-u32 .ensures) (e₂ .put-u322 .ensures) (e₃ .put-u16 .ensures) (e₄ .put-u162 .ensures)
+    fields-is (now (s .args .dst)) _ _ _ _ (s .args .e) (s .pre) (e₁ .put-u32 .ensures) (e₂ .put-u322 .ensures)
+    (e₃ .put-u16 .ensures) (e₄ .put-u162 .ensures)
 
 pub fields-spec : {M : Type 1} → statement M
 fields-spec =

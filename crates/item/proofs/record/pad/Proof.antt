@@ -44,7 +44,8 @@ returns c =
     let p = f .before .before .before .before in
     let s = p .before .before .before .before .before in
     let l : length (s .args .t2) ≡ 44 = search needs in
-    pad-is (now (s .args .dst)) (p .put .last .0) (f .fill .last .0) (s .args .t2) (s .args .n) (s .pre .0) (s .pre .1) l (simp sub-zero at (p .put .ensures)) (f .fill .ensures)
+    pad-is (now (s .args .dst)) (p .put .last .0) (f .fill .last .0) (s .args .t2) (s .args .n) (s .pre .0) (s .pre .1) l
+    (simp sub-zero at (p .put .ensures)) (f .fill .ensures)
 
 pub pad-spec : {M : Type 1} → statement M
 pad-spec =

@@ -1,4 +1,4 @@
--- `record::padding`: a length past 44 leaves no payload to look at.
+-- `record::padding`: a length of 44 or more leaves no payload to look at.
 use borrow.Author.Needs.{needs}
 use mathlib.Core.Path.{_≡_, ap, _∙_}
 use Prim.Native.Nat.{_-_, _+_}

@@ -30,7 +30,15 @@ unfolding recordOf
 returns c =
     let d = c .before .before .before in
     let b = d .before .before .before in
-    rw (b .u32-at .ensures, d .before .before .u32-at2 .ensures, d .before .u16-at .ensures, d .byte .ensures, c .before .before .byte2 .ensures, c .before .u16-at2 .ensures, c .byte3 .ensures)
+    rw (
+      b .u32-at .ensures,
+      d .before .before .u32-at2 .ensures,
+      d .before .u16-at .ensures,
+      d .byte .ensures,
+      c .before .before .byte2 .ensures,
+      c .before .u16-at2 .ensures,
+      c .byte3 .ensures,
+    )
 
 pub read-spec : {M : Type 1} → statement M
 read-spec =

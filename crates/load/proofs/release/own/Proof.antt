@@ -20,7 +20,8 @@ returns : tie.Need-returns
 returns c =
     let b = c .before .before .before in
     let a = b .before .before .args in
-    release-own (a .g) (a .s) (a .page) (a .f) _ _ _ _ (b .blocked .ensures) (c .before .before .first .ensures) (c .before .first2 .ensures)
+    release-own (a .g) (a .s) (a .page) (a .f) _ _ _ _ (b .blocked .ensures) (c .before .before .first .ensures)
+    (c .before .first2 .ensures)
     (c .first3 .ensures)
 
 pub own-spec : {M : Type 1} → statement M

@@ -28,7 +28,8 @@ returns c =
     let r = c .before .before .before in
     let u = r .before .before in
     let a = u .before .before .before .before .before .args in
-    backup-own (a .g) (now (a .volume)) (a .s) (a .page) (a .f) (a .lsn) (a .slot) _ _ _ _ _ _ (u .used .ensures) (r .before .first .ensures)
+    backup-own (a .g) (now (a .volume)) (a .s) (a .page) (a .f) (a .lsn) (a .slot) _ _ _ _ _ _ (u .used .ensures)
+    (r .before .first .ensures)
     (r .refusal .ensures)
     (c .before .before .first2 .ensures) (c .before .first3 .ensures) (c .first4 .ensures)
 

@@ -13,7 +13,8 @@ refusal-requires c κs = search needs
 returns : tie.Need-returns
 returns c =
     let a = c .before .before .before .before .args in
-    backup-first (now (a .volume)) (now (a .memory)) (a .s) _ (a .page) (c .before .refusal .ensures (now (a .memory)) refl) (a .slot) (c .if1 .taken)
+    backup-first (now (a .volume)) (now (a .memory)) (a .s) _ (a .page) (c .before .refusal .ensures (now (a .memory)) refl)
+    (a .slot) (c .if1 .taken)
 
 geometry-requires : tie.Need-geometry-requires
 geometry-requires c κs = search needs
@@ -35,7 +36,8 @@ returns-2 c =
     let h = c .before .before in
     let i = h .before .before in
     let a = i .before .before .before .before .args in
-    backup-rows (now (a .volume)) (now (a .memory)) (a .s) _ (a .page) (i .before .refusal .ensures (now (a .memory)) refl) _ _ _ _ (i .if1 .left)
+    backup-rows (now (a .volume)) (now (a .memory)) (a .s) _ (a .page)
+    (i .before .refusal .ensures (now (a .memory)) refl) _ _ _ _ (i .if1 .left)
     (h .before .geometry .ensures) (h .holder .ensures) (c .before .lsn .ensures) (a .slot) (c .own .ensures)
 
 pub refusal-spec : {M : Type 1} → statement M

@@ -21,7 +21,8 @@ returns : tie.Need-returns
 returns c =
     let r = c .before .before in
     let a = r .before .before .before .before .args in
-    write-own (a .g) (now (a .volume)) (a .s) (a .page) (a .f) (a .lsn) _ _ _ _ (r .before .frame .ensures) (r .refusal .ensures) (c .before .first .ensures)
+    write-own (a .g) (now (a .volume)) (a .s) (a .page) (a .f) (a .lsn) _ _ _ _ (r .before .frame .ensures) (r .refusal .ensures)
+    (c .before .first .ensures)
     (c .first2 .ensures)
 
 pub own-spec : {M : Type 1} → statement M

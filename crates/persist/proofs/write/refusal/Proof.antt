@@ -35,7 +35,8 @@ returns-2 c =
     let h = c .before .before in
     let i = h .before .before in
     let a = i .before .before .before .before .args in
-    write-rows (now (a .volume)) (now (a .memory)) (a .s) _ (a .page) (i .before .refusal .ensures (now (a .memory)) refl) _ _ _ _ (i .if1 .left)
+    write-rows (now (a .volume)) (now (a .memory)) (a .s) _ (a .page)
+    (i .before .refusal .ensures (now (a .memory)) refl) _ _ _ _ (i .if1 .left)
     (h .before .geometry .ensures) (h .holder .ensures) (c .before .lsn .ensures) (c .own .ensures)
 
 pub refusal-spec : {M : Type 1} → statement M

@@ -49,8 +49,10 @@ returns c =
     let e = d .before .before in
     let f = e .before .before in
     let h = f .before .before in (
-      plus-is _ _ _ _ _ _ _ _ (h .wide .ensures .0) (f .wide2 .ensures .0) (e .wide3 .ensures .0) (d .wide4 .ensures .0) (b .wide5 .ensures .0) (a .wide6 .ensures .0),
-      plus-sums _ _ _ _ _ _ _ (h .wide .ensures .1) (f .wide2 .ensures .1) (e .wide3 .ensures .1) (d .wide4 .ensures .1) (b .wide5 .ensures .1) (a .wide6 .ensures .1),
+      plus-is _ _ _ _ _ _ _ _ (h .wide .ensures .0) (f .wide2 .ensures .0) (e .wide3 .ensures .0) (d .wide4 .ensures .0)
+          (b .wide5 .ensures .0) (a .wide6 .ensures .0),
+      plus-sums _ _ _ _ _ _ _ (h .wide .ensures .1) (f .wide2 .ensures .1) (e .wide3 .ensures .1) (d .wide4 .ensures .1)
+          (b .wide5 .ensures .1) (a .wide6 .ensures .1),
     )
 
 pub add-spec : {M : Type 1} → statement M

@@ -39,8 +39,12 @@ loop-less c = search needs
 
 loop-again : tie.Need-loop-again Inv-loop μ-loop
 loop-again c =
-    let k = c .before .before .before .loop in
-    (search needs, c .add .ensures .0 ∙ (ap (λ (a : Totals). plus a (getD (c .before .before .before .before .args .t1) (k .i) noFigures)) (k .inv .1) ∙ sym (total-more _ _)), rw (add-one (k .i)) (c .add .ensures .1 (k .i) (k .inv .2)))
+    let k = c .before .before .before .loop in (
+      search needs,
+      c .add .ensures .0 ∙ (ap (λ (a : Totals). plus a (getD (c .before .before .before .before .args .t1) (k .i) noFigures)) (k .inv .1)
+          ∙ sym (total-more _ _)),
+      rw (add-one (k .i)) (c .add .ensures .1 (k .i) (k .inv .2)),
+    )
 
 returns : tie.Need-returns Inv-loop μ-loop
 returns c =

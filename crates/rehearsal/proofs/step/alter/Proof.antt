@@ -10,7 +10,8 @@ page-row-requires : tie.Need-page-row-requires
 page-row-requires c κs = search needs
 
 with-change-requires : tie.Need-with-change-requires
-with-change-requires c κs = (rw (c .page-row .ensures) (small-more 900600 1000000 _ (omega arith) (c .before .before .pre .1 _)), search needs)
+with-change-requires c κs =
+    (rw (c .page-row .ensures) (small-more 900600 1000000 _ (omega arith) (c .before .before .pre .1 _)), search needs)
 
 set-row-requires : tie.Need-set-row-requires
 set-row-requires c κs = search needs

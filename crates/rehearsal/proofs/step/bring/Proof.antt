@@ -24,7 +24,8 @@ returns : tie.Need-returns
 returns c =
     let k = c .before .before .before in
     let a = k .before .args in
-    bring-is (a .t) (a .i) (a .m) (a .page) (a .change) _ (a .f) (k .evict .result) (c .before .before .bring-in .result) (k .evict .ensures) (c .before .before .bring-in .ensures) (c .before .written .ensures)
+    bring-is (a .t) (a .i) (a .m) (a .page) (a .change) _ (a .f) (k .evict .result) (c .before .before .bring-in .result)
+    (k .evict .ensures) (c .before .before .bring-in .ensures) (c .before .written .ensures)
 
 pub bring-spec : {M : Type 1} → statement M
 bring-spec =

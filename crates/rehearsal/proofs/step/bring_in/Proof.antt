@@ -30,7 +30,8 @@ returns c = bring-begin _ _ _ _ (c .before .before .page-row .ensures) (c .if1 .
 returns-2 : tie.Need-returns-2
 returns-2 c =
     let k = c .before .before .before in
-    bring-load _ _ _ _ _ _ _ (k .before .before .page-row .ensures) (k .if1 .left) (c .before .before .replayed .ensures) (c .before .with-load .ensures) (c .set-row .ensures)
+    bring-load _ _ _ _ _ _ _ (k .before .before .page-row .ensures) (k .if1 .left) (c .before .before .replayed .ensures)
+    (c .before .with-load .ensures) (c .set-row .ensures)
 
 pub bring-in-spec : {M : Type 1} → statement M
 bring-in-spec =

@@ -19,7 +19,8 @@ page-row-requires : tie.Need-page-row-requires
 page-row-requires c κs = search needs
 
 with-image-requires : tie.Need-with-image-requires
-with-image-requires c κs = rw (c .page-row .ensures) (small-more 900000 1000000 _ (omega arith) (c .before .before .before .before .before .before .pre .1 _))
+with-image-requires c κs =
+    rw (c .page-row .ensures) (small-more 900000 1000000 _ (omega arith) (c .before .before .before .before .before .before .pre .1 _))
 
 set-row-requires : tie.Need-set-row-requires
 set-row-requires c κs = search needs
@@ -27,7 +28,8 @@ set-row-requires c κs = search needs
 returns : tie.Need-returns
 returns c =
     let b = c .before .before .before in
-    evict-written _ _ _ _ _ _ (rw (b .before .before .written .ensures) at (b .if1 .taken)) (c .before .before .page-row .ensures) (c .before .with-image .ensures) (c .set-row .ensures)
+    evict-written _ _ _ _ _ _ (rw (b .before .before .written .ensures) at (b .if1 .taken)) (c .before .before .page-row .ensures)
+    (c .before .with-image .ensures) (c .set-row .ensures)
 
 returns-2 : tie.Need-returns-2
 returns-2 c = evict-not _ _ _ (rw (c .before .before .written .ensures) at (c .if1 .left))

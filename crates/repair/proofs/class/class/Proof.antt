@@ -15,12 +15,22 @@ returns-2 c = simp (c .before .before .if1 .taken, ne-eqb _ _ (c .before .if2 .l
 returns-3 : tie.Need-returns-3
 unfolding classOf
 returns-3 c =
-    simp (c .before .before .before .if1 .taken, ne-eqb _ _ (c .before .before .if2 .left), le-ltb _ _ (c .before .if3 .left), lt-ltb _ _ (c .if4 .taken))
+    simp (
+      c .before .before .before .if1 .taken,
+      ne-eqb _ _ (c .before .before .if2 .left),
+      le-ltb _ _ (c .before .if3 .left),
+      lt-ltb _ _ (c .if4 .taken),
+    )
 
 returns-4 : tie.Need-returns-4
 unfolding classOf
 returns-4 c =
-    simp (c .before .before .before .if1 .taken, ne-eqb _ _ (c .before .before .if2 .left), le-ltb _ _ (c .before .if3 .left), le-ltb _ _ (c .if4 .left))
+    simp (
+      c .before .before .before .if1 .taken,
+      ne-eqb _ _ (c .before .before .if2 .left),
+      le-ltb _ _ (c .before .if3 .left),
+      le-ltb _ _ (c .if4 .left),
+    )
 
 returns-5 : tie.Need-returns-5
 unfolding classOf

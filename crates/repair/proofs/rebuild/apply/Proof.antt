@@ -25,7 +25,8 @@ abbrev μ-loop : tie.MeasureT-loop
 μ-loop volume g first page lsns count body₀ i₀ body i = i
 
 -- every number of the chain is that of a record that the walk read
-linked : (v : List ℕ) (g : Geometry) (f : ℕ) (e : Entry) (page : ℕ) (l : List ℕ) → l ≡ walkOf g page (viewOf g v f e page) .chain → Linked (logOf g v) page (e .durable) l
+linked : (v : List ℕ) (g : Geometry) (f : ℕ) (e : Entry) (page : ℕ) (l : List ℕ) → l ≡ walkOf g page (viewOf g v f e page) .chain
+    → Linked (logOf g v) page (e .durable) l
 linked v g f e page l h = subst (Linked (logOf g v) page (e .durable)) (sym h) (chain-linked g page (viewOf g v f e page))
 
 loop-holds : tie.Need-loop-holds Inv-loop μ-loop
@@ -38,7 +39,8 @@ mul-n : tie.Need-mul-n Inv-loop μ-loop
 mul-n c = let h = in-array _ _ _ _ _ (c .before .loop .i) (omega arith) (c .before .loop .inv) in search needs
 
 shared-slice-read-n : tie.Need-shared-slice-read-n Inv-loop μ-loop
-shared-slice-read-n c = in-array _ _ _ _ _ (c .before .before .loop .i) (omega (arith, c .before .loop-test .taken)) (c .before .before .loop .inv)
+shared-slice-read-n c =
+    in-array _ _ _ _ _ (c .before .before .loop .i) (omega (arith, c .before .loop-test .taken)) (c .before .before .loop .inv)
 
 record-requires : tie.Need-record-requires Inv-loop μ-loop
 record-requires c κs =
@@ -51,7 +53,8 @@ replay-requires c κs =
     let b = c .before .before .before .before .before .before .before .before in
     let h = b .pre in
     let l = c .before .before .before .before .loop in
-    let k = replayed _ _ _ _ _ (l .i) (omega (arith, c .before .before .before .loop-test .taken)) (l .inv) _ _ (linked _ _ (b .args .first) (b .args .e) _ _ (h .1 .0)) in
+    let k = replayed _ _ _ _ _ (l .i) (omega (arith, c .before .before .before .loop-test .taken)) (l .inv) _ _
+    (linked _ _ (b .args .first) (b .args .e) _ _ (h .1 .0)) in
     rw (c .before .«record» .ensures)
     (record-length _ _ (h .0 .valid) (h .0 .geometry) _, k .layout, l .inv .size)
 
@@ -61,7 +64,8 @@ loop-less c = let t = c .before .before .before .before .before .before .loop-te
 loop-again : tie.Need-loop-again Inv-loop μ-loop
 loop-again c =
     let b = c .before .before .before .before .before .before in
-    replaying-on _ _ _ _ _ (b .before .loop .i) (omega (arith, b .loop-test .taken)) (b .before .loop .inv) _ _ (c .before .before .before .before .«record» .ensures)
+    replaying-on _ _ _ _ _ (b .before .loop .i) (omega (arith, b .loop-test .taken)) (b .before .loop .inv) _ _
+    (c .before .before .before .before .«record» .ensures)
     (c .before .before .replay .ensures) (c .before .before .replay .kept .1 .0)
 
 same-length : tie.Need-same-length Inv-loop μ-loop

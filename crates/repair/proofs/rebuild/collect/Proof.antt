@@ -1,4 +1,5 @@
--- `repair::rebuild::collect` meets its contract. The loop keeps `Collected`: the numbers stored and the chain from the next one are the whole chain.
+-- `repair::rebuild::collect` meets its contract. The loop keeps `Collected`: the numbers stored and the chain from the next one are the
+-- whole chain.
 use mathlib.Core.Path.{_≡_, refl, _∙_}
 use Prim.Native.Nat.{_-_}
 use native.Mathlib.Omega.{arith}
@@ -38,8 +39,10 @@ loop-less c = search needs
 
 loop-again : tie.Need-loop-again Inv-loop μ-loop
 loop-again c =
-    let l = c .before .before .loop in
-    (collected-on _ _ _ _ _ _ _ (l .inv .0) (c .before .loop-test .taken) (c .previous .ensures) (length-set (l .lsns) (l .i) (l .n)), length-set (l .lsns) (l .i) (l .n) ∙ l .inv .1)
+    let l = c .before .before .loop in (
+      collected-on _ _ _ _ _ _ _ (l .inv .0) (c .before .loop-test .taken) (c .previous .ensures) (length-set (l .lsns) (l .i) (l .n)),
+      length-set (l .lsns) (l .i) (l .n) ∙ l .inv .1,
+    )
 
 same-length : tie.Need-same-length Inv-loop μ-loop
 same-length c = c .before .loop .inv .1

@@ -24,7 +24,8 @@ returns : tie.Need-returns
 unfolding recordOf item
 returns c =
     let a = c .before .before .before .args in
-    c .u32-at .ensures ∙ ap (λ (k : ℕ). field 4 (k + 4) (now (a .volume))) (c .before .log-slot .ensures) ∙ sym (field-part 4 4 64 _ (now (a .volume)) (lit≤ tt))
+    c .u32-at .ensures ∙ ap (λ (k : ℕ). field 4 (k + 4) (now (a .volume))) (c .before .log-slot .ensures)
+    ∙ sym (field-part 4 4 64 _ (now (a .volume)) (lit≤ tt))
 
 pub previous-spec : {M : Type 1} → statement M
 previous-spec = tie.close (tie.spec log-slot-requires add-u32-at u32-at-requires returns)

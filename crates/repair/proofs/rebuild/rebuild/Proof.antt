@@ -37,8 +37,13 @@ replay-requires c κs =
 build-requires : tie.Need-build-requires
 build-requires c κs =
     let b = c .before .before .before .before .before .before .before .before .before .before .before in
-    let h = b .pre in
-    (around-length (now (b .args .dst)) (c .before .before .before .replay .last .1 .1 .1 .1 .1 .1 .0) (h .1 .1) (c .before .before .before .replay .kept .1 .1 .1 .1 .1 .1 .0 ∙ c .before .before .before .before .before .before .begin .kept .1 .1 .1 .1 .1 .1 .0 ∙ body-length (now (b .args .dst)) (h .1 .1)), omega (arith, h .0 .high, ready-sized _ _ _ _ _ (h .0) .pages))
+    let h = b .pre in (
+      around-length (now (b .args .dst)) (c .before .before .before .replay .last .1 .1 .1 .1 .1 .1 .0) (h .1 .1)
+          (c .before .before .before .replay .kept .1 .1 .1 .1 .1 .1 .0
+          ∙ c .before .before .before .before .before .before .begin .kept .1 .1 .1 .1 .1 .1 .0
+          ∙ body-length (now (b .args .dst)) (h .1 .1)),
+      omega (arith, h .0 .high, ready-sized _ _ _ _ _ (h .0) .pages),
+    )
 
 same-length : tie.Need-same-length
 same-length c = search needs
@@ -47,8 +52,12 @@ returns : tie.Need-returns
 returns c =
     let b = c .before .before .before .before .before .before .before .before .before .before .before .before .before .before in
     let h = b .pre in
-    built _ _ _ _ (h .1 .0) (now (b .args .dst)) _ (c .before .before .before .before .before .before .replay .last .1 .1 .1 .1 .1 .1 .0) _ (h .1 .1)
-    (c .before .before .before .before .before .before .replay .kept .1 .1 .1 .1 .1 .1 .0 ∙ c .before .before .before .before .before .before .before .before .before .begin .kept .1 .1 .1 .1 .1 .1 .0 ∙ body-length (now (b .args .dst)) (h .1 .1)) (c .before .before .before .before .before .before .before .before .before .begin .ensures) (c .before .before .before .before .before .before .replay .ensures) (c .before .before .build .ensures)
+    built _ _ _ _ (h .1 .0) (now (b .args .dst)) _
+    (c .before .before .before .before .before .before .replay .last .1 .1 .1 .1 .1 .1 .0) _ (h .1 .1)
+    (c .before .before .before .before .before .before .replay .kept .1 .1 .1 .1 .1 .1 .0
+    ∙ c .before .before .before .before .before .before .before .before .before .begin .kept .1 .1 .1 .1 .1 .1 .0 ∙ body-length
+    (now (b .args .dst)) (h .1 .1)) (c .before .before .before .before .before .before .before .before .before .begin .ensures)
+    (c .before .before .before .before .before .before .replay .ensures) (c .before .before .build .ensures)
 
 pub rebuild-spec : {M : Type 1} → statement M
 rebuild-spec =

@@ -5,8 +5,7 @@ use Rattle.repair.proofs.walk.backup_number.Statement.{statement}
 use Rattle.repair.proofs.walk.backup_number.Tie as tie
 use Rattle.repair.proofs.walk.backup_number.Reads as reads
 use Rattle.repair.proofs.walk.backup_number.Lts as lts
-use Rattle.item.proofs.image.lsn.Reads as lsn-reads
-use Rattle.item.proofs.image.valid.Reads as valid-reads
+use Rattle.repair.proofs.walk.numbered.Reads as numbered-reads
 use Rattle.volume.proofs.place.slot.Reads as slot-reads
 
 cast-slot : tie.Need-cast-slot
@@ -18,23 +17,22 @@ returns c = slot-none _ _ (c .before .before .before .args .first) (c .before .b
 slot-requires : tie.Need-slot-requires
 slot-requires c κs = slot-fits _ _ _ _ _ (c .before .before .before .pre) (c .if1 .left)
 
-valid-requires : tie.Need-valid-requires
-valid-requires c κs = search needs
-
-lsn-requires : tie.Need-lsn-requires
-lsn-requires c κs = search needs
+numbered-requires : tie.Need-numbered-requires
+numbered-requires c κs = search needs
 
 returns-2 : tie.Need-returns-2
 returns-2 c =
-    backup-valid _ _ (c .before .before .before .before .before .before .before .before .args .first) (c .before .before .before .before .before .before .before .before .args .e) _ (c .before .before .before .before .before .if1 .left) _ (c .before .before .before .before .slot .ensures)
-    _ (c .before .before .before .valid .ensures) _ (c .before .before .lsn .ensures) (c .if2 .taken)
+    let a = c .before .before .before .before .before .before .args in
+    backup-valid _ _ (a .first) (a .e) _ (c .before .before .before .if1 .left) _ (c .before .before .slot .ensures) _
+    (c .before .numbered .ensures) (c .if2 .taken)
 
 returns-3 : tie.Need-returns-3
 returns-3 c =
-    backup-none _ _ (c .before .before .before .before .before .before .before .before .args .first) (c .before .before .before .before .before .before .before .before .args .e) _ (c .before .before .before .before .before .if1 .left) _ (c .before .before .before .before .slot .ensures)
-    _ (c .before .before .before .valid .ensures) _ (c .before .before .lsn .ensures) (c .if2 .left)
+    let a = c .before .before .before .before .before .before .args in
+    backup-none _ _ (a .first) (a .e) _ (c .before .before .before .if1 .left) _ (c .before .before .slot .ensures) _
+    (c .before .numbered .ensures) (c .if2 .left)
 
 pub backup-number-spec : {M : Type 1} → statement M
 backup-number-spec =
     tie.close
-    (tie.spec cast-slot returns slot-requires valid-requires lsn-requires returns-2 returns-3)
+    (tie.spec cast-slot returns slot-requires numbered-requires returns-2 returns-3)

@@ -11,7 +11,7 @@ use Rattle.repair.proofs.walk.look.Tie as tie
 use Rattle.repair.proofs.walk.look.Reads as reads
 use Rattle.repair.proofs.walk.look.Lts as lts
 use Rattle.item.proofs.record.read.Reads as read-reads
-use Rattle.repair.proofs.walk.readable.Reads as readable-reads
+use Rattle.repair.proofs.walk.passes.Reads as passes-reads
 use Rattle.volume.proofs.place.record.Reads as record-reads
 
 returns : tie.Need-returns
@@ -24,30 +24,41 @@ returns-3 : tie.Need-returns-3
 returns-3 c = step-copy _ _ _ _ _ _ (c .before .before .if1 .left) (c .before .if2 .left) (c .if3 .taken)
 
 returns-4 : tie.Need-returns-4
-returns-4 c = step-below _ _ _ _ _ _ (c .before .before .before .if1 .left) (c .before .before .if2 .left) (c .before .if3 .left) (c .if4 .taken)
+returns-4 c =
+    step-below _ _ _ _ _ _ (c .before .before .before .if1 .left) (c .before .before .if2 .left) (c .before .if3 .left) (c .if4 .taken)
 
 record-requires : tie.Need-record-requires
 record-requires c κs =
-    let h = c .before .before .before .before .before .pre in
+    let h = c .before .before .before .before .before .pre .0 in
     (sized _ _ (h .0) (h .1) .some, record-fits _ _ (h .0) (h .1) _)
 
-readable-requires : tie.Need-readable-requires
-readable-requires c κs =
-    let h = c .before .before .before .before .before .before .pre in
-    omega (arith, ap length (c .«record» .ensures), record-length _ _ (h .0) (h .1) (c .before .before .before .before .before .before .args .n))
+passes-requires : tie.Need-passes-requires
+passes-requires c κs =
+    let h = c .before .before .before .before .before .before .pre .0 in
+    omega (
+      arith,
+      ap length (c .«record» .ensures),
+      record-length _ _ (h .0) (h .1) (c .before .before .before .before .before .before .args .n),
+    )
 
 returns-5 : tie.Need-returns-5
 returns-5 c =
-    step-broken _ _ _ _ _ _ (c .before .before .before .before .before .before .if1 .left) (c .before .before .before .before .before .if2 .left)
-    (c .before .before .before .before .if3 .left) (c .before .before .before .if4 .left) _ (c .before .before .«record» .ensures) _ (c .before .readable .ensures) (not-true _ (c .if5 .taken))
+    let s = c .before .before .before .before .before .before .before .before in
+    step-broken _ _ _ _ _ _ (c .before .before .before .before .before .before .if1 .left)
+    (c .before .before .before .before .before .if2 .left)
+    (c .before .before .before .before .if3 .left) (c .before .before .before .if4 .left) _ (c .before .before .«record» .ensures) _
+    (s .pre .1) _ (c .before .passes .ensures) (not-true _ (c .if5 .taken))
 
 read-requires : tie.Need-read-requires
 read-requires c κs = search needs
 
 returns-6 : tie.Need-returns-6
 returns-6 c =
-    step-read _ _ _ _ _ _ (c .before .before .before .before .before .before .before .before .if1 .left) (c .before .before .before .before .before .before .before .if2 .left)
-    (c .before .before .before .before .before .before .if3 .left) (c .before .before .before .before .before .if4 .left) _ (c .before .before .before .before .«record» .ensures) _ (c .before .before .before .readable .ensures)
+    let s = c .before .before .before .before .before .before .before .before .before .before in
+    step-read _ _ _ _ _ _ (c .before .before .before .before .before .before .before .before .if1 .left)
+    (c .before .before .before .before .before .before .before .if2 .left)
+    (c .before .before .before .before .before .before .if3 .left) (c .before .before .before .before .before .if4 .left) _
+    (c .before .before .before .before .«record» .ensures) _ (s .pre .1) _ (c .before .before .before .passes .ensures)
     _ (c .before .read .ensures) (not-false _ (c .before .before .if5 .left))
 
 pub look-spec : {M : Type 1} → statement M
@@ -59,7 +70,7 @@ look-spec =
     returns-3
     returns-4
     record-requires
-    readable-requires
+    passes-requires
     returns-5
     read-requires
     returns-6)

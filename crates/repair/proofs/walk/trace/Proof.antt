@@ -6,7 +6,7 @@ use denote.Ref.{now}
 use Rattle.repair.specs.Walked.{logOf, stepOf}
 use Rattle.repair.specs.declared.walk.Step.the-variants.{Halt, Read}
 use Rattle.repair.proofs.Links.{step-falls}
-use Rattle.repair.proofs.Walks.{Down, down-start, down-on, down-format, down-halt}
+use Rattle.repair.proofs.Walks.{Down, down-start, down-sound, down-on, down-format, down-halt}
 use Rattle.repair.proofs.walk.trace.Statement.{statement}
 use Rattle.repair.proofs.walk.trace.Tie as tie
 use Rattle.repair.proofs.walk.trace.Reads as reads
@@ -14,10 +14,10 @@ use Rattle.repair.proofs.walk.trace.Lts as lts
 use Rattle.repair.proofs.walk.look.Reads as look-reads
 
 abbrev Inv-loop : tie.InvT-loop
-Inv-loop volume g first page own backup from n₀ count₀ n count = Down (logOf g volume) first page own backup n₀ n count
+Inv-loop volume g first page own backup sure from n₀ count₀ n count = Down (logOf g volume) first page own backup n₀ n count
 
 abbrev μ-loop : tie.MeasureT-loop
-μ-loop volume g first page own backup from n₀ count₀ n count = n
+μ-loop volume g first page own backup sure from n₀ count₀ n count = n
 
 -- where the walk halts: the step
 halted : (c : tie.After-known-told Inv-loop μ-loop)
@@ -37,7 +37,9 @@ loop-holds : tie.Need-loop-holds Inv-loop μ-loop
 loop-holds c = down-start _ _ _ _ _ _
 
 look-requires : tie.Need-look-requires Inv-loop μ-loop
-look-requires c κs = c .before .before .pre
+look-requires c κs =
+    let h = c .before .before .pre in
+    (h .0, λ s. down-sound _ _ _ _ _ _ _ _ (c .loop .inv) (h .1 s))
 
 enum-known-s : tie.Need-enum-known-s Inv-loop μ-loop
 enum-known-s c = search needs

@@ -1,26 +1,17 @@
--- `heading::known` tests the three headings.
+-- `heading::known` tests the tag, and the heading with it.
 use borrow.Author.Needs.{needs}
+use Rattle.volume.proofs.Readings.{known-tag}
 use Rattle.volume.proofs.heading.known.Statement.{statement}
 use Rattle.volume.proofs.heading.known.Tie as tie
 use Rattle.volume.proofs.heading.known.Reads as reads
 use Rattle.volume.proofs.heading.known.Lts as lts
 use Rattle.volume.proofs.heading.headed.Reads as headed-reads
 
--- src/heading.rt:46:5
 headed-requires : tie.Need-headed-requires
 headed-requires c κs = search needs
 
--- src/heading.rt:46:29
-headed-requires-2 : tie.Need-headed-requires-2
-headed-requires-2 c κs = search needs
-
--- src/heading.rt:46:53
-headed-requires-3 : tie.Need-headed-requires-3
-headed-requires-3 c κs = search needs
-
--- src/heading.rt:43:1
 returns : tie.Need-returns
-returns c = rw (c .before .before .headed .ensures, c .before .headed2 .ensures, c .headed3 .ensures)
+returns c = known-tag _ _ _ (c .before .before .pre) (c .headed .ensures)
 
 pub known-spec : {M : Type 1} → statement M
-known-spec = tie.close (tie.spec headed-requires headed-requires-2 headed-requires-3 returns)
+known-spec = tie.close (tie.spec headed-requires returns)

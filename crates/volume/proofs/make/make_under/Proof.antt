@@ -21,14 +21,17 @@ returns : tie.Need-returns
 returns c = make-refused _ _ _ _ _ _ _ _ (c .before .before .counts .ensures) (c .before .size .ensures) (c .if1 .taken)
 
 write-requires : tie.Need-write-requires
-write-requires c κs = make-fits (now (c .before .before .before .before .before .args .v)) (c .before .before .before .before .before .args .h) _ _ _ _ _ _ (c .before .before .before .counts .ensures) (c .before .before .size .ensures) (c .before .if1 .left)
+write-requires c κs =
+    make-fits (now (c .before .before .before .before .before .args .v)) (c .before .before .before .before .before .args .h) _ _ _ _ _ _
+    (c .before .before .before .counts .ensures) (c .before .before .size .ensures) (c .before .if1 .left)
 
 same-length : tie.Need-same-length
 same-length c = search needs
 
 returns-2 : tie.Need-returns-2
 returns-2 c =
-    let d = make-done _ _ _ _ _ _ _ _ (c .before .before .before .before .before .before .counts .ensures) (c .before .before .before .before .before .size .ensures) (c .before .before .before .before .if1 .left) in
+    let d = make-done _ _ _ _ _ _ _ _ (c .before .before .before .before .before .before .counts .ensures)
+    (c .before .before .before .before .before .size .ensures) (c .before .before .before .before .if1 .left) in
     (d .0, c .before .before .write .ensures ∙ d .1)
 
 pub make-under-spec : {M : Type 1} → statement M

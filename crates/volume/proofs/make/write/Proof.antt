@@ -79,8 +79,12 @@ returns : tie.Need-returns
 returns c =
     let e = c .before .before .before .before .before .before .before .before in
     let d = e .before .before .before .before .before .before .before .before .before .before .before .before in
-    fresh _ _ _ _ _ _ _ _ _ _ _ _ (d .before .before .before .before .before .before .before .pre) (d .before .before .before .before .fill .ensures) (d .put-u32 .ensures) (e .before .before .before .before .before .before .before .before .put-u322 .ensures) (e .before .before .before .before .put-u323 .ensures)
-    (e .put-u324 .ensures) (c .before .before .put .ensures ∙ ap (splice _ 0) (c .before .before .before .before .before .magic-bytes .ensures))
+    fresh _ _ _ _ _ _ _ _ _ _ _ _
+    (d .before .before .before .before .before .before .before .pre) (d .before .before .before .before .fill .ensures)
+    (d .put-u32 .ensures) (e .before .before .before .before .before .before .before .before .put-u322 .ensures)
+    (e .before .before .before .before .put-u323 .ensures)
+    (e .put-u324 .ensures)
+    (c .before .before .put .ensures ∙ ap (splice _ 0) (c .before .before .before .before .before .magic-bytes .ensures))
 
 pub write-spec : {M : Type 1} → statement M
 write-spec =

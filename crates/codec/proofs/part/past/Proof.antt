@@ -1,0 +1,36 @@
+-- `codec::part::past` meets its contract.
+use mathlib.Core.Path.{sym, _∙_}
+use native.Mathlib.Omega.{arith}
+use denote.Ref.{now}
+use borrow.Author.Needs.{needs}
+use Rattle.codec.proofs.Runs.{zero-field}
+use Rattle.codec.proofs.part.past.Statement.{statement}
+use Rattle.codec.proofs.part.past.Tie as tie
+use Rattle.codec.proofs.part.past.Reads as reads
+use Rattle.codec.proofs.part.past.Lts as lts
+use Rattle.codec.proofs.field.eight.Reads as eight-reads
+
+sub-if1 : tie.Need-sub-if1
+sub-if1 c = search needs
+
+returns : tie.Need-returns
+returns c = search needs
+
+eight-requires : tie.Need-eight-requires
+eight-requires c κs = search needs
+
+returns-2 : tie.Need-returns-2
+returns-2 c = search needs
+
+add-result : tie.Need-add-result
+add-result c = search needs
+
+returns-3 : tie.Need-returns-3
+returns-3 c =
+    let a = c .before .before .before .before .args in (
+      search needs,
+      sym (zero-field 8 (a .i) (now (a .s)) (omega arith) (sym (c .before .eight .ensures) ∙ c .if2 .left)),
+    )
+
+pub past-spec : {M : Type 1} → statement M
+past-spec = tie.close (tie.spec sub-if1 returns eight-requires returns-2 add-result returns-3)

@@ -1,0 +1,54 @@
+-- `repair::rebuild::replay_in` meets its contract: the numbers that are collected are the walk's chain.
+use Prim.Native.Nat.{ℕ}
+use mathlib.Core.Path.{_≡_, sym, ap, _∙_}
+use mathlib.Core.List.{List}
+use denote.Ref.{now}
+use lib.ListN.{length, take}
+use Rattle.model.specs.Repair.{viewOf, walkOf, replayChain}
+use Rattle.model.specs.declared.geometry.Geometry.{Geometry}
+use Rattle.model.specs.declared.state.Entry.{Entry}
+use Rattle.repair.specs.Walked.{Ready, logOf, chainFrom}
+use Rattle.repair.proofs.Replays.{chain-is}
+use Rattle.repair.proofs.Starts.{ready-sized}
+use borrow.Author.Needs.{needs}
+use Rattle.repair.proofs.rebuild.replay_in.Statement.{statement}
+use Rattle.repair.proofs.rebuild.replay_in.Tie as tie
+use Rattle.repair.proofs.rebuild.replay_in.Reads as reads
+use Rattle.repair.proofs.rebuild.replay_in.Lts as lts
+use Rattle.repair.proofs.rebuild.apply.Reads as apply-reads
+use Rattle.repair.proofs.rebuild.collect.Reads as collect-reads
+
+module _ (v : List ℕ) (g : Geometry) (f : ℕ) (e : Entry) (page count : ℕ) (h : Ready v g f e page)
+    (k : count ≡ length (walkOf g page (viewOf g v f e page) .chain)) where
+  collected : (lsns : List ℕ) → take count lsns ≡ chainFrom count (logOf g v) (e .durable)
+      → take count lsns ≡ walkOf g page (viewOf g v f e page) .chain
+  collected lsns t = t ∙ ap (λ (n : ℕ). chainFrom n (logOf g v) (e .durable)) k ∙ sym (chain-is g page (viewOf g v f e page))
+
+collect-requires : tie.Need-collect-requires
+collect-requires c κs = let b = c .before .before .before .before in (ready-sized _ _ _ _ _ (b .pre .0) .some, b .pre .1 .1 .0)
+
+apply-requires : tie.Need-apply-requires
+apply-requires c κs =
+    let b = c .before .before .before .before .before .before .before .before .before in
+    let l = c .before .before .before .before .collect in
+    let size = b .pre .1 .1 .0 in (
+      b .pre .0,
+      (collected _ _ (b .args .first) (b .args .e) _ _ (b .pre .0) (b .pre .1 .0) _ (l .ensures), (search needs, b .pre .1 .1 .1)),
+    )
+
+same-length : tie.Need-same-length
+same-length c = search needs
+
+same-length-2 : tie.Need-same-length-2
+same-length-2 c = search needs
+
+returns : tie.Need-returns
+returns c =
+    let b = c .before .before .before .before .before .before .before .before .before .before .before .before in
+    c .before .before .apply .ensures
+    ∙ ap (λ (l : List ℕ). replayChain (logOf (b .args .g) (now (b .args .volume))) l (now (b .args .body)))
+    (collected _ _ (b .args .first) (b .args .e) _ _ (b .pre .0) (b .pre .1 .0) _
+    (c .before .before .before .before .before .before .before .collect .ensures))
+
+pub replay-in-spec : {M : Type 1} → statement M
+replay-in-spec = tie.close (tie.spec collect-requires apply-requires same-length same-length-2 returns)

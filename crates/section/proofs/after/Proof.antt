@@ -1,0 +1,21 @@
+-- `section::after` meets its contract.
+use mathlib.Core.Path.{sym}
+use native.Mathlib.Omega.{arith}
+use borrow.Author.Needs.{needs}
+use Rattle.section.proofs.SectionLaws.{after-last, after-other}
+use Rattle.section.proofs.after.Statement.{statement}
+use Rattle.section.proofs.after.Tie as tie
+use Rattle.section.proofs.after.Reads as reads
+use Rattle.section.proofs.after.Lts as lts
+
+add-next : tie.Need-add-next
+add-next c = search needs
+
+returns : tie.Need-returns
+returns c = after-last _ _ (c .if1 .taken)
+
+returns-2 : tie.Need-returns-2
+returns-2 c = after-other _ _ (c .before .pre) (c .if1 .left)
+
+pub after-spec : {M : Type 1} → statement M
+after-spec = tie.close (tie.spec add-next returns returns-2)

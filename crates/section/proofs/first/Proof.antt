@@ -1,0 +1,53 @@
+-- `section::first` meets its contract.
+use borrow.Author.Tests.{not-true, not-false}
+use Rattle.section.proofs.SectionLaws.{first-one, first-whole, first-torn}
+use borrow.Author.Needs.{needs}
+use Rattle.section.proofs.first.Statement.{statement}
+use Rattle.section.proofs.first.Tie as tie
+use Rattle.section.proofs.first.Reads as reads
+use Rattle.section.proofs.first.Lts as lts
+use Rattle.section.proofs.above.Reads as above-reads
+use Rattle.section.proofs.next.Reads as next-reads
+
+returns : tie.Need-returns
+returns c = first-one _ _ _ (not-true _ (c .if1 .taken))
+
+above-requires : tie.Need-above-requires
+above-requires c κs = search needs
+
+next-requires : tie.Need-next-requires
+next-requires c κs = c .before .before .before .before .pre
+
+cast-result : tie.Need-cast-result
+cast-result c = search needs
+
+add-result : tie.Need-add-result
+add-result c = search needs
+
+cast-result-2 : tie.Need-cast-result-2
+cast-result-2 c = search needs
+
+add-result-2 : tie.Need-add-result-2
+add-result-2 c = search needs
+
+returns-2 : tie.Need-returns-2
+returns-2 c = first-whole _ _ _ _ _ (c .before .before .above .ensures) (c .before .next .ensures)
+    (not-false _ (c .before .before .before .if1 .left)) (c .if2 .taken)
+
+returns-3 : tie.Need-returns-3
+returns-3 c = first-torn _ _ _ _ _ (c .before .before .above .ensures) (c .before .next .ensures)
+    (not-false _ (c .before .before .before .if1 .left)) (c .if2 .left)
+
+pub first-spec : {M : Type 1} → statement M
+first-spec =
+    tie.close
+    (tie.spec
+    returns
+    above-requires
+    next-requires
+    cast-result
+    add-result
+    cast-result-2
+    add-result-2
+    returns-2
+    returns-3)

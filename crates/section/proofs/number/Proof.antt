@@ -1,0 +1,25 @@
+-- `section::number` meets its contract.
+use borrow.Author.Needs.{needs}
+use mathlib.Core.Path.{sym, _∙_}
+use Rattle.laws.proofs.Tables.{when-true, when-false}
+use Rattle.section.proofs.number.Statement.{statement}
+use Rattle.section.proofs.number.Tie as tie
+use Rattle.section.proofs.number.Reads as reads
+use Rattle.section.proofs.number.Lts as lts
+use Rattle.sums.proofs.checksum.holds.Reads as holds-reads
+use Rattle.codec.proofs.field.u32_at.Reads as u32-at-reads
+
+holds-requires : tie.Need-holds-requires
+holds-requires c κs = search needs
+
+u32-at-requires : tie.Need-u32-at-requires
+u32-at-requires c κs = search needs
+
+returns : tie.Need-returns
+returns c = c .u32-at .ensures ∙ sym (when-true _ _ (sym (c .before .before .holds .ensures) ∙ c .before .if1 .taken))
+
+returns-2 : tie.Need-returns-2
+returns-2 c = sym (when-false _ _ (sym (c .before .holds .ensures) ∙ c .if1 .left))
+
+pub number-spec : {M : Type 1} → statement M
+number-spec = tie.close (tie.spec holds-requires u32-at-requires returns returns-2)

@@ -1,0 +1,66 @@
+use mathlib.Core.Path.{_≡_, sym, _∙_}
+use native.Mathlib.Omega.{arith}
+use denote.Ref.{now}
+use Rattle.section.proofs.SectionLaws.{rest-fits, rest-part, rest-none}
+use borrow.Author.Needs.{needs}
+use Rattle.section.proofs.rest.Statement.{statement}
+use Rattle.section.proofs.rest.Tie as tie
+
+returns : tie.Need-returns
+returns c = sym (rest-none _ _ _ _ _ (c .if1 .taken))
+
+add-from : tie.Need-add-from
+add-from c = search needs
+
+mul-from : tie.Need-mul-from
+mul-from c =
+    let a = c .before .before .args in
+    omega (arith, rest-fits (a .size) (a .count) (a .n) (c .if1 .left))
+
+add-from-2 : tie.Need-add-from-2
+add-from-2 c =
+    let a = c .before .before .args in
+    omega (arith, rest-fits (a .size) (a .count) (a .n) (c .if1 .left))
+
+mul-end : tie.Need-mul-end
+mul-end c = search needs
+
+add-end : tie.Need-add-end
+add-end c = search needs
+
+sub-zero : tie.Need-sub-zero
+sub-zero c =
+    let a = c .before .before .args in
+    omega (arith, rest-fits (a .size) (a .count) (a .n) (c .if1 .left))
+
+part-zero-start : tie.Need-part-zero-start
+part-zero-start c =
+    let a = c .before .before .args in
+    omega (arith, rest-fits (a .size) (a .count) (a .n) (c .if1 .left))
+
+part-zero-end : tie.Need-part-zero-end
+part-zero-end c = search needs
+
+zero-requires : tie.Need-zero-requires
+zero-requires c κs = search needs
+
+returns-2 : tie.Need-returns-2
+returns-2 c =
+    let a = c .before .before .before .before .args in
+    c .zero .ensures ∙ rest-part (a .size) (a .count) (a .n) (c .before .before .if1 .left) (now (a .volume)) (a .at)
+
+pub rest-spec : {M : Type 1} → statement M
+rest-spec =
+    tie.close
+    (tie.spec
+    returns
+    add-from
+    mul-from
+    add-from-2
+    mul-end
+    add-end
+    sub-zero
+    part-zero-start
+    part-zero-end
+    zero-requires
+    returns-2)

@@ -1,0 +1,110 @@
+-- `section::sealed` meets its contract. The loop keeps: the slots passed are whole.
+use mathlib.Core.Path.{_≡_, refl, sym, ap, _∙_}
+use mathlib.Core.Logic.{⊎-elim}
+use mathlib.Core.Bool.{true}
+use Prim.Native.Nat.{_+_, _-_, _*_}
+use native.Mathlib.Omega.{arith}
+use borrow.Author.Needs.{needs}
+use borrow.Author.Tests.{not-true, not-false}
+use denote.Ref.{now}
+use Rattle.laws.proofs.Parts.{part-lent}
+use Rattle.laws.proofs.Tables.{when-true}
+use Rattle.model.specs.Bytes.{le, field, part}
+use Rattle.model.specs.Checksum.{sealed}
+use Rattle.section.specs.Section.{highestAt}
+use Rattle.section.proofs.SectionLaws.{Whole, whole-none, whole-room, whole-all, whole-stops, whole-on, none, one-more, step-on, front-is}
+use Rattle.section.proofs.sealed.Statement.{statement}
+use Rattle.section.proofs.sealed.Tie as tie
+use Rattle.section.proofs.sealed.Reads as reads
+use Rattle.section.proofs.sealed.Lts as lts
+use Rattle.sums.proofs.checksum.holds.Reads as holds-reads
+use Rattle.codec.proofs.field.u32_at.Reads as u32-at-reads
+use Rattle.section.proofs.larger.Reads as larger-reads
+
+abbrev Inv-loop : tie.InvT-loop
+Inv-loop v at n most k₀ from₀ top₀ k from top = Whole n v at most k from × (from ≡ at + (n + 4) * k) × (top ≡ highestAt n v at k)
+
+abbrev μ-loop : tie.MeasureT-loop
+μ-loop v at n most k₀ from₀ top₀ k from top = most - k
+
+loop-holds : tie.Need-loop-holds Inv-loop μ-loop
+loop-holds c = (whole-none _ _ _ _ (c .before .pre .0), omega arith, none _ _ _)
+
+add-end : tie.Need-add-end Inv-loop μ-loop
+add-end c = search needs
+
+add-end-2 : tie.Need-add-end-2 Inv-loop μ-loop
+add-end-2 c = omega (arith, whole-room _ _ _ _ _ _ (c .before .loop .inv .0) (c .loop-test .taken))
+
+sub-item : tie.Need-sub-item Inv-loop μ-loop
+sub-item c = search needs
+
+part-item-start : tie.Need-part-item-start Inv-loop μ-loop
+part-item-start c = search needs
+
+part-item-end : tie.Need-part-item-end Inv-loop μ-loop
+part-item-end c = whole-room _ _ _ _ _ _ (c .before .loop .inv .0) (c .loop-test .taken)
+
+holds-requires : tie.Need-holds-requires Inv-loop μ-loop
+holds-requires c κs = search needs
+
+u32-at-requires : tie.Need-u32-at-requires Inv-loop μ-loop
+u32-at-requires c κs = search needs
+
+larger-requires : tie.Need-larger-requires Inv-loop μ-loop
+larger-requires c κs = search needs
+
+add-k : tie.Need-add-k Inv-loop μ-loop
+add-k c = search needs
+
+loop-less : tie.Need-loop-less Inv-loop μ-loop
+loop-less c = search needs
+
+loop-again : tie.Need-loop-again Inv-loop μ-loop
+loop-again c =
+    let a = c .before .before .before .before .before .before .before .before .args in
+    let l = c .before .before .before .before .before .before .loop in
+    let v = now (a .v) in
+    let p = part-lent v (l .from) (a .n + 4) (l .from + (a .n + 4)) refl in
+    let t : sealed (a .n) (part v (l .from) (a .n + 4)) ≡ true = ap (sealed (a .n)) (sym p)
+    ∙ sym (c .before .before .before .holds .ensures) ∙ not-false _ (c .before .before .if1 .left) in
+    let q = c .before .u32-at .ensures ∙ ap (field 4 0) p ∙ sym (when-true (field 4 0 (part v (l .from) (a .n + 4))) 0 t) in (
+      whole-on _ _ _ _ _ _ (l .inv .0) (c .before .before .before .before .before .loop-test .taken) t,
+      step-on (a .n + 4) (l .k) (l .from) (a .at) (l .inv .1),
+      c .larger .ensures ∙ one-more (a .n) v (a .at) (l .k) (l .from) (l .top) _ (l .inv .1) (l .inv .2) q,
+    )
+
+cast-t16 : tie.Need-cast-t16 Inv-loop μ-loop
+cast-t16 c = omega (arith, c .before .loop .inv .0 .below)
+
+returns : tie.Need-returns Inv-loop μ-loop
+returns c =
+    let a = c .before .before .before .args in
+    let l = c .before .loop in
+    let v = now (a .v) in
+    front-is (a .n) v (a .at) (a .most) (l .k) (l .top) (l .inv .2)
+    (⊎-elim (λ w. whole-all _ _ _ _ _ _ (l .inv .0) (w .left))
+    (λ w. whole-stops _ _ _ _ _ _ (l .inv .0) (w .0 .taken)
+    (ap (sealed (a .n)) (sym (part-lent v (l .from) (a .n + 4) _ refl)) ∙ sym (w .2 .ensures) ∙ not-true _ (w .3 .taken)))
+    (c .loop-test .came))
+
+pub sealed-spec : {M : Type 1} → statement M
+sealed-spec =
+    tie.close
+    (tie.spec
+    Inv-loop
+    μ-loop
+    loop-holds
+    add-end
+    add-end-2
+    sub-item
+    part-item-start
+    part-item-end
+    holds-requires
+    u32-at-requires
+    larger-requires
+    add-k
+    loop-less
+    loop-again
+    cast-t16
+    returns)

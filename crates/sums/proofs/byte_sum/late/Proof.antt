@@ -1,0 +1,79 @@
+-- `sums::byte_sum::late` meets its contract. The loop keeps the sums' remainders, and bounds that are linear in the bytes read.
+use mathlib.Core.Path.{_≡_, sym, _∙_}
+use Prim.Native.Nat.{_+_, _*_, _-_, _%_, _≤_}
+use native.Mathlib.Omega.{arith}
+use borrow.Author.Needs.{needs}
+use lib.ListN.{length, drop}
+use denote.Ref.{now}
+use Rattle.model.specs.Checksum.{byteSumFrom, byteSum}
+use Rattle.laws.proofs.Checksums.{byteSum-byte-late, byteSum-end}
+use Rattle.sums.proofs.byte_sum.late.Statement.{statement}
+use Rattle.sums.proofs.byte_sum.late.Tie as tie
+use Rattle.sums.proofs.byte_sum.late.Reads as reads
+use Rattle.sums.proofs.byte_sum.late.Lts as lts
+use Rattle.sums.proofs.checksum.wide.Reads as wide-reads
+
+abbrev Inv-loop : tie.InvT-loop
+Inv-loop s a₀ b₀ i₀ a b i =
+    (i ≤ length s) × (a ≤ 4294967296 + 65536 * i) × (b ≤ 1125899906842624 + 17179869184 * i)
+    × (byteSumFrom (a % 65535) (b % 65535) (drop i s) ≡ byteSum s)
+
+abbrev μ-loop : tie.MeasureT-loop
+μ-loop s a₀ b₀ i₀ a b i = length s - i
+
+loop-holds : tie.Need-loop-holds Inv-loop μ-loop
+loop-holds c = search needs
+
+shared-slice-read-wide : tie.Need-shared-slice-read-wide Inv-loop μ-loop
+shared-slice-read-wide c = search needs
+
+wide-requires : tie.Need-wide-requires Inv-loop μ-loop
+wide-requires c κs = search needs
+
+add-a : tie.Need-add-a Inv-loop μ-loop
+add-a c = search needs
+
+add-b : tie.Need-add-b Inv-loop μ-loop
+add-b c = search needs
+
+add-i : tie.Need-add-i Inv-loop μ-loop
+add-i c = search needs
+
+loop-less : tie.Need-loop-less Inv-loop μ-loop
+loop-less c = search needs
+
+loop-again : tie.Need-loop-again Inv-loop μ-loop
+loop-again c =
+    let l = c .before .before .before .loop in
+    let xs = now (c .before .before .before .before .before .args .s) in (
+      search needs,
+      search needs,
+      search needs,
+      rw (c .wide .ensures .0) (sym (byteSum-byte-late (l .a) (l .b) (l .i) xs (omega arith)) ∙ l .inv .3),
+    )
+
+value-requires : tie.Need-value-requires Inv-loop μ-loop
+value-requires c κs = search needs
+
+returns : tie.Need-returns Inv-loop μ-loop
+returns c =
+    let l = c .before .before .loop in
+    c .value .ensures ∙ sym
+    (byteSum-end (l .a % 65535) (l .b % 65535) (l .i) (now (c .before .before .before .before .args .s)) (omega arith)) ∙ l .inv .3
+
+pub late-spec : {M : Type 1} → statement M
+late-spec =
+    tie.close
+    (tie.spec
+    Inv-loop
+    μ-loop
+    loop-holds
+    shared-slice-read-wide
+    wide-requires
+    add-a
+    add-b
+    add-i
+    loop-less
+    loop-again
+    value-requires
+    returns)

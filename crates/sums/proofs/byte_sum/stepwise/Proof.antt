@@ -1,0 +1,84 @@
+-- `sums::byte_sum::stepwise` meets its contract. The loop keeps: the byte sum of what is left, from the sums so far, is that of the whole.
+use mathlib.Core.Path.{_≡_, sym, _∙_}
+use Prim.Native.Nat.{_+_, _*_, _-_, _≤_, _<_}
+use native.Mathlib.Omega.{arith}
+use borrow.Author.Needs.{needs}
+use lib.ListN.{length, drop}
+use denote.Ref.{now}
+use Rattle.model.specs.Checksum.{byteSumFrom, byteSum}
+use Rattle.laws.proofs.Checksums.{byteSum-byte, byteSum-end}
+use Rattle.sums.proofs.byte_sum.stepwise.Statement.{statement}
+use Rattle.sums.proofs.byte_sum.stepwise.Tie as tie
+use Rattle.sums.proofs.byte_sum.stepwise.Reads as reads
+use Rattle.sums.proofs.byte_sum.stepwise.Lts as lts
+use Rattle.sums.proofs.checksum.wide.Reads as wide-reads
+
+abbrev Inv-loop : tie.InvT-loop
+Inv-loop v a₀ b₀ i₀ a b i = (i ≤ length v) × (a < 65535) × (b < 65535) × (byteSumFrom a b (drop i v) ≡ byteSum v)
+
+abbrev μ-loop : tie.MeasureT-loop
+μ-loop v a₀ b₀ i₀ a b i = length v - i
+
+loop-holds : tie.Need-loop-holds Inv-loop μ-loop
+loop-holds c = search needs
+
+shared-slice-read-wide : tie.Need-shared-slice-read-wide Inv-loop μ-loop
+shared-slice-read-wide c = search needs
+
+wide-requires : tie.Need-wide-requires Inv-loop μ-loop
+wide-requires c κs = search needs
+
+add-a : tie.Need-add-a Inv-loop μ-loop
+add-a c = search needs
+
+add-b : tie.Need-add-b Inv-loop μ-loop
+add-b c = search needs
+
+add-i : tie.Need-add-i Inv-loop μ-loop
+add-i c = search needs
+
+loop-less : tie.Need-loop-less Inv-loop μ-loop
+loop-less c = search needs
+
+loop-again : tie.Need-loop-again Inv-loop μ-loop
+loop-again c =
+    let l = c .before .before .before .loop in
+    let xs = now (c .before .before .before .before .before .args .v) in (
+      omega arith,
+      omega arith,
+      omega arith,
+      rw (c .wide .ensures .0) (sym (byteSum-byte (l .a) (l .b) (l .i) xs (c .before .before .loop-test .taken)) ∙ l .inv .3),
+    )
+
+mul-result : tie.Need-mul-result Inv-loop μ-loop
+mul-result c = search needs
+
+add-result : tie.Need-add-result Inv-loop μ-loop
+add-result c = search needs
+
+cast-result : tie.Need-cast-result Inv-loop μ-loop
+cast-result c = search needs
+
+returns : tie.Need-returns Inv-loop μ-loop
+returns c =
+    let l = c .before .loop in
+    sym (byteSum-end (l .a) (l .b) (l .i) (now (c .before .before .before .args .v)) (c .loop-test .left)) ∙ l .inv .3
+
+pub stepwise-spec : {M : Type 1} → statement M
+stepwise-spec =
+    tie.close
+    (tie.spec
+    Inv-loop
+    μ-loop
+    loop-holds
+    shared-slice-read-wide
+    wide-requires
+    add-a
+    add-b
+    add-i
+    loop-less
+    loop-again
+    mul-result
+    add-result
+    cast-result
+    returns)

@@ -1,0 +1,109 @@
+-- `word_lanes::step`: each lane gets its word.
+use mathlib.Core.Path.{_≡_, refl, ap}
+use Prim.Native.Nat.{ℕ, _+_}
+use native.Mathlib.Omega.{arith}
+use borrow.Author.Needs.{needs}
+use Rattle.sums.proofs.word_lanes.step.Statement.{statement}
+use Rattle.sums.proofs.word_lanes.step.Tie as tie
+
+word-requires : tie.Need-word-requires
+word-requires c κs = search needs
+
+add-t5 : tie.Need-add-t5
+add-t5 c = search needs
+
+add-word : tie.Need-add-word
+add-word c = search needs
+
+word-requires-2 : tie.Need-word-requires-2
+word-requires-2 c κs = search needs
+
+add-t8 : tie.Need-add-t8
+add-t8 c = search needs
+
+add-word-2 : tie.Need-add-word-2
+add-word-2 c = search needs
+
+word-requires-3 : tie.Need-word-requires-3
+word-requires-3 c κs = search needs
+
+add-t11 : tie.Need-add-t11
+add-t11 c = search needs
+
+add-word-3 : tie.Need-add-word-3
+add-word-3 c = search needs
+
+word-requires-4 : tie.Need-word-requires-4
+word-requires-4 c κs = search needs
+
+add-t14 : tie.Need-add-t14
+add-t14 c = search needs
+
+add-t15 : tie.Need-add-t15
+add-t15 c = search needs
+
+add-t16 : tie.Need-add-t16
+add-t16 c =
+    let q = c .before .before .before .before .before .before .before .before .before .before .before .pre in
+    omega (arith, q .0 .0, q .0 .1, q .1 .bx1, q .1 .bz1)
+
+add-t17 : tie.Need-add-t17
+add-t17 c =
+    let q = c .before .before .before .before .before .before .before .before .before .before .before .before .pre in
+    omega (arith, q .0 .0, q .0 .1, q .1 .bx2, q .1 .bz2)
+
+add-t18 : tie.Need-add-t18
+add-t18 c =
+    let q = c .before .before .before .before .before .before .before .before .before .before .before .before .before .pre in
+    omega (arith, q .0 .0, q .0 .1, q .1 .bx3, q .1 .bz3)
+
+returns : tie.Need-returns
+returns c =
+    let w1 = c .before .before .before .before .before .before .before .before .before .before .before .word in
+    let w2 = c .before .before .before .before .before .before .before .before .before .word2 in
+    let w3 = c .before .before .before .before .before .before .before .word3 in
+    let w4 = c .before .before .before .before .before .word4 in
+    let q = c .before .before .before .before .before .before .before .before .before .before .before .before .before .pre in
+    let l = c .before .before .before .before .before .before .before .before .before .before .before .before .before .args .l in (
+      record {
+        bx0 = omega (arith, q .1 .bx0, w1 .ensures .1);
+        bx1 = omega (arith, q .1 .bx1, w2 .ensures .1);
+        bx2 = omega (arith, q .1 .bx2, w3 .ensures .1);
+        bx3 = omega (arith, q .1 .bx3, w4 .ensures .1);
+        bz0 = omega (arith, q .0 .0, q .0 .1, q .1 .bx0, q .1 .bz0);
+        bz1 = omega (arith, q .0 .0, q .0 .1, q .1 .bx1, q .1 .bz1);
+        bz2 = omega (arith, q .0 .0, q .0 .1, q .1 .bx2, q .1 .bz2);
+        bz3 = omega (arith, q .0 .0, q .0 .1, q .1 .bx3, q .1 .bz3);
+      },
+      record {
+        e0 = ap (λ (n : ℕ). l .x0 + n) (w1 .ensures .0);
+        e1 = ap (λ (n : ℕ). l .x1 + n) (w2 .ensures .0);
+        e2 = ap (λ (n : ℕ). l .x2 + n) (w3 .ensures .0);
+        e3 = ap (λ (n : ℕ). l .x3 + n) (w4 .ensures .0);
+        f0 = refl;
+        f1 = refl;
+        f2 = refl;
+        f3 = refl;
+      },
+    )
+
+pub step-spec : {M : Type 1} → statement M
+step-spec =
+    tie.close
+    (tie.spec
+    word-requires
+    add-t5
+    add-word
+    word-requires-2
+    add-t8
+    add-word-2
+    word-requires-3
+    add-t11
+    add-word-3
+    word-requires-4
+    add-t14
+    add-t15
+    add-t16
+    add-t17
+    add-t18
+    returns)
