@@ -25,8 +25,8 @@ extern "C" {
 /* The size of the largest volume. */
 #define PAGESTORE_VOLUME_MAX 131092u
 
-/* The most bytes of stack that a call takes, whatever the volume. Measured, not proved: inspection in the gate
- * (tests/c/stack_test.c), the archive's length and writer by hand (1,464 bytes). */
+/* The most bytes of stack that a call takes, whatever the volume. Measured, not proved: every function of this header,
+ * in the gate (tests/c/stack_test.c). */
 #define PAGESTORE_STACK 8192u
 
 /* Answers: the refusals of docs/FORMAT.md, section 6. */

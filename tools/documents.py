@@ -2,7 +2,8 @@
 """Holds the documents against the sources; prints each difference, and exits with 1 where there is one.
 
 The refusals stand in docs/FORMAT.md, section 6. README's short table, the constants of include/pagestore.h and the
-order of the rows in crates/model/specs (Reading, Refusals, Forecast, Archive, Mirror, Rehearsal) must be the same.
+order of the rows in crates/model/specs (Reading, Refusals, Health, Forecast, Archive, Mirror, Rehearsal) must be the
+same.
 README quotes examples/show.c. Every function, definition, must-fail edit and file that the documents name is there.
 No line has more than 120 columns.
 """
@@ -50,7 +51,7 @@ def orders():
 
 
 # rows that calls share, before or behind their own
-SHARED = ("state", "log", "either", "later")
+SHARED = ("state", "log", "image", "either", "later")
 
 # definitions that bear another name than their call
 CALLED = {
@@ -63,13 +64,13 @@ CALLED = {
 }
 
 # the calls that have a function for C, and the crates whose functions are public
-FOR_C = ("Inspect", "ForecastFigures", "ArchiveLength", "Archive", "ReadArchive", "CompareReport")
+FOR_C = ("Inspect", "Examine", "ForecastFigures", "ArchiveLength", "Archive", "ReadArchive", "CompareReport")
 FACES = ("store", "inspect", "estimate", "export", "extract", "compare", "rehearsal")
 
 
 def defined_orders():
     """What the definitions have for each call: the numbers of its rows, each once."""
-    files = ("Reading", "Refusals", "Forecast", "Archive", "Mirror", "Rehearsal")
+    files = ("Reading", "Refusals", "Health", "Forecast", "Archive", "Mirror", "Rehearsal")
     text = re.sub(r"--.*", "", "".join(read(f"crates/model/specs/{name}.antt") for name in files))
     bodies = {name: body for name, body in re.findall(r"^(\w+)Rows(?! :)(.*(?:\n .*)*)", text, re.M)}
 
@@ -140,8 +141,8 @@ def check_definitions(document, text):
 def check_edits(document, text):
     """Must-fail edits are written `crate/label`, or `crate/*`."""
     for crate, label in re.findall(r"`([a-z]+)/([a-z_0-9]+|\*)`", text):
-        folder = ROOT / "crates" / crate / "must-fail"
-        if (ROOT / "crates" / crate).is_dir() and not list(folder.glob(label + ".edit")):
+        folders = ROOT / "crates" / crate / "must-fail", ROOT / "tests/edits" / crate
+        if folders[0].parent.is_dir() and not any(list(folder.glob(label + ".edit")) for folder in folders):
             yield f"{document}: there is no must-fail edit {crate}/{label}"
 
 

@@ -21,12 +21,12 @@ def make(*words):
 
 # What it is, and the command that must exit with 0; in order, before and after `rt ci`.
 BEFORE = [
-    ("the Rattle kit is the one that the proofs are pinned to", make("kit-check")),
+    ("a Rattle kit is at hand", make("kit-check")),
     ("the documents against the sources", make("docs-check")),
 ]
 AFTER = [
     ("layout of the sources (rt fmt --check)", ["rt", "fmt", "--check"]),
-    ("the programs on the sample volumes", make("demo-check", "carry-check")),
+    ("the programs on the sample volumes and lists", make("demo-check", "carry-check", "rehearse-check")),
     ("README's example; the C function: cases, refusals, full volumes, stack", make("example-check", "c-test")),
     ("the second implementation: tests and plain book", make("reference-test")),
     ("the C function against the second implementation", make("against")),

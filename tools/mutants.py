@@ -4,10 +4,11 @@
 An edit is applied to a copy of the crates that it needs, in a temporary folder. For `cases` the one theorem about all
 rows is replaced by one declaration for each row or history that the edit names, so that a failure says which caught
 it; the check must fail there, by a computed test that is now false, and nowhere else. For `history` the check must fail
-in a proof of `laws` or `history`, and not for a name that is missing or a text that is not read.
+in a proof of `laws` or `history`, for `instances` (a claim that says less, which its proofs still give) also in one of
+its own, and not for a name that is missing or a text that is not read.
 
-    python3 tools/mutants.py [--only WORD] [--file NAME] [--part WORD] [--crate cases|history] [--search] [--jobs N]
-                             [--texts]
+    python3 tools/mutants.py [--only WORD] [--file NAME] [--part WORD] [--crate cases|history|instances] [--search]
+                             [--jobs N] [--texts]
 
 --only tries the edits whose name holds WORD, --file those of one definition file, --part those under the headings of
 the list that hold WORD; each may be given more than once, and an edit is tried if it meets one of each option given.
@@ -36,7 +37,10 @@ use lib.Dec.{T}
 use lib.Text.{eqt}
 use Rattle.cases.specs.Opened.{opened}
 use Rattle.cases.specs.Rows.{Row, same}
-use Rattle.cases.specs.All.{rows, diskRows, callRows, laterRows, carryRows, allHistories}
+use Rattle.cases.specs.All.{rows, diskRows, callRows, turnedRows, laterRows, playedRows, allHistories}
+use Rattle.cases.specs.Rings.{ringRows, ringEvents}
+use Rattle.cases.specs.RingEdges.{ringEdges}
+use Rattle.cases.specs.Examined.{examinedRows}
 use Rattle.cases.specs.Forecasts.{forecastRows}
 use Rattle.cases.specs.Archives.{archiveRows}
 use Rattle.cases.specs.Mirrors.{mirrorRows}
@@ -58,9 +62,12 @@ history n (w ∷ ws) = let rest = history n ws in let here = cond (computes w) r
 """
 # what a row's test unfolds: the table's parts, and all that they compute with
 OPENED = (
-    "opened rows diskRows callRows laterRows forecastRows archiveRows mirrorRows neighbourRows "
-    "rehearsalCases rehearsalRuns carryRows carriedRows carriedEvents histories allHistories"
+    "opened rows diskRows callRows turnedRows ringRows ringEvents ringEdges laterRows examinedRows forecastRows "
+    "archiveRows mirrorRows neighbourRows rehearsalCases rehearsalRuns playedRows carriedRows carriedEvents histories "
+    "allHistories"
 )
+# the error of a test that computes to false; a long name puts the types on a line of their own
+FALSE = r"`caught-(\d+)`: (?:expected type|.*type mismatch|.*the two types are `Prim\.⊥` \(expected\))"
 # errors that say that an edit is no definition, and nothing of what it means
 NOT_READ = re.compile(
     r"Parse|cannot be named|not in scope|unknown name|was not admitted|cannot be unfolded|has no `|components"
@@ -139,7 +146,7 @@ def try_cases(to, rows, names):
     status, errors, out = check("cases", to)
     caught = []
     for path, text in errors:
-        hit = re.match(r"`caught-(\d+)`: (?:expected type|.*type mismatch|.*the two types are `Prim\.⊥` \(expected\))", text)
+        hit = re.match(FALSE, text, re.S)
         if path.endswith("/Probe.antt") and hit and "step limit" not in text:
             caught.append(names[int(hit.group(1))])
         elif "step limit" not in text:
@@ -149,13 +156,13 @@ def try_cases(to, rows, names):
     return caught, ""
 
 
-def try_history(to):
+def try_proofs(crate, to):
     """The first proof that the edit breaks, or none; None where it is no definition."""
-    status, errors, out = check("history", to)
+    status, errors, out = check(crate, to)
     if status == 0:
         return [], ""
     for path, text in errors:
-        if re.search(r"/crates/(laws|history)/proofs/", path) and not NOT_READ.search(text):
+        if re.search(r"/crates/(laws|history|instances)/proofs/", path) and not NOT_READ.search(text):
             proof = Path(path)
             return [f"{proof.parts[proof.parts.index('proofs') - 1]}: {proof.stem} {text.split(':')[0]}"], ""
         return None, f"{path}: {text}"
@@ -181,7 +188,7 @@ def apply(to, edit):
 def judge(crate, to, edit, rows, wanted):
     """Whether the edit is caught, and the words that say by what."""
     undo = apply(to, edit)
-    caught, why = try_cases(to, rows, wanted) if crate == "cases" else try_history(to)
+    caught, why = try_cases(to, rows, wanted) if crate == "cases" else try_proofs(crate, to)
     undo()
     if caught is None:
         return False, "no verdict: " + why
@@ -250,7 +257,7 @@ def main():
     words.add_argument("--only", action="append")
     words.add_argument("--file", action="append")
     words.add_argument("--part", action="append")
-    words.add_argument("--crate", choices=["cases", "history"])
+    words.add_argument("--crate", choices=["cases", "history", "instances"])
     words.add_argument("--search", action="store_true")
     words.add_argument("--jobs", type=int, default=1)
     words.add_argument("--texts", action="store_true")
@@ -263,7 +270,7 @@ def main():
         print("\n".join(found or [f"the {len(edits)} edits of mutants.txt find their texts"]))
         return 1 if found else 0
     failed = 0
-    for crate in [given.crate] if given.crate else ["cases", "history"]:
+    for crate in [given.crate] if given.crate else ["cases", "history", "instances"]:
         mine = [e for e in edits if crate in e["crates"]]
         if not needed(crate):
             print(f"{crate}: there is no such crate yet; {len(mine)} edits wait for it")

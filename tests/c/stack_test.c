@@ -28,10 +28,11 @@ static const char *const NAMES[KINDS] = {
 
 static uint8_t volume[PAGESTORE_VOLUME_MAX], buffer[PAGESTORE_IMAGE_SIZE], expected[PAGESTORE_IMAGE_SIZE];
 
-/* The functions; all but inspection are tried on the largest volume. */
-enum function { INSPECT, FORECAST, LENGTH, WRITE, READ, PAGES, COMPARE, FUNCTIONS };
+/* Every function of the header; all but inspection are tried on the largest volume. */
+enum function { INSPECT, EXAMINE, FORECAST, LENGTH, WRITE, READ, PAGES, COMPARE, FUNCTIONS };
 static const char *const CALLED[FUNCTIONS] = {
-    "inspect", "forecast", "archive_length", "archive_write", "archive_read", "archive_pages", "compare",
+    "inspect",      "examine",       "forecast", "archive_length", "archive_write",
+    "archive_read", "archive_pages", "compare",
 };
 static uint8_t archive[PAGESTORE_ARCHIVE_MAX], area[PAGESTORE_AREA_MAX];
 static uint32_t numbers[PAGESTORE_FORECAST_SIZE];
@@ -68,6 +69,8 @@ static struct call prepared(struct counts c, enum kind kind) {
 
 static __attribute__((noinline)) uint32_t called(const struct call *c) {
     switch (c->function) {
+        case EXAMINE:
+            return pagestore_examine(volume, c->size, c->page, buffer, sizeof buffer, numbers, PAGESTORE_REPORT_SIZE);
         case FORECAST: return pagestore_forecast(volume, c->size, numbers, PAGESTORE_FORECAST_SIZE);
         case LENGTH: return pagestore_archive_length(volume, c->size);
         case WRITE: return pagestore_archive_write(volume, c->size, archive, sizeof archive);
@@ -191,7 +194,7 @@ int main(void) {
     int failures = 0;
     for (size_t i = 0; i < sizeof SIZES / sizeof SIZES[0]; i++)
         for (int kind = 0; kind < KINDS; kind++) failures += !check(SIZES[i], (enum kind)kind);
-    for (int f = FORECAST; f < FUNCTIONS; f++) failures += !check_other((enum function)f);
+    for (int f = EXAMINE; f < FUNCTIONS; f++) failures += !check_other((enum function)f);
     printf("%s\n", failures ? "some calls FAILED" : "every call keeps to its stack");
     return failures ? 1 : 0;
 }

@@ -6,7 +6,6 @@ use libc::STDERR_FILENO;
 use libc::STDIN_FILENO;
 use libc::STDOUT_FILENO;
 use model::answer::Answer;
-use model::geometry::CARRY_TAG;
 use store::Store;
 use volume::heading;
 
@@ -53,7 +52,7 @@ fn done(a: Answer) -> bool {
 
 // Starts, unless the volume is under way already; the refusal, or 0.
 fn start(s: Store, volume: &mut [u8], memory: &[u8]) -> u32 {
-    if heading::headed(volume, CARRY_TAG) {
+    if heading::headed(volume, heading::CARRY) {
         return 0;
     }
     let r = s.start_carry(volume, memory);

@@ -1,13 +1,14 @@
 -- The rows of the table hold: one test, which the checker computes, and one law that turns it into each row's equation. Here those of the
--- base and of rings; crate `later` has the others, and the table as a whole.
+-- base and of rings; crates `played` and `later` have the others, and `later` the table as a whole.
 use Prim.Native.Nat.{ℕ}
 use mathlib.Core.Path.{_≡_, refl, ap₂}
 use mathlib.Core.Bool.{Bool, true, false, _&&_}
 use mathlib.Core.List.{List, [], _∷_, _++_}
 use lib.Dec.{T, eqb, eqb→eq}
 use Rattle.cases.specs.Rows.{Row, same, every, Hold}
-use Rattle.cases.specs.All.{diskRows, callRows}
+use Rattle.cases.specs.All.{diskRows, callRows, turnedRows}
 use Rattle.cases.specs.Rings.{ringRows, ringEvents}
+use Rattle.cases.specs.RingEdges.{ringEdges}
 
 pub left : (a b : Bool) → T (a && b) → T a
 left true b t = tt
@@ -41,10 +42,18 @@ pub call-cases : Hold callRows
 unfolding callRows
 call-cases = all callRows tt
 
-pub ring-cases : Hold ringRows
+ring-cases : Hold ringRows
 unfolding ringRows
 ring-cases = all ringRows tt
 
-pub ring-events : Hold ringEvents
+ring-events : Hold ringEvents
 unfolding ringEvents
 ring-events = all ringEvents tt
+
+ring-edges : Hold ringEdges
+unfolding ringEdges
+ring-edges = all ringEdges tt
+
+pub turned-cases : Hold turnedRows
+unfolding turnedRows
+turned-cases = joined ringRows (ringEvents ++ ringEdges) ring-cases (joined ringEvents ringEdges ring-events ring-edges)

@@ -75,11 +75,14 @@ abbrev taggedAt : ℕ → Heading → List ℕ
 taggedAt tag h = storedIn (wholeUnder First (ownUnder h 3 body3 ∷ [])) (newHeading tag ∷ [])
 
 -- a page whose image has one value by words and by bytes: 540
-abbrev bothSums : Machine
-bothSums =
+abbrev pub bothWritten : Machine
+bothWritten =
     reachUnder First 1 0 4 4
     (restart (memory 1) ∷ does (begin 1 1 0 ∷ change 1 (Put 0 9)
-    (255 ∷ 0 ∷ 255 ∷ 0 ∷ 0 ∷ 0 ∷ 2 ∷ 0 ∷ 24 ∷ replicate 35 0) ∷ force ∷ force ∷ write 1 ∷ note ∷ startCarry ∷ []))
+    (255 ∷ 0 ∷ 255 ∷ 0 ∷ 0 ∷ 0 ∷ 2 ∷ 0 ∷ 24 ∷ replicate 35 0) ∷ force ∷ force ∷ write 1 ∷ note ∷ []))
+
+abbrev bothSums : Machine
+bothSums = run bothWritten (does (startCarry ∷ []))
 
 -- a log of two, full, its first record spare
 abbrev fullLog : Machine

@@ -11,7 +11,7 @@ use Rattle.model.specs.declared.answer.Class.the-variants.{Good}
 use Rattle.cases.specs.Opened.{opened}
 use Rattle.cases.specs.Rows.{Row, row}
 use Rattle.cases.specs.Build.{bits, broken, fromOwn, inspected, memory}
-use Rattle.cases.specs.Carried.{does, oldVolume, wordImage, byteImage, sums}
+use Rattle.cases.specs.Carried.{does, oldVolume, bothWritten, wordImage, byteImage, sums}
 
 abbrev may : Machine → List Event → List ℕ
 may w es = bits (map (allowed w) es)
@@ -82,6 +82,9 @@ carriedEvents =
     ∷ row "carry: nor the backup of a pending note"
     (may tornPending (perform startCarry ∷ crashIn startCarry new ∷ crashIn startCarry old ∷ []))
     (0 ∷ 0 ∷ 1 ∷ [])
+    ∷ row "carry: a Start may meet an image that passes both sums"
+    (sums bothWritten (pageAt 1) 1 ++ may bothWritten (perform startCarry ∷ crashIn startCarry new ∷ []))
+    (1 ∷ 1 ∷ 1 ∷ 1 ∷ [])
     ∷ row "carry: slots that nothing relies on, and a Start that is refused, are not asked"
     (may tornOutside (perform startCarry ∷ []) ++ may over (perform startCarry ∷ crashIn startCarry new ∷ []))
     (1 ∷ 1 ∷ 1 ∷ [])

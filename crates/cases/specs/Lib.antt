@@ -17,6 +17,8 @@ pub mod Allowed
 pub mod Naive
 pub mod Traps
 pub mod Rings
+pub mod RingEdges
+pub mod Examined
 pub mod Forecasts
 pub mod Archives
 pub mod Mirrors

@@ -1,5 +1,6 @@
 -- Rows on what a page's repair, and its section of the archive, depend on (document 02, §13): for each hypothesis two
--- volumes in which it alone fails, and the answers differ; and two in which none fails and all else differs.
+-- volumes in which it alone fails, and the answers differ; and two in which none fails and all else differs. The
+-- archive's refusals need the lowest held number too.
 use Prim.Native.Nat.{ℕ}
 use mathlib.Core.Bool.{Bool, true, false, _&&_}
 use mathlib.Core.List.{List, [], _∷_, _++_}
@@ -7,20 +8,22 @@ use lib.Dec.{eqb}
 use lib.ListN.{replicate, take}
 use Rattle.model.specs.Geometry.{pageAt, slotAt, recordAt, noteAt, geometryOf, emptyVolume}
 use Rattle.model.specs.Item.{encodeChange}
-use Rattle.model.specs.Scan.{durableCount, firstHeld}
 use Rattle.model.specs.Reading.{pageView, heldRecords}
-use Rattle.model.specs.Calls.{StoredItem, oneItem, inspectOf}
-use Rattle.model.specs.Archive.{archiveOf}
+use Rattle.model.specs.Calls.{StoredItem, oneItem, inspectOf, begin, force, backup, note}
+use Rattle.model.specs.History.{Event, restart, perform}
+use Rattle.model.specs.Archive.{sizeOf, archiveOf}
+use Rattle.model.specs.Neighbours.{lowestHeld}
 use Rattle.model.specs.declared.change.Change.the-variants.{Format, Put}
 use Rattle.model.specs.declared.geometry.Heading.the-variants.{First, Second}
 use Rattle.model.specs.declared.answer.Class.the-variants.{Good, Behind, Stale, Failed}
+use Rattle.model.specs.declared.reading.Size.{Size}
 use Rattle.cases.specs.Rows.{Row, row, same}
 use Rattle.cases.specs.Opened.{opened}
-use Rattle.cases.specs.Build.{bit, numbers, fromOwn, fromBackup, fromFormat, refused, imageUnder, image, broken, writtenNote, backupNote, storedIn, volumeUnder, smallVolume, buffer, inspected}
+use Rattle.cases.specs.Build.{bit, numbers, fromOwn, fromBackup, fromFormat, refused, imageUnder, image, broken, writtenNote, backupNote, storedIn, volumeUnder, smallVolume, buffer, memory, done}
 use Rattle.cases.specs.Table.{record1, record2, record3, body1, body3}
-use Rattle.cases.specs.Rings.{filled}
+use Rattle.cases.specs.Rings.{filled, put, reachRing}
 
-abbrev sameRecords : List (List ℕ) → List (List ℕ) → Bool
+abbrev pub sameRecords : List (List ℕ) → List (List ℕ) → Bool
 sameRecords [] [] = true
 sameRecords [] (y ∷ ys) = false
 sameRecords (x ∷ xs) [] = false
@@ -53,8 +56,37 @@ ringWith ns =
     storedIn (filled (emptyVolume Second 2 1 4 2) 0 ns)
     (oneItem (slotAt 1) (image 2 1 body1) ∷ oneItem (noteAt 1) (backupNote 1 2 1 1) ∷ [])
 
-abbrev lowest : List ℕ → ℕ
-lowest v = firstHeld (geometryOf v) v (durableCount (geometryOf v) v)
+-- a length told, and a refusal
+abbrev told : Size → List ℕ
+told (Size.Refused n) = 100 ∷ n ∷ []
+told (Size.Bytes n) = 101 ∷ n ∷ []
+
+-- page 2 is backed up at record 1, then page 1 gets records 2 and 3: in a log of two slots record 1 has left
+abbrev besideEvents : List Event
+besideEvents =
+    restart (memory 2) ∷ perform (begin 2 1 9) ∷ perform force ∷ perform (backup 2 1) ∷ perform note
+    ∷ perform (begin 1 2 7) ∷ perform force ∷ perform (put 2) ∷ perform force ∷ []
+
+abbrev pub turnedLog : List ℕ
+turnedLog = reachRing 2 1 2 1 besideEvents .volume
+
+-- the same calls with other counts of slots, log records and notes
+abbrev pub wholeLog : List ℕ
+wholeLog = reachRing 2 2 4 3 besideEvents .volume
+
+-- page 1 is backed up in slot 1, and in slot 2 beside page 2's backup; other counts, and page 2 has other records
+abbrev pub firstSlot : List ℕ
+firstSlot = with (oneItem (slotAt 1) (image 1 1 body1) ∷ oneItem (noteAt 1) (backupNote 1 1 1 1) ∷ [])
+
+abbrev pub secondSlot : List ℕ
+secondSlot =
+    storedIn (emptyVolume Second 2 2 5 3)
+    (oneItem (recordAt 1) record1 ∷ oneItem (recordAt 2) (encodeChange 2 0 2 (Format 5) [])
+    ∷ oneItem (recordAt 3) record3
+    ∷ oneItem (recordAt 4) (encodeChange 4 2 2 (Put 0 1) (1 ∷ [])) ∷ oneItem (pageAt 2) (image 2 2 body3)
+    ∷ oneItem (slotAt 1) (image 2 2 body1)
+    ∷ oneItem (slotAt 2) (image 1 1 body1) ∷ oneItem (noteAt 1) (backupNote 1 2 1 2)
+    ∷ oneItem (noteAt 2) (backupNote 2 1 2 1) ∷ [])
 
 unfoldable pub neighbourRows : List Row
 unfolding opened
@@ -95,18 +127,18 @@ neighbourRows =
     bit (same (archiveOf v (replicate 136 0) .buffer) (archiveOf w (replicate 136 0) .buffer)) ∷ beside v w 1)
     (0 ∷ 1 ∷ 1 ∷ 1 ∷ 0 ∷ 1 ∷ 1 ∷ 1 ∷ (fromFormat Failed 1 ++ fromFormat Failed 1))
     ∷ row "neighbours: all else differs"
-    (beside (with (oneItem (slotAt 1) (image 1 1 body1) ∷ oneItem (noteAt 1) (backupNote 1 1 1 1) ∷ []))
-    (storedIn (emptyVolume Second 2 2 5 3)
-    (oneItem (recordAt 1) record1 ∷ oneItem (recordAt 2) (encodeChange 2 0 2 (Format 5) [])
-    ∷ oneItem (recordAt 3) record3
-    ∷ oneItem (recordAt 4) (encodeChange 4 2 2 (Put 0 1) (1 ∷ [])) ∷ oneItem (pageAt 2) (image 2 2 body3)
-    ∷ oneItem (slotAt 1) (image 2 2 body1)
-    ∷ oneItem (slotAt 2) (image 1 1 body1) ∷ oneItem (noteAt 1) (backupNote 1 2 1 2)
-    ∷ oneItem (noteAt 2) (backupNote 2 1 2 1) ∷ [])) 1)
+    (beside firstSlot secondSlot 1)
     (1 ∷ 1 ∷ 1 ∷ 1 ∷ 1 ∷ 1 ∷ 1 ∷ (fromBackup Failed 1 ++ fromBackup Failed 1))
     ∷ row "neighbours: the lowest held number may differ"
     (let v = ringWith (5 ∷ 6 ∷ 3 ∷ 4 ∷ []) in
     let w = ringWith (5 ∷ 2 ∷ 3 ∷ 4 ∷ []) in
-    lowest v ∷ lowest w ∷ beside v w 2)
+    lowestHeld v ∷ lowestHeld w ∷ beside v w 2)
     (3 ∷ 2 ∷ 1 ∷ 1 ∷ 1 ∷ 1 ∷ 1 ∷ 1 ∷ 1 ∷ (fromBackup Failed 0 ++ fromBackup Failed 0))
+    ∷ row "neighbours: record 1 has left one log: the archive is 24 there alone"
+    (lowestHeld turnedLog ∷ lowestHeld wholeLog ∷ (told (sizeOf turnedLog) ++ (told (sizeOf wholeLog)
+    ++ (numbers (archiveOf turnedLog (replicate 200 0) .answer) ++ (numbers (archiveOf wholeLog (replicate 200 0) .answer)
+    ++ beside turnedLog wholeLog 1)))))
+    (2 ∷ 1 ∷ 100 ∷ 24 ∷ 101 ∷ 200 ∷ (refused 24 ++ (done
+    ++ (1 ∷ 1 ∷ 1 ∷ 1 ∷ 1 ∷ 1 ∷ 1 ∷ (fromFormat Failed 2 ++ fromFormat Failed 2)))))
+    ∷ row "neighbours: an empty log holds no number" (lowestHeld (emptyVolume Second 2 1 4 2) ∷ []) (0 ∷ [])
     ∷ []

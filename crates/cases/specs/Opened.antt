@@ -23,7 +23,9 @@ use Rattle.model.specs.Claim.{reached, logOf}
 use Rattle.model.specs.Rehearsal.{accessOf, holding, leastUsed, evicted, broughtIn, touched, withChange, changed, stepOn, playFrom, idle, pagesFit, rehearsalRows, rehearsalOf, totalOf}
 use Rattle.model.specs.RehearsalRun.{changesOf, lastUse, lowest, victimRow, bringIn, callsOf, playCall, playCalls, playEvents, restartedSite, realRun, backedUp}
 use Rattle.model.specs.Carry.{countOf}
+use Rattle.model.specs.Health.{examineRows, examineOf}
+use Rattle.model.specs.Room.{logPage, notePage, roomOf}
 
 unfoldable pub opened : Unit {0}
-unfolding highest firstHeld gone firstNote recordNeeded logFull noteNeeded notesFull every le bytesOf part splice allZero startsWith sameBytes checksumFrom byteSumFrom withSum sumHolds sealedRun imageSum imageSealed geometryOf validCounts validVolume emptyVolume item store changeOf changeFits applyChange validImage validSomewhere frameImage recordOf recordLayout recordBytes encodeChange applyRecord noteOf noteLayout noteBytes emptyIndex enterNote slotUsed restZero durableCount logIndex recordFits validLog noteCount noteIndex noteFollows noteFits validNotes classOf chainRecord walkFrom walkOf replayChain rebuiltBody repairOf validMemory zeroState holderFrom pendingNoteFits frameFits entryFits pageFits wellFormed makeRows restartRows beginRows loadRows changeRows forceRows writeRows backupRows releaseRows noteRows inspectRows volumeAfter appendedState appendedMemory beginOf loadOf changeCall forcedState forceOf writeOf backupOf releaseOf notedState noteCall restartState restartOf makeOf inspectOf replayOn lastPlaceFrom stepCall stepCut step validAsNoted storedBefore allowed stepLog freshMachine allAllowed run logAfter reached logOf pageRecords tabulate forecastOf sectionBytes archiveBytes sizeOf archiveRows archiveOf validSection recordsFrom validFrom partedFrom replayRecords lastNumberIn areaFrom readRows readOf pagesFrom commonFrom touchedIn mirrorRows comparison mirrorOf compareRows compareOf tellForecast accessOf holding leastUsed evicted broughtIn touched withChange changed stepOn playFrom idle pagesFit rehearsalRows rehearsalOf totalOf changesOf lastUse lowest victimRow bringIn callsOf playCall playCalls playEvents restartedSite realRun backedUp storeHeading startCarryRows restampRows finishCarryRows startCarryOf restampOf finishCarryOf onlyOld firstFrom firstOld oldLeft countOf carriable
+unfolding highest firstHeld gone firstNote recordNeeded logFull noteNeeded notesFull every le bytesOf part splice allZero startsWith sameBytes checksumFrom byteSumFrom withSum sumHolds sealedRun imageSum imageSealed geometryOf validCounts validVolume emptyVolume item store changeOf changeFits applyChange validImage validSomewhere frameImage recordOf recordLayout recordBytes encodeChange applyRecord noteOf noteLayout noteBytes emptyIndex enterNote slotUsed restZero durableCount logIndex recordFits validLog noteCount noteIndex noteFollows noteFits validNotes classOf chainRecord walkFrom walkOf replayChain rebuiltBody repairOf validMemory zeroState holderFrom pendingNoteFits frameFits entryFits pageFits wellFormed makeRows restartRows beginRows loadRows changeRows forceRows writeRows backupRows releaseRows noteRows inspectRows volumeAfter appendedState appendedMemory beginOf loadOf changeCall forcedState forceOf writeOf backupOf releaseOf notedState noteCall restartState restartOf makeOf inspectOf replayOn lastPlaceFrom stepCall stepCut step validAsNoted storedBefore allowed stepLog freshMachine allAllowed run logAfter reached logOf pageRecords tabulate forecastOf sectionBytes archiveBytes sizeOf archiveRows archiveOf validSection recordsFrom validFrom partedFrom replayRecords lastNumberIn areaFrom readRows readOf pagesFrom commonFrom touchedIn mirrorRows comparison mirrorOf compareRows compareOf tellForecast accessOf holding leastUsed evicted broughtIn touched withChange changed stepOn playFrom idle pagesFit rehearsalRows rehearsalOf totalOf changesOf lastUse lowest victimRow bringIn callsOf playCall playCalls playEvents restartedSite realRun backedUp storeHeading startCarryRows restampRows finishCarryRows startCarryOf restampOf finishCarryOf onlyOld firstFrom firstOld oldLeft countOf carriable examineRows examineOf logPage notePage roomOf
 opened = tt

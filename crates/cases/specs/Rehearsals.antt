@@ -51,7 +51,7 @@ frames events =
 abbrev choices : Choices
 choices i s = record { fill = i; offset = i; length = 2; payload = i ∷ replicate 43 0; slot = freeSlot s }
 
-abbrev site : Heading → ℕ → ℕ → ℕ → ℕ → ℕ → Site
+abbrev pub site : Heading → ℕ → ℕ → ℕ → ℕ → ℕ → Site
 site h p b l n f =
     record {
       heading = h;
@@ -68,7 +68,7 @@ abbrev real : Played → List ℕ
 real x = bit (x .refused) ∷ (counts (pageRow (x .figures) 1) ++ counts (pageRow (x .figures) 2))
 
 -- page 1 begins and changes twice, page 2 begins, page 1 is read
-abbrev short : List ℕ
+abbrev pub short : List ℕ
 short = c 1 ∷ c 1 ∷ c 1 ∷ c 2 ∷ r 1 ∷ []
 
 -- a page comes back clean, and makes way again

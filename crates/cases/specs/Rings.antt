@@ -6,7 +6,7 @@ use mathlib.Core.Bool.{Bool, true, false, cond}
 use mathlib.Core.List.{List, [], _∷_, _++_}
 use lib.Dec.{eqb}
 use lib.ListN.{replicate, length}
-use Rattle.model.specs.Geometry.{Place, recordAt, noteAt, slotAt, pageAt, emptyVolume, lengthFor, geometryOf, store, validVolume}
+use Rattle.model.specs.Geometry.{recordAt, slotAt, emptyVolume, lengthFor, geometryOf, store, validVolume}
 use Rattle.model.specs.Item.{encodeChange}
 use Rattle.model.specs.Scan.{durableCount, firstHeld, validLog, validNotes, gone}
 use Rattle.model.specs.Calls.{Call, begin, load, change, force, write, backup, release, note}
@@ -18,8 +18,8 @@ use Rattle.model.specs.declared.change.Change.{Change}
 use Rattle.model.specs.declared.change.Change.the-variants.{Format, Put, Slide}
 use Rattle.cases.specs.Rows.{Row, row}
 use Rattle.cases.specs.Opened.{opened}
-use Rattle.model.specs.declared.answer.Class.the-variants.{Failed}
-use Rattle.cases.specs.Build.{bit, broken, memory, inspected, asked, refused, done, fromBackup, writtenNote, backupNote, numbers}
+use Rattle.model.specs.declared.answer.Class.the-variants.{Good, Failed}
+use Rattle.cases.specs.Build.{bit, broken, memory, inspected, asked, refused, done, fromOwn, fromBackup, fromFormat}
 
 -- record n of page 1: the first is a format, the others put a byte and name the one before
 abbrev pub recordNo : ℕ → List ℕ
@@ -99,54 +99,57 @@ otherPage =
 unfoldable pub ringRows : List Row
 unfolding opened
 ringRows =
-    row "5 6 3 4" (readAs Second (5 ∷ 6 ∷ 3 ∷ 4 ∷ [])) (6 ∷ 3 ∷ 1 ∷ 1 ∷ 1 ∷ [])
-    ∷ row "5 6 t 4" (readAs Second (5 ∷ 6 ∷ 99 ∷ 4 ∷ [])) (6 ∷ 4 ∷ 1 ∷ 1 ∷ 1 ∷ [])
-    ∷ row "5 t 3 4" (readAs Second (5 ∷ 99 ∷ 3 ∷ 4 ∷ [])) (5 ∷ 3 ∷ 1 ∷ 1 ∷ 1 ∷ [])
-    ∷ row "5 2 3 4" (readAs Second (5 ∷ 2 ∷ 3 ∷ 4 ∷ [])) (5 ∷ 2 ∷ 1 ∷ 1 ∷ 1 ∷ [])
-    ∷ row "t 2 3 4" (readAs Second (99 ∷ 2 ∷ 3 ∷ 4 ∷ [])) (4 ∷ 2 ∷ 1 ∷ 1 ∷ 1 ∷ [])
-    ∷ row "t 2 3 4, no ring" (readAs First (99 ∷ 2 ∷ 3 ∷ 4 ∷ [])) (0 ∷ 1 ∷ 0 ∷ 0 ∷ 1 ∷ [])
-    ∷ row "1 2 3 4" (readAs Second (1 ∷ 2 ∷ 3 ∷ 4 ∷ [])) (4 ∷ 1 ∷ 1 ∷ 0 ∷ 1 ∷ [])
-    ∷ row "5 6 3 t" (readAs Second (5 ∷ 6 ∷ 3 ∷ 99 ∷ [])) (6 ∷ 3 ∷ 0 ∷ 1 ∷ 1 ∷ [])
-    ∷ row "t 2 0 0" (readAs Second (99 ∷ 2 ∷ 0 ∷ 0 ∷ [])) (2 ∷ 2 ∷ 0 ∷ 1 ∷ 1 ∷ [])
-    ∷ row "1 2 t t" (readAs Second (1 ∷ 2 ∷ 99 ∷ 99 ∷ [])) (2 ∷ 1 ∷ 0 ∷ 0 ∷ 1 ∷ [])
-    ∷ row "1 2 t 0" (readAs Second (1 ∷ 2 ∷ 99 ∷ 0 ∷ [])) (2 ∷ 1 ∷ 1 ∷ 0 ∷ 1 ∷ [])
-    ∷ row "1 2 2 0" (readAs Second (1 ∷ 2 ∷ 2 ∷ 0 ∷ [])) (2 ∷ 1 ∷ 0 ∷ 0 ∷ 1 ∷ [])
-    ∷ row "fresh" (readAs Second (0 ∷ 0 ∷ 0 ∷ 0 ∷ [])) (0 ∷ 2 ∷ 1 ∷ 0 ∷ 1 ∷ [])
-    ∷ row "t 0 0 0" (readAs Second (99 ∷ 0 ∷ 0 ∷ 0 ∷ [])) (0 ∷ 2 ∷ 1 ∷ 0 ∷ 1 ∷ [])
-    ∷ row "t 2 of two" (readAs Second (99 ∷ 2 ∷ [])) (2 ∷ 2 ∷ 1 ∷ 1 ∷ 1 ∷ [])
-    ∷ row "one slot is no ring" (readAs Second (1 ∷ [])) (1 ∷ 1 ∷ 1 ∷ 0 ∷ 1 ∷ [])
+    row "ring: 5 6 3 4" (readAs Second (5 ∷ 6 ∷ 3 ∷ 4 ∷ [])) (6 ∷ 3 ∷ 1 ∷ 1 ∷ 1 ∷ [])
+    ∷ row "ring: 5 6 t 4" (readAs Second (5 ∷ 6 ∷ 99 ∷ 4 ∷ [])) (6 ∷ 4 ∷ 1 ∷ 1 ∷ 1 ∷ [])
+    ∷ row "ring: 5 t 3 4" (readAs Second (5 ∷ 99 ∷ 3 ∷ 4 ∷ [])) (5 ∷ 3 ∷ 1 ∷ 1 ∷ 1 ∷ [])
+    ∷ row "ring: 5 2 3 4" (readAs Second (5 ∷ 2 ∷ 3 ∷ 4 ∷ [])) (5 ∷ 2 ∷ 1 ∷ 1 ∷ 1 ∷ [])
+    ∷ row "ring: t 2 3 4" (readAs Second (99 ∷ 2 ∷ 3 ∷ 4 ∷ [])) (4 ∷ 2 ∷ 1 ∷ 1 ∷ 1 ∷ [])
+    ∷ row "ring: t 2 3 4, no ring" (readAs First (99 ∷ 2 ∷ 3 ∷ 4 ∷ [])) (0 ∷ 1 ∷ 0 ∷ 0 ∷ 1 ∷ [])
+    ∷ row "ring: 1 2 3 4" (readAs Second (1 ∷ 2 ∷ 3 ∷ 4 ∷ [])) (4 ∷ 1 ∷ 1 ∷ 0 ∷ 1 ∷ [])
+    ∷ row "ring: 5 6 3 t" (readAs Second (5 ∷ 6 ∷ 3 ∷ 99 ∷ [])) (6 ∷ 3 ∷ 0 ∷ 1 ∷ 1 ∷ [])
+    ∷ row "ring: t 2 0 0" (readAs Second (99 ∷ 2 ∷ 0 ∷ 0 ∷ [])) (2 ∷ 2 ∷ 0 ∷ 1 ∷ 1 ∷ [])
+    ∷ row "ring: 1 2 t t" (readAs Second (1 ∷ 2 ∷ 99 ∷ 99 ∷ [])) (2 ∷ 1 ∷ 0 ∷ 0 ∷ 1 ∷ [])
+    ∷ row "ring: 1 2 t 0" (readAs Second (1 ∷ 2 ∷ 99 ∷ 0 ∷ [])) (2 ∷ 1 ∷ 1 ∷ 0 ∷ 1 ∷ [])
+    ∷ row "ring: 1 2 2 0" (readAs Second (1 ∷ 2 ∷ 2 ∷ 0 ∷ [])) (2 ∷ 1 ∷ 0 ∷ 0 ∷ 1 ∷ [])
+    ∷ row "ring: fresh" (readAs Second (0 ∷ 0 ∷ 0 ∷ 0 ∷ [])) (0 ∷ 2 ∷ 1 ∷ 0 ∷ 1 ∷ [])
+    ∷ row "ring: t 0 0 0" (readAs Second (99 ∷ 0 ∷ 0 ∷ 0 ∷ [])) (0 ∷ 2 ∷ 1 ∷ 0 ∷ 1 ∷ [])
+    ∷ row "ring: t 2 of two" (readAs Second (99 ∷ 2 ∷ [])) (2 ∷ 2 ∷ 1 ∷ 1 ∷ 1 ∷ [])
+    ∷ row "ring: one slot is no ring"
+    (readAs Second (1 ∷ []) ++ readAs Second (99 ∷ [])) (1 ∷ 1 ∷ 1 ∷ 0 ∷ 1 ∷ 0 ∷ 1 ∷ 1 ∷ 0 ∷ 1 ∷ [])
     ∷ []
 
 unfoldable pub ringEvents : List Row
 unfolding opened
 ringEvents =
-    row "turned: from the backup, below the run" (inspected (reachRing 1 1 2 2 turned .volume) 1)
-    (103 ∷ 4 ∷ 2 ∷ 2 ∷ 3 ∷ 0 ∷ 0 ∷ 0 ∷ 3 ∷ 7 ∷ 7 ∷ 7 ∷ 7 ∷ 7 ∷ [])
-    ∷ row "turned, the backup damaged: 23"
+    row "ring: turned: from the backup, below the run" (inspected (reachRing 1 1 2 2 turned .volume) 1)
+    (fromBackup Failed 2 ++ (3 ∷ 0 ∷ 0 ∷ 0 ∷ 3 ∷ 7 ∷ 7 ∷ 7 ∷ 7 ∷ 7 ∷ []))
+    ∷ row "ring: turned, the backup damaged: 23"
     (inspected (run (reachRing 1 1 2 2 turned) (damage (slotAt 1) (replicate 256 1) ∷ []) .volume) 1)
-    (100 ∷ 23 ∷ replicate 10 0xAA)
-    ∷ row "turned, let go and opened: from the backup"
+    (refused 23 ++ replicate 10 0xAA)
+    ∷ row "ring: turned, let go and opened: from the backup"
     (asked (run (reachRing 1 1 2 2 turned) (perform (release 1) ∷ [])) (load 1 1)) (fromBackup Failed 2)
-    ∷ row "turned, let go, the backup damaged: 23"
+    ∷ row "ring: turned, let go, the backup damaged: 23"
     (asked (run (reachRing 1 1 2 2 turned) (perform (release 1) ∷ damage (slotAt 1) (replicate 256 1) ∷ []))
     (load 1 1)) (refused 23)
-    ∷ row "no backup: 12" (asked (reachRing 1 1 2 2 needed) (put 3)) (refused 12)
-    ∷ row "an owed backup is not noted: 12"
+    ∷ row "ring: no backup: 12" (asked (reachRing 1 1 2 2 needed) (put 3)) (refused 12)
+    ∷ row "ring: an owed backup is not noted: 12"
     (asked (run (reachRing 1 1 2 2 needed) (perform (backup 1 1) ∷ [])) (put 3)) (refused 12)
-    ∷ row "a noted backup: done"
+    ∷ row "ring: a noted backup: done"
     (asked (run (reachRing 1 1 2 2 needed) (perform (backup 1 1) ∷ perform note ∷ [])) (put 3)) done
-    ∷ row "displaces a pending one: 12" (asked (reachRing 1 1 2 2 waiting) (put 3)) (refused 12)
-    ∷ row "torn over slot 1" (inspected (reachRing 1 1 2 2 tornOver .volume) 1)
-    (103 ∷ 4 ∷ 2 ∷ 0 ∷ 2 ∷ 0 ∷ 0 ∷ 0 ∷ 2 ∷ 7 ∷ 7 ∷ 7 ∷ 7 ∷ 7 ∷ [])
-    ∷ row "torn over slot 1, restarted, goes on"
+    ∷ row "ring: a backup noted one below the record: 12" (asked (reachRing 1 1 2 2 turned) (put 4)) (refused 12)
+    ∷ row "ring: displaces a pending one: 12" (asked (reachRing 1 1 2 2 waiting) (put 3)) (refused 12)
+    ∷ row "ring: torn over slot 1" (inspected (reachRing 1 1 2 2 tornOver .volume) 1)
+    (fromBackup Failed 0 ++ (2 ∷ 0 ∷ 0 ∷ 0 ∷ 2 ∷ 7 ∷ 7 ∷ 7 ∷ 7 ∷ 7 ∷ []))
+    ∷ row "ring: torn over slot 1, restarted, goes on"
     (asked (run (reachRing 1 1 2 2 tornOver) (restart (memory 1) ∷ perform (load 1 1) ∷ [])) (put 3)) done
-    ∷ row "the oldest note is needed: 14" (asked (reachRing 1 2 2 2 locked) (backup 1 2)) (refused 14)
-    ∷ row "a later note of another page: 14" (asked (reachRing 2 2 2 2 otherPage) (backup 1 1)) (refused 14)
-    ∷ row "torn over slot 1, the backup damaged: 23"
+    ∷ row "ring: the oldest note is needed: 14" (asked (reachRing 1 2 2 2 locked) (backup 1 2)) (refused 14)
+    ∷ row "ring: a later note of another page: 14" (asked (reachRing 2 2 2 2 otherPage) (backup 1 1)) (refused 14)
+    ∷ row "ring: torn over slot 1, the backup damaged: 23"
     (inspected (run (reachRing 1 1 2 2 tornOver) (damage (slotAt 1) (replicate 256 1) ∷ []) .volume) 1)
-    (100 ∷ 23 ∷ replicate 10 0xAA)
-    ∷ row "a torn note, restarted, goes on" (asked (reachRing 1 1 2 2 tornNote) (backup 1 1)) done
-    ∷ row "two pages, page 1" (inspected (reachRing 2 1 2 2 twoPages .volume) 1)
-    (103 ∷ 1 ∷ 1 ∷ 0 ∷ 1 ∷ 0 ∷ 0 ∷ 0 ∷ 7 ∷ 7 ∷ 7 ∷ 7 ∷ 7 ∷ 7 ∷ [])
-    ∷ row "two pages, page 2" (inspected (reachRing 2 1 2 2 twoPages .volume) 2)
-    (103 ∷ 4 ∷ 3 ∷ 2 ∷ 3 ∷ 0 ∷ 0 ∷ 0 ∷ 5 ∷ 9 ∷ 9 ∷ 9 ∷ 9 ∷ 9 ∷ []) ∷ []
+    (refused 23 ++ replicate 10 0xAA)
+    ∷ row "ring: a torn note, restarted, goes on" (asked (reachRing 1 1 2 2 tornNote) (backup 1 1)) done
+    ∷ row "ring: two pages, page 1" (inspected (reachRing 2 1 2 2 twoPages .volume) 1)
+    (fromOwn Good 0 ++ (1 ∷ 0 ∷ 0 ∷ 0 ∷ 7 ∷ 7 ∷ 7 ∷ 7 ∷ 7 ∷ 7 ∷ []))
+    ∷ row "ring: two pages, page 2" (inspected (reachRing 2 1 2 2 twoPages .volume) 2)
+    (fromFormat Failed 2 ++ (3 ∷ 0 ∷ 0 ∷ 0 ∷ 5 ∷ 9 ∷ 9 ∷ 9 ∷ 9 ∷ 9 ∷ []))
+    ∷ []

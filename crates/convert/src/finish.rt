@@ -7,16 +7,16 @@ use crate::heading;
 use crate::images;
 use model::answer::Answer;
 use model::answer::Reply;
-use model::geometry::CARRY_TAG;
-use model::geometry::SECOND_TAG;
 use model::state::State;
+use volume::heading::CARRY;
+use volume::heading::SECOND;
 use volume::rows;
 
 // The refusal, the lowest that holds; 20 where an image is left that passes only the old sum.
 fn refusal(s: State, volume: &[u8], memory: &[u8]) -> u32
     ensures { λ r. ⌜ r ≡ firstOf (finishCarryRows (now (volume .entry)) (now (memory .entry)) s) ⌝ }
 {
-    let no = heading::refusal(s, volume, memory.len(), CARRY_TAG);
+    let no = heading::refusal(s, volume, memory.len(), CARRY);
     if no != 0 {
         return no;
     }
@@ -42,7 +42,7 @@ pub fn finish(s: State, volume: &mut [u8], memory: &[u8]) -> Reply
             state: s,
         };
     }
-    heading::put(volume, SECOND_TAG);
+    heading::put(volume, SECOND);
     Reply {
         answer: Answer::Done,
         state: s,

@@ -6,8 +6,8 @@ use crate::images;
 use item::image;
 use model::answer::Answer;
 use model::answer::Reply;
-use model::geometry::CARRY_TAG;
 use model::state::State;
+use volume::heading::CARRY;
 
 // Sets the byte sum of the first image, pages before slots, that passes only the old sum, the rest of it as it lies;
 // Nothing where none is left.
@@ -18,7 +18,7 @@ pub fn restamp(s: State, volume: &mut [u8], memory: &[u8]) -> Reply
         ⌜ now (volume .exit)
         ≡ volumeAfter (now (volume .entry)) (restampOf (now (volume .entry)) (now (memory .entry)) s .stored) ⌝ }
 {
-    let no = heading::refusal(s, volume, memory.len(), CARRY_TAG);
+    let no = heading::refusal(s, volume, memory.len(), CARRY);
     if no != 0 {
         return Reply {
             answer: Answer::Refused(no),

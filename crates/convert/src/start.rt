@@ -4,11 +4,11 @@ ghost use Rattle.model.specs.Calls.{startCarryOf, replyOf, volumeAfter};
 use crate::heading;
 use model::answer::Answer;
 use model::answer::Reply;
-use model::geometry::CARRY_TAG;
-use model::geometry::FIRST_TAG;
 use model::state::State;
+use volume::heading::CARRY;
+use volume::heading::FIRST;
 
-// Stores the heading with the third tag; from then on an image passes under either sum.
+// Stores the third heading; from then on an image passes under either sum.
 // Ruled out: done on a volume that is under way or carried over; the second heading stored at once.
 pub fn start(s: State, volume: &mut [u8], memory: &[u8]) -> Reply
     ensures reply { λ r. ⌜ r ≡ replyOf (startCarryOf (now (volume .entry)) (now (memory .entry)) s) ⌝ }
@@ -16,14 +16,14 @@ pub fn start(s: State, volume: &mut [u8], memory: &[u8]) -> Reply
         ⌜ now (volume .exit)
         ≡ volumeAfter (now (volume .entry)) (startCarryOf (now (volume .entry)) (now (memory .entry)) s .stored) ⌝ }
 {
-    let no = heading::refusal(s, volume, memory.len(), FIRST_TAG);
+    let no = heading::refusal(s, volume, memory.len(), FIRST);
     if no != 0 {
         return Reply {
             answer: Answer::Refused(no),
             state: s,
         };
     }
-    heading::put(volume, CARRY_TAG);
+    heading::put(volume, CARRY);
     Reply {
         answer: Answer::Done,
         state: s,

@@ -107,6 +107,16 @@ module _ {C : Type 0} {g : Geometry} {v m : List ℕ} {past : List StoredItem} {
 
   -- ---- 14
 
+  -- a note that stands, as it is read
+  pub read : (j : ℕ) → j < length (x .ns) → NoteStands g v (x .ns) j → noteRecord g v (suc j) ≡ note (x .ns) j
+  read j b st = rw st (note-back g v k (x .hs) (x .ns) (x .no) j b)
+
+  pub whole : (j : ℕ) → j < length (x .ns) → NoteStands g v (x .ns) j → noteWhole g v (suc j) ≡ true
+  whole j b st =
+      let r = read j b st in
+      let sl : sealed 12 (item g v (noteSlot g (suc j))) ≡ true = rw st (note-sealed (note (x .ns) j)) in
+      and-both sl (rw r (eq-eqb (note (x .ns) j .number) (suc j) (x .no .fit j b .number-is)))
+
   module _ (t : notesFull g v s ≡ false) where
     abbrev last : ℕ
     last = lastNote s
@@ -130,16 +140,6 @@ module _ {C : Type 0} {g : Geometry} {v m : List ℕ} {past : List StoredItem} {
         let q : suc last - g .notes ≡ suc i = omega (arith, x .al .notes-is) in
         let b : leb (g .notes) last ≡ true = le-leb (g .notes) last (omega (arith, x .al .notes-is)) in
         rw (q, x .al .notes-is) at (and-not (leb (g .notes) last) _ b (and-not (noteRing g) _ r (parts′ .1)))
-
-    -- a note that stands, as it is read
-    read : (j : ℕ) → j < length (x .ns) → NoteStands g v (x .ns) j → noteRecord g v (suc j) ≡ note (x .ns) j
-    read j b st = rw st (note-back g v k (x .hs) (x .ns) (x .no) j b)
-
-    whole : (j : ℕ) → j < length (x .ns) → NoteStands g v (x .ns) j → noteWhole g v (suc j) ≡ true
-    whole j b st =
-        let r = read j b st in
-        let sl : sealed 12 (item g v (noteSlot g (suc j))) ≡ true = rw st (note-sealed (note (x .ns) j)) in
-        and-both sl (rw r (eq-eqb (note (x .ns) j .number) (suc j) (x .no .fit j b .number-is)))
 
     alike : (i j : ℕ) (y z : Note) → noteRecord g v i ≡ y → noteRecord g v j ≡ z → noteLike g v i j ≡ true
         → (z .page ≡ y .page) × (z .kind ≡ y .kind)

@@ -40,7 +40,7 @@ is-replay p k x f =
     }
 
 module _ (h : History) (legal : Legal h) where
-  i : Inv (Undamaged h) (present h) (reached h .volume) (reached h .past) (reached h .power) (logOf h)
+  abbrev i : Inv (Undamaged h) (present h) (reached h .volume) (reached h .past) (reached h .power) (logOf h)
   i = tied h legal
 
   pub heading : headingOf h ≡ present h

@@ -40,5 +40,7 @@ pub mod CarryClaims
 pub mod Facts
 pub mod Health
 pub mod Lost
+pub mod Overwritten
+pub mod Rings
 pub mod Archive
 pub mod Mirror

@@ -181,11 +181,10 @@ module _ {C : Type 0} {g : Geometry} {v m : List ℕ} {past : List StoredItem} {
       let b : chainBroken g v s page ≡ true = rw (geo x) at (u .1) in
       true-not-false b (load-unbroken page (l .low) (l .high) (l .settled) (l .some))
 
-  -- 23 comes only where record 1 has left and the proviso fails
-  pub below-only : (page f : ℕ) → firstOf (loadRows v m s page f) ≡ 23
-      → (gone g v ≡ true) × (startStands g v (entryOf (indexOf g v) page) page ≡ true → ⊥)
+  -- 23 comes of the walk alone
+  pub below-is : (page f : ℕ) → firstOf (loadRows v m s page f) ≡ 23 → Loaded page f × (chainBelow g v s page ≡ true)
   unfolding loadRows
-  below-only page f e =
+  below-is page f e =
       let h : Geometry = geometryOf v in
       let u = until 23
       ((not (validVolume v), 1) ∷ (not (validMemory (length m)), 2) ∷ (not (wellFormed h (frameCount (length m)) s), 2)
@@ -196,10 +195,34 @@ module _ {C : Type 0} {g : Geometry} {v m : List ℕ} {past : List StoredItem} {
       let t = u .0 in
       let l = loaded-from page f (t .1 .1 .1 .0) (t .1 .1 .1 .1 .0) (t .1 .1 .1 .1 .1 .0) (t .1 .1 .1 .1 .1 .1 .0)
       (t .1 .1 .1 .1 .1 .1 .1 .0) in
-      let b : chainBelow g v s page ≡ true = rw (geo x) at (u .1) in (
-        byCases (gone g v) (λ z. z) (λ z. absurd (true-not-false b (load-whole page (l .low) (l .high) (l .settled) (l .some) z))),
-        λ z. true-not-false b (load-granted page (l .low) (l .high) (l .settled) (l .some) z),
+      (l, rw (geo x) at (u .1))
+
+  -- and only where record 1 has left and the proviso fails
+  pub below-only : (page f : ℕ) → firstOf (loadRows v m s page f) ≡ 23
+      → (gone g v ≡ true) × (startStands g v (entryOf (indexOf g v) page) page ≡ true → ⊥)
+  below-only page f e =
+      let q = below-is page f e in
+      let l = q .0 in (
+        byCases (gone g v) (λ z. z) (λ z. absurd (true-not-false (q .1) (load-whole page (l .low) (l .high) (l .settled) (l .some) z))),
+        λ z. true-not-false (q .1) (load-granted page (l .low) (l .high) (l .settled) (l .some) z),
       )
+
+  -- of a Load, 23 is exact: it tells that the page cannot be rebuilt, and a page that cannot be is not loaded
+  pub below-unserved : (page f : ℕ) → firstOf (loadRows v m s page f) ≡ 23
+      → (1 ≤ length k) × Unserved g v k (entryOf (indexOf g v) page) page (first g v k (x .hs) (x .ns) (x .no))
+  below-unserved page f e =
+      let q = below-is page f e in
+      let l = q .0 in
+      let some : lastOf page (x .all) ≢ 0 = l .some in (
+        omega (arith, l .settled, last-le page (x .all) (length k)),
+        load-exact page (l .low) (l .high) (l .settled) (l .some) .0 (q .1),
+      )
+
+  pub loaded-served : (page f : ℕ) → firstOf (loadRows v m s page f) ≡ 0
+      → Unserved g v k (entryOf (indexOf g v) page) page (first g v k (x .hs) (x .ns) (x .no)) → ⊥
+  loaded-served page f e u =
+      let l = loads page f e in
+      true-not-false (load-exact page (l .low) (l .high) (l .settled) (l .some) .1 u) (loads-above page f e)
 
   pub keep-load : (page f : ℕ) (an : Answer) (t : Bool) → firstOf (loadRows v m s page f) ≡ 0
       → Kept C g v past (record {

@@ -1,13 +1,13 @@
--- Theorem A, last part: every record below the run is spare, and every record that a pending one will displace is durable and spare. And
--- the base's demand 3 as an instance: a history on a volume that is no ring is safe. Theorem C: a history without damage, and in which no
--- Restamp of a noted backup was left torn, is safe.
+-- The log's ring in the definitions' words: every record below the run is spare, and every record that a pending one will displace is
+-- durable and spare. And when the proviso of demand 3 holds by itself: on a volume that is no ring, and, theorem C, after a history without
+-- damage in which no Restamp of a noted backup was left torn.
 use mathlib.Core.Path.{_≡_, refl, sym, ap, _∙_, subst}
-use mathlib.Core.Logic.{_≢_, _↔_}
+use mathlib.Core.Logic.{_≢_}
 use mathlib.Core.Bool.{Bool, true, false, cond, _&&_}
 use mathlib.Core.List.{List, [], _∷_, _++_}
-use Prim.Native.Nat.{ℕ, zero, suc, _+_, _≤_, _<_}
+use Prim.Native.Nat.{ℕ, zero, suc, _+_, _-_, _≤_, _<_}
 use native.Mathlib.Omega.{arith}
-use lib.ListN.{length}
+use lib.ListN.{length, take, List·getD-append}
 use lib.Dec.{eqb, leb, ltb}
 use borrow.Author.Tests.{le-ltb, eqb-false, eq-eqb}
 use Rattle.laws.proofs.Tables.{byCases, and-right, and-both, or-left, or-right, true-not-false}
@@ -18,61 +18,88 @@ use Rattle.model.specs.Scan.{durableCount, firstHeld, indexOf, gone}
 use Rattle.model.specs.AbstractLog.{Logged}
 use Rattle.model.specs.History.{Power, on}
 use Rattle.model.specs.Carry.{startsIn}
-use Rattle.model.specs.Claim.{History, Legal, reached, logOf, durableOf, Gone, Proviso, Safe, Agree, Begins}
+use Rattle.model.specs.Claim.{History, Legal, reached, logOf, durableOf, Gone, Proviso, Safe}
+use Rattle.model.specs.RingClaim.{ChangeOf, SpareRecord, runStart}
 use Rattle.model.specs.declared.geometry.Geometry.{Geometry}
+use Rattle.model.specs.declared.item.Note.{Note}
 use Rattle.model.specs.declared.state.Entry.{Entry}
 use Rattle.model.specs.declared.state.State.{State}
 use Rattle.history.specs.Facts.{volumeOf, headingOf}
-use Rattle.history.proofs.Logs.{at, lastOf}
+use Rattle.history.proofs.Logs.{noLogged, at, lastOf, last-page, last-take}
 use Rattle.history.proofs.Entries.{markAt, entryFrom}
-use Rattle.history.proofs.Records.{Fair}
 use Rattle.history.proofs.Sections.{volume-sized}
 use Rattle.history.proofs.NoteScan.{index-is}
 use Rattle.history.proofs.LogScan.{first, first-is, started, durable-count}
+use Rattle.history.proofs.Views.{no-backup}
+use Rattle.history.proofs.Disk.{Holds, Noted, Spare}
 use Rattle.history.proofs.Inv.{Inv}
-use Rattle.history.proofs.Context.{Ctx, entry-is}
+use Rattle.history.proofs.Context.{Ctx}
 use Rattle.history.proofs.Reached.{Undamaged, madeWith, present, tied, uncarried, live}
-use Rattle.history.proofs.Theorem.{demand3}
+
+-- ---- spare records
+
+-- the page of change n
+pub page-at : (l : List Logged) (n p : ℕ) → ChangeOf l n p → at l (n - 1) .page ≡ p
+page-at l n p c =
+    let e : suc (n - 1) ≡ n = omega (arith, c .low) in
+    last-page p l n (n - 1) (sym (last-take p l n (c .high)) ∙ (c .last ∙ sym e))
+
+-- a change that is spare by the list of notes is so by the index that the volume gives
+module _ {C : Type 0} (g : Geometry) (v : List ℕ) (k : List Logged) (h : Holds g v k) (ns : List Note) (o : Noted C g v k ns) where
+  pub spare-record : (j p : ℕ) → j < length k → at k j .page ≡ p → Spare k ns j → SpareRecord v p (suc j)
+  spare-record j p b e sp =
+      let f = h .fair j b in
+      let lo : 1 ≤ p = rw e at (f .low) in
+      let hi : p ≤ g .pages = rw e at (f .high) in
+      let up : suc j ≤ markAt p ns (length ns) .backup = rw e at sp in
+      let en : entryOf (indexOf (geometryOf v) v) p ≡ entryFrom (lastOf p k) (lastOf p k) (markAt p ns (length ns)) =
+      rw (h .vol .geo) (index-is g v k h ns o .entry p lo (omega (arith, volume-sized g v (h .vol) .p-high))) in
+      record {
+        noted = λ z.
+            let q : markAt p ns (length ns) .slot ≡ 0 = sym (ap (λ (y : Entry). y .slot) en) ∙ z in
+            omega (arith, no-backup g v k h ns o 0 j p lo hi b e q);
+        above = rw en up;
+      }
+
+  pub run-start-is : runStart v ≡ suc (first g v k h ns o)
+  run-start-is = rw (h .vol .geo, durable-count g v k h ns o) (first-is g v k h ns o)
+
+  pub lost-record : (n p : ℕ) → ChangeOf k n p → n < runStart v → SpareRecord v p n
+  lost-record n p c b =
+      let e : suc (n - 1) ≡ n = omega (arith, c .low) in
+      let l : n - 1 < length k = omega (arith, c .high, c .low) in
+      subst (λ (m : ℕ). SpareRecord v p m) e
+      (spare-record (n - 1) p l (page-at k n p c)
+      (started g v k h ns o .lost (n - 1) l (omega (arith, run-start-is, c .low))))
+
+-- ---- a legal history
 
 module _ (h : History) (legal : Legal h) where
-  i : Inv (Undamaged h) (present h) (volumeOf h) (reached h .past) (reached h .power) (logOf h)
+  abbrev i : Inv (Undamaged h) (present h) (volumeOf h) (reached h .past) (reached h .power) (logOf h)
   i = tied h legal
 
   heading : headingOf h ≡ present h
-  heading = i .holds .vol .geo
-
-  -- the scan counts the kept changes
-  pub count-is : durableCount (headingOf h) (volumeOf h) ≡ length (durableOf h)
-  count-is = rw heading (durable-count (present h) (volumeOf h) (durableOf h) (i .holds) (i .ns) (i .noted))
-
-  page-fair : (j : ℕ) → j < length (durableOf h) → Fair (h .pages) (durableOf h) j
-  page-fair j b = i .holds .fair j b
+  heading = tied h legal .holds .vol .geo
 
   -- LOST
-  pub lost-spare : (j : ℕ) → j < length (durableOf h) → suc j < firstHeld (headingOf h) (volumeOf h) (length (durableOf h))
-      → suc j ≤ entryOf (indexOf (headingOf h) (volumeOf h)) (at (durableOf h) j .page) .backup
-  lost-spare j b c =
-      let g = present h in
-      let f = page-fair j b in
-      let q = at (durableOf h) j .page in
-      let p64 = volume-sized g (volumeOf h) (i .holds .vol) .p-high in
-      let fi : firstHeld g (volumeOf h) (length (durableOf h)) ≡ suc (first g (volumeOf h) (durableOf h) (i .holds) (i .ns) (i .noted)) =
-      first-is g (volumeOf h) (durableOf h) (i .holds) (i .ns) (i .noted) in
-      let c′ : suc j < firstHeld g (volumeOf h) (length (durableOf h)) = rw heading at c in
-      let e = index-is g (volumeOf h) (durableOf h) (i .holds) (i .ns) (i .noted) .entry q (f .low) (omega (arith, f .high, p64)) in
-      rw (heading, e) (started g (volumeOf h) (durableOf h) (i .holds) (i .ns) (i .noted) .lost j b (omega arith))
+  pub lost-spare : (n p : ℕ) → ChangeOf (durableOf h) n p → n < runStart (volumeOf h) → SpareRecord (volumeOf h) p n
+  lost-spare = lost-record (present h) (volumeOf h) (durableOf h) (i .holds) (i .ns) (i .noted)
 
   -- DISPLACED
-  module _ (m : List ℕ) (s : State) (e : reached h .power ≡ on m s) where
-    ctx : Ctx (Undamaged h) (present h) (volumeOf h) m (reached h .past) s (durableOf h) (logOf h .pending)
-    ctx = live h legal m s e
-
-    pub displaced-spare : (j : ℕ) → j + h .records < length (durableOf h ++ logOf h .pending)
-        → (j < length (durableOf h)) × (suc j ≤ entryOf (s .index) (at (durableOf h) j .page) .backup)
-    displaced-spare j b =
-        let q = ctx .al .displaced j (rw (ctx .al .log .split) b) in
-        let f = page-fair j (q .0) in
-        (q .0, rw (entry-is ctx (at (durableOf h) j .page) (f .low) (f .high)) (q .1))
+  pub displaced-spare : (m : List ℕ) (s : State) → reached h .power ≡ on m s
+      → (n p : ℕ) → ChangeOf (durableOf h ++ logOf h .pending) n p → n + h .records ≤ length (durableOf h ++ logOf h .pending)
+      → (n ≤ length (durableOf h)) × SpareRecord (volumeOf h) p n
+  displaced-spare m s e n p c b =
+      let x = live h legal m s e in
+      let k = durableOf h in
+      let w = logOf h .pending in
+      let q = x .al .displaced (n - 1) (rw (x .al .log .split) (omega (arith, b, c .low))) in
+      let pg : at k (n - 1) .page ≡ p = rw (List·getD-append k w noLogged (n - 1) (q .0)) at (page-at (k ++ w) n p c) in
+      let e₁ : suc (n - 1) ≡ n = omega (arith, c .low) in (
+        omega (arith, q .0),
+        subst (λ (j : ℕ). SpareRecord (volumeOf h) p j) e₁
+            (spare-record (present h) (volumeOf h) k (x .hs) (x .ns) (x .no) (n - 1) p (q .0) pg (q .1)),
+      )
 
   -- ---- no ring
 
@@ -104,19 +131,3 @@ module _ (h : History) (legal : Legal h) where
       let k = i .noted .copies c p lo hi (eqb-false (markAt p ns (length ns) .slot) 0 t) in
       or-right (eqb (markAt p ns (length ns) .slot) 0) (or-left _ (and-both (k .0)
       (eq-eqb (imageLsn (item g v (slotAt (markAt p ns (length ns) .slot)))) (markAt p ns (length ns) .backup) (k .1))))))
-
--- demand 3 of the base: two stores that are no rings, without any proviso (`made-safe` gives the same for volumes made so and not carried
--- over)
-pub demand3-plain : (h k : History) → Legal h → Legal k → ring (present h) ≡ false → ring (present k) ≡ false → h .pages ≡ k .pages
-    → (l : List Logged) → Begins (durableOf h) l → Begins (durableOf k) l
-    → (x y : List ℕ) → length x ≡ 256 → length y ≡ 256
-    → ((p : ℕ) → 1 ≤ p → p ≤ h .pages → Agree h k x y p) ↔ (length (durableOf h) ≡ length (durableOf k))
-demand3-plain h k lh lk rh rk same l b c x y sx sy = demand3 h k lh lk same (plain-safe h lh rh) (plain-safe k lk rk) l b c x y sx sy
-
--- demand 3 of two stores whose images nobody damaged, without any proviso
-pub demand3-undamaged : (h k : History) → Legal h → Legal k → Undamaged h → Undamaged k → h .pages ≡ k .pages
-    → (l : List Logged) → Begins (durableOf h) l → Begins (durableOf k) l
-    → (x y : List ℕ) → length x ≡ 256 → length y ≡ 256
-    → ((p : ℕ) → 1 ≤ p → p ≤ h .pages → Agree h k x y p) ↔ (length (durableOf h) ≡ length (durableOf k))
-demand3-undamaged h k lh lk uh uk same l b c x y sx sy =
-    demand3 h k lh lk same (undamaged-safe h lh uh) (undamaged-safe k lk uk) l b c x y sx sy

@@ -47,7 +47,8 @@ pub record Restarts (h : History) (m : List ℕ) : Type 0 where
   pub right : validMemory (length m) ≡ true → refusalOf (restartOf (volumeOf h) m .answer) ≡ 0
   pub wrong : validMemory (length m) ≡ false → refusalOf (restartOf (volumeOf h) m .answer) ≡ 2
 
--- an inspection is refused for the buffer's size, for a page out of range or for a blank one
+-- an inspection is refused for the buffer's size, for a page out of range, for a blank one, or 23: the walk went below
+-- the run and found no start (exactly when: `RingClaim.inspects`)
 pub record Answers (h : History) (p : ℕ) (buffer : List ℕ) : Type 0 where
   pub right : length buffer ≡ 256 → Ordinary (inspection h p buffer)
   pub wrong : length buffer ≢ 256 → inspection h p buffer ≡ 2

@@ -5,16 +5,14 @@ use mathlib.Core.List.{List, [], _∷_, map}
 use Prim.Native.Nat.{ℕ, zero, suc, _+_, _-_, _*_, _%_, _≤_, _<_}
 use native.Mathlib.Numerals.{add-one}
 use native.Mathlib.Omega.{arith}
-use lib.Dec.{eqb, leb, ltb, lit≤}
+use lib.Dec.{eqb, leb, ltb}
 use lib.ListN.{getD, set, List·getD-map}
 use borrow.Author.Tests.{le-leb}
 use Rattle.laws.proofs.Tables.{all-at, within-bounds, every-none, every-more, every-fails}
-use Rattle.laws.proofs.Fields.{field-part}
 use Rattle.model.specs.Tables.{every, within}
-use Rattle.model.specs.Bytes.{field, part}
 use Rattle.model.specs.Checksum.{sealed}
-use Rattle.model.specs.Geometry.{noteAt, logSlot, noteSlot, start, item}
-use Rattle.model.specs.Item.{recordOf, noteOf, noteLayout}
+use Rattle.model.specs.Geometry.{noteAt, noteSlot, start, item}
+use Rattle.model.specs.Item.{noteOf, noteLayout}
 use Rattle.model.specs.Index.{emptyEntry, entryRow, entryOf, withNote, enterNote, slotUsed, settled}
 use Rattle.model.specs.Scan.{logRecord, noteRecord, durableCount, firstHeld, noteCount, firstNote, runIndex, noteIndex, noteFollows, noteFits, endsAt, restZero, validNotes, indexOf}
 use Rattle.model.specs.declared.geometry.Geometry.{Geometry}
@@ -30,11 +28,6 @@ use Rattle.index.proofs.ColumnLaws.{column-set, slot-in, log-written, l
 use Rattle.index.proofs.Entries.{row-is}
 use Rattle.index.proofs.Located.{note-known, note-slot, first-note-low, notes-some}
 use Rattle.index.proofs.Conjunctions.{guarded}
-
--- the page of a record, of the whole volume's bytes
-pub record-page : (g : Geometry) (v : List ℕ) (n : ℕ) → logRecord g v n .page ≡ field 2 (start g (logSlot g n) + 8) v
-unfolding recordOf item
-record-page g v n = field-part 2 8 64 (start g (logSlot g n)) v (lit≤ tt)
 
 -- slot 0 is in no range, whatever a search says of it
 searched : (n s : ℕ) (used : Bool) → (within n s && not (leb 1 s && used)) ≡ (within n s && not used)

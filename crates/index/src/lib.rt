@@ -1,7 +1,8 @@
 // The scan of a volume's log and notes into the page recovery index, for any bytes and without memory or state.
 ghost use mathlib.Core.Path.{_≡_};
+ghost use mathlib.Core.Bool.{true};
 ghost use lib.ListN.{replicate};
-ghost use Rattle.model.specs.Geometry.{geometryOf};
+ghost use Rattle.model.specs.Geometry.{knownMagic, geometryOf};
 ghost use Rattle.index.specs.Columns.{Blank, Columns};
 ghost use Rattle.index.specs.Scanned.{scanRefusal, columnIndex, foundOf, countsOf, scannedOf};
 
@@ -49,8 +50,8 @@ fn refused(n: u32) -> Counts
     }
 }
 
-// Scans a volume with this geometry into columns: refused 1, 17 or 18, or the counts and the columns that its log and
-// notes give.
+// Scans a volume with a known heading and this geometry into columns: refused 1, 17 or 18, or the counts and the
+// columns that its log and notes give.
 fn fill(
     volume: &[u8],
     g: Geometry,
@@ -59,7 +60,7 @@ fn fill(
     slots: &mut [u8],
     backup: &mut [u32],
 ) -> Counts
-    requires { ⌜ g ≡ geometryOf (now volume) ⌝ }
+    requires { ⌜ (knownMagic (now volume) ≡ true) × (g ≡ geometryOf (now volume)) ⌝ }
     requires { ⌜ now last ≡ replicate 64 0 ⌝ }
     requires { ⌜ Blank (now written) (now slots) (now backup) ⌝ }
     ensures refusal { λ r. ⌜ r .refusal ≡ scanRefusal (now (volume .entry)) ⌝ }
@@ -88,6 +89,29 @@ fn fill(
     }
 }
 
+// The same of any bytes: the heading is compared before a count is read.
+fn read(
+    volume: &[u8],
+    last: &mut [u32],
+    written: &mut [u32],
+    slots: &mut [u8],
+    backup: &mut [u32],
+) -> Counts
+    requires { ⌜ now last ≡ replicate 64 0 ⌝ }
+    requires { ⌜ Blank (now written) (now slots) (now backup) ⌝ }
+    ensures refusal { λ r. ⌜ r .refusal ≡ scanRefusal (now (volume .entry)) ⌝ }
+    ensures counts { λ r. ⌜ (r .refusal ≡ 0 → r ≡ countsOf (now (volume .entry))) ⌝ }
+    ensures columns { λ r. ⌜ (r .refusal ≡ 0
+        → Columns (columnIndex (now (volume .entry))) (now (last .exit)) (now (written .exit)) (now (slots .exit))
+        (now (backup .exit))) ⌝ }
+{
+    if !heading::known(volume) {
+        return refused(1);
+    }
+    let g = heading::geometry(volume);
+    fill(volume, g, last, written, slots, backup)
+}
+
 // Counts what a scan finds, without the index. What a refused scan gives besides its number means nothing.
 pub fn count(volume: &[u8]) -> Counts
     ensures refusal { λ r. ⌜ r .refusal ≡ scanRefusal (now (volume .entry)) ⌝ }
@@ -97,8 +121,7 @@ pub fn count(volume: &[u8]) -> Counts
     let mut written = [0u32; 64];
     let mut slots = [0u8; 64];
     let mut backup = [0u32; 64];
-    let g = heading::geometry(volume);
-    fill(volume, g, &mut last, &mut written, &mut slots, &mut backup)
+    read(volume, &mut last, &mut written, &mut slots, &mut backup)
 }
 
 // Scans a volume. What a refused scan gives besides its number means nothing.
@@ -110,8 +133,7 @@ pub fn scan(volume: &[u8]) -> Scanned
     let mut written = [0u32; 64];
     let mut slots = [0u8; 64];
     let mut backup = [0u32; 64];
-    let g = heading::geometry(volume);
-    let counts = fill(volume, g, &mut last, &mut written, &mut slots, &mut backup);
+    let counts = read(volume, &mut last, &mut written, &mut slots, &mut backup);
     let index = columns::gather(&last, &written, &slots, &backup);
     Scanned {
         refusal: counts.refusal,
@@ -122,9 +144,9 @@ pub fn scan(volume: &[u8]) -> Scanned
     }
 }
 
-// Scans a volume with this geometry for one page's entry, without an array of all entries.
+// Scans a volume with a known heading and this geometry for one page's entry, without an array of all entries.
 pub fn seek(volume: &[u8], g: Geometry, page: u32) -> Found
-    requires { ⌜ g ≡ geometryOf (now volume) ⌝ }
+    requires { ⌜ (knownMagic (now volume) ≡ true) × (g ≡ geometryOf (now volume)) ⌝ }
     ensures refusal { λ r. ⌜ r .refusal ≡ scanRefusal (now (volume .entry)) ⌝ }
     ensures clean { λ r. ⌜ (r .refusal ≡ 0 → r ≡ foundOf (now (volume .entry)) page) ⌝ }
 {

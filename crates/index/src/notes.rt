@@ -1,7 +1,6 @@
 // The notes: judged one by one, and what they say of each page.
 ghost use mathlib.Core.Path.{_≡_};
 ghost use mathlib.Core.Bool.{true, _||_};
-ghost use Prim.Native.Nat.{_≤_};
 ghost use lib.Dec.{eqb, ltb};
 ghost use Rattle.model.specs.Scan.{logRecord};
 ghost use Rattle.index.specs.Columns.{Blank, Noted, earlierEntry};
@@ -40,10 +39,10 @@ pub fn run(volume: &[u8], g: Geometry) -> Run
 
 // The page of record n.
 fn page(volume: &[u8], g: Geometry, n: u32) -> u16
-    requires { ⌜ 1 ≤ g .records ⌝ }
+    requires { ⌜ Sized g (now volume) ⌝ }
     ensures { λ r. ⌜ r ≡ logRecord g (now (volume .entry)) n .page ⌝ }
 {
-    field::u16_at(volume, place::log_slot(g, n) + 8)
+    field::u16_at(place::record(volume, g, n), 8)
 }
 
 // An entry as earlier notes left it; no note reads or changes the numbers of its records.
@@ -72,7 +71,7 @@ fn follows(e: Entry, n: Note, slots: u32, used: bool) -> bool
 
 // The note's number is below a log's run from `first` on, where it is not looked up, or that of a record of its page.
 fn agrees(volume: &[u8], g: Geometry, first: u64, n: Note) -> bool
-    requires { ⌜ 1 ≤ g .records ⌝ }
+    requires { ⌜ Sized g (now volume) ⌝ }
     ensures { λ r. ⌜ r
         ≡ (ltb (n .lsn) first || eqb (logRecord g (now (volume .entry)) (n .lsn) .page) (n .page)) ⌝ }
 {

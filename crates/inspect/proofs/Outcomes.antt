@@ -85,6 +85,11 @@ module _ (v : List ℕ) (page : ℕ) (b : List ℕ) where
   unfolding inspectOf
   refuses n e ne = rw (ne-eqb (firstOf (inspectRows v page (length b))) 0 (λ z. ne (e ∙ z))) (ap Refused e, refl)
 
+  -- no row stands before that of the volume
+  pub invalid : validVolume v ≡ false → (Refused 1 ≡ inspectOf v page b .answer) × (b ≡ inspectOf v page b .buffer)
+  unfolding inspectRows
+  invalid h = refuses 1 (rw h) (eqb-false 1 0 refl)
+
   pub refused : (n : ℕ) → n ≡ early → (n ≡ 0 → ⊥) → (Refused n ≡ inspectOf v page b .answer) × (b ≡ inspectOf v page b .buffer)
   refused n e ne = refuses n (e ∙ sym (whole ∙ when-false _ _ (ne-eqb _ _ (λ z. ne (e ∙ z))))) ne
 

@@ -30,13 +30,16 @@ fn refusal(scan: u32, pages: u32, page: u32, size: usize, durable: u32) -> u32
     )
 }
 
-// Inspects a page.
+// Inspects a page. The heading is compared before a count is read.
 // Ruled out: the disk's image handed over unrepaired; a made-up count; every page blank (tried); every call refused
 // (tried); a refusal that wrote to the buffer.
 pub fn inspect(volume: &[u8], page: u32, buffer: &mut [u8]) -> Answer
     ensures answer { λ r. ⌜ r ≡ inspectOf (now (volume .entry)) page (now (buffer .entry)) .answer ⌝ }
     ensures buffer { λ _. ⌜ now (buffer .exit) ≡ inspectOf (now (volume .entry)) page (now (buffer .entry)) .buffer ⌝ }
 {
+    if !heading::known(volume) {
+        return Answer::Refused(1);
+    }
     let g = heading::geometry(volume);
     let found = index::seek(volume, g, page);
     let e = found.entry;

@@ -1,13 +1,14 @@
 -- Two comparisons of worked histories' volumes, as instances of the theorem: logs that agree, under two headings and counts, so every page
 -- shows the same; and one that is a beginning of the other, so a page that is not listed shows the same.
-use Prim.Native.Nat.{ℕ, suc, _≤_}
+use Prim.Native.Nat.{ℕ, _+_, _≤_}
 use mathlib.Core.Path.{_≡_, refl, ap, sym, _∙_}
 use mathlib.Core.Bool.{Bool, true, false, not}
-use mathlib.Core.List.{List}
+use mathlib.Core.List.{List, [], _∷_, append-nil}
 use native.Mathlib.Omega.{arith}
 use lib.Dec.{T, eqb→eq}
-use lib.ListN.{length}
-use Rattle.model.specs.Claim.{History, Legal, reached, durableOf, Agree}
+use lib.ListN.{length, length-append}
+use Rattle.model.specs.AbstractLog.{Logged}
+use Rattle.model.specs.Claim.{History, reached, durableOf, Agree}
 use Rattle.model.specs.Mirror.{commonOf, mirrorOf, kindNumber, countNumber, mirrorRefusal, listed, LongestCommon}
 use Rattle.model.specs.declared.geometry.Heading.the-variants.{First, Second}
 use Rattle.model.specs.declared.reading.Comparison.{Comparison}
@@ -15,6 +16,7 @@ use Rattle.model.specs.declared.reading.Comparison.the-variants.{Refused, First
 use Rattle.cases.specs.Opened.{opened}
 use Rattle.cases.specs.Worked.{historyOf}
 use Rattle.cases.specs.Histories.{forcesCut, backupReplaced, twoForced}
+use Rattle.cases.specs.Slides.{slid}
 use Rattle.history.proofs.Mirror.{mirror}
 use Rattle.instances.proofs.Instances.{cut-computed, replaced-computed, forced-computed}
 
@@ -69,6 +71,26 @@ taken = ap mirrorRefusal first-lacks
 -- the answer is that of the two kept lists
 pub kept-lists : LongestCommon (commonOf (reached replaced .volume) (reached cut .volume)) (durableOf replaced) (durableOf cut)
 kept-lists = mirror .kept replaced cut (replaced-computed .legal) (cut-computed .legal) taken .0
+
+-- which have two changes in common; one is too short, though both lists begin with it, and three are too many
+pub common-two : commonOf (reached replaced .volume) (reached cut .volume) ≡ 2
+unfolding opened
+common-two = eqb→eq (commonOf (reached replaced .volume) (reached cut .volume)) 2 tt
+
+abbrev two : List Logged
+two = backupReplaced First .durable
+
+pub one-short : LongestCommon 1 (durableOf replaced) (durableOf cut) → ⊥
+one-short c =
+    let l : length two ≤ 1 =
+    c .longest two ([], append-nil two ∙ sym (replaced-computed .durable)) (slid 1 (0x46 ∷ []) ∷ [], sym (cut-computed .durable)) in
+    omega (arith, l)
+
+pub one-more : LongestCommon 3 (durableOf replaced) (durableOf cut) → ⊥
+one-more c =
+    let l : length (c .front) + length (c .first .0) ≡ length two =
+    sym (length-append (c .front) (c .first .0)) ∙ ap length (c .first .1 ∙ replaced-computed .durable) in
+    omega (arith, l, c .size)
 
 -- the record that is lacking is of page 1; page 2 is not listed
 unlisted : listed (reached replaced .volume) (reached cut .volume) 2 ≡ false

@@ -1,16 +1,19 @@
--- The rows of the table that document 02 brought hold: forecast, archive, mirror, neighbours, rehearsal, a volume carried over. With those
--- of `cases` they are the whole table.
+-- The rows of the table that read volumes hold: an inspection with a report, forecast, archive, mirror, neighbours. With those of `cases`
+-- and `played` they are the whole table.
 use mathlib.Core.List.{_++_}
 use Rattle.cases.specs.Rows.{Hold}
-use Rattle.cases.specs.All.{diskRows, callRows, laterRows, carryRows, rows}
+use Rattle.cases.specs.All.{diskRows, callRows, turnedRows, laterRows, playedRows, rows}
+use Rattle.cases.specs.Examined.{examinedRows}
 use Rattle.cases.specs.Forecasts.{forecastRows}
 use Rattle.cases.specs.Archives.{archiveRows}
 use Rattle.cases.specs.Mirrors.{mirrorRows}
 use Rattle.cases.specs.Neighbours.{neighbourRows}
-use Rattle.cases.specs.Rehearsals.{rehearsalCases, rehearsalRuns}
-use Rattle.cases.specs.Carried.{carriedRows}
-use Rattle.cases.specs.CarriedEvents.{carriedEvents}
-use Rattle.cases.proofs.Cases.{all, joined, disk-cases, call-cases}
+use Rattle.cases.proofs.Cases.{all, joined, disk-cases, call-cases, turned-cases}
+use Rattle.played.proofs.PlayedRows.{played-cases}
+
+examined-cases : Hold examinedRows
+unfolding examinedRows
+examined-cases = all examinedRows tt
 
 forecast-cases : Hold forecastRows
 unfolding forecastRows
@@ -28,34 +31,16 @@ neighbour-cases : Hold neighbourRows
 unfolding neighbourRows
 neighbour-cases = all neighbourRows tt
 
-rehearsal-cases : Hold rehearsalCases
-unfolding rehearsalCases
-rehearsal-cases = all rehearsalCases tt
-
-rehearsal-runs : Hold rehearsalRuns
-unfolding rehearsalRuns
-rehearsal-runs = all rehearsalRuns tt
-
 later-cases : Hold laterRows
 unfolding laterRows
 later-cases =
-    joined forecastRows (archiveRows ++ (mirrorRows ++ (neighbourRows ++ (rehearsalCases ++ rehearsalRuns)))) forecast-cases
-    (joined archiveRows (mirrorRows ++ (neighbourRows ++ (rehearsalCases ++ rehearsalRuns))) archive-cases
-    (joined mirrorRows (neighbourRows ++ (rehearsalCases ++ rehearsalRuns)) mirror-cases
-    (joined neighbourRows (rehearsalCases ++ rehearsalRuns) neighbour-cases
-    (joined rehearsalCases rehearsalRuns rehearsal-cases rehearsal-runs))))
-
-carried-cases : Hold carriedRows
-unfolding carriedRows
-carried-cases = all carriedRows tt
-
-carried-events : Hold carriedEvents
-unfolding carriedEvents
-carried-events = all carriedEvents tt
+    joined examinedRows (forecastRows ++ (archiveRows ++ (mirrorRows ++ neighbourRows))) examined-cases
+    (joined forecastRows (archiveRows ++ (mirrorRows ++ neighbourRows)) forecast-cases
+    (joined archiveRows (mirrorRows ++ neighbourRows) archive-cases (joined mirrorRows neighbourRows mirror-cases neighbour-cases)))
 
 pub cases : Hold rows
-unfolding rows carryRows
+unfolding rows
 cases =
-    joined diskRows (callRows ++ (laterRows ++ carryRows)) disk-cases
-    (joined callRows (laterRows ++ carryRows) call-cases
-    (joined laterRows carryRows later-cases (joined carriedRows carriedEvents carried-cases carried-events)))
+    joined diskRows (callRows ++ (turnedRows ++ (laterRows ++ playedRows))) disk-cases
+    (joined callRows (turnedRows ++ (laterRows ++ playedRows)) call-cases
+    (joined turnedRows (laterRows ++ playedRows) turned-cases (joined laterRows playedRows later-cases played-cases)))

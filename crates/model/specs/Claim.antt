@@ -122,6 +122,14 @@ Agree h k x y p =
 abbrev pub Begins : List Logged → List Logged → Type 0
 Begins k l = (r : List Logged) × (k ++ r ≡ l)
 
+-- "If both kept lists, pages included, are beginnings of one list, then all pages 1 to P agree in those bytes or give 7
+-- in both, exactly when the kept lists are equally long"
+abbrev pub Alike : History → History → Type 0
+Alike h k =
+    (l : List Logged) → Begins (durableOf h) l → Begins (durableOf k) l
+    → (x y : List ℕ) → length x ≡ 256 → length y ≡ 256
+    → ((p : ℕ) → 1 ≤ p → p ≤ h .pages → Agree h k x y p) ↔ (length (durableOf h) ≡ length (durableOf k))
+
 -- ---- the claims
 
 pub record Demand2 : Type 0 where
@@ -131,13 +139,7 @@ pub record Demand2 : Type 0 where
   pub loads : (h : History) → Legal h → (m : List ℕ) (s : State) → reached h .power ≡ on m s
       → (p f : ℕ) → Loads h m s p f
 
--- "If both kept lists, pages included, are beginnings of one list, then all pages 1 to P agree in those bytes or give 7
--- in both, exactly when the kept lists are equally long." The headings, the counts of slots, log records and notes, the
--- memories and the buffers may differ. What each history's inspection shows by itself stands in `Demand2.inspects`.
+-- The headings, the counts of slots, log records and notes, the memories and the buffers may differ. What each history's
+-- inspection shows by itself stands in `Demand2.inspects`.
 abbrev pub Demand3 : Type 0
-Demand3 =
-    (h k : History) → Legal h → Legal k → h .pages ≡ k .pages
-    → Safe h → Safe k
-    → (l : List Logged) → Begins (durableOf h) l → Begins (durableOf k) l
-    → (x y : List ℕ) → length x ≡ 256 → length y ≡ 256
-    → ((p : ℕ) → 1 ≤ p → p ≤ h .pages → Agree h k x y p) ↔ (length (durableOf h) ≡ length (durableOf k))
+Demand3 = (h k : History) → Legal h → Legal k → h .pages ≡ k .pages → Safe h → Safe k → Alike h k

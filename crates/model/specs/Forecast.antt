@@ -4,7 +4,7 @@
 -- two figures, which were from the log and notes alone.
 use Prim.Native.Nat.{ℕ, zero, suc, _-_, _≤_, _<_}
 use mathlib.Core.Path.{_≡_}
-use mathlib.Core.Logic.{_≢_, _⊎_}
+use mathlib.Core.Logic.{_⊎_}
 use mathlib.Core.Bool.{true, cond, not}
 use mathlib.Core.List.{List, [], _∷_}
 use lib.Dec.{eqb, ltb}
@@ -15,7 +15,6 @@ use Rattle.model.specs.Item.{validImage, imageLsn}
 use Rattle.model.specs.Repair.{Walk, walkOf, isBelow}
 use Rattle.model.specs.Reading.{logRows, scanRows, Restarts, pageView, tabulate}
 use Rattle.model.specs.Calls.{inspectOf}
-use Rattle.model.specs.Demand1.{ByTable}
 use Rattle.model.specs.declared.answer.Answer.{Answer}
 use Rattle.model.specs.declared.answer.Answer.the-variants.{Refused, Nothing, Done, Repaired}
 use Rattle.model.specs.declared.reading.Figure.{Figure}
@@ -93,10 +92,8 @@ pub record JudgedAlike (v x y : List ℕ) : Type 0 where
   pub valid : (p : ℕ) → validImage (geometryOf v) p x ≡ validImage (geometryOf v) p y
   pub number : imageLsn x ≡ imageLsn y
 
+-- (by which table it is refused: `ReadingClaim`)
 pub record ForecastClaim : Type 0 where
-  -- "refused 1, 17 and 18 as a restart is"; refused, every row is zeros
-  pub table : (v : List ℕ) → ByTable (scanRows v) (forecastOf v .refusal)
-  pub refused : (v : List ℕ) → forecastOf v .refusal ≢ 0 → forecastOf v .pages ≡ replicate 64 (counted 0)
   -- "the count that inspection would report", 0 where it gives 7, and 23 where it does
   pub exact : (v : List ℕ) (p : ℕ) (buffer : List ℕ) → Asked v p buffer
       → forecastRow v p ≡ figureIn (inspectOf v p buffer .answer)

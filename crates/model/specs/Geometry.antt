@@ -147,7 +147,7 @@ most g = cond (ring g) topNumber (g .records)
 abbrev pub mostNotes : Geometry → ℕ
 mostNotes g = cond (noteRing g) topNumber (g .notes)
 
--- slot(n) of L: "((n − 1) mod L) + 1"; numbers at most L stay where they are
+-- "slot ((n − 1) modulo L) + 1": numbers at most L stay where they are
 abbrev pub slotOf : ℕ → ℕ → ℕ
 slotOf l n = suc ((n - 1) % l)
 

@@ -4,14 +4,16 @@
 use Prim.Native.Nat.{ℕ, _≤_}
 use mathlib.Core.Path.{_≡_}
 use mathlib.Core.Logic.{_≢_, _⊎_, _↔_}
-use mathlib.Core.Bool.{Bool, true, false, cond}
+use mathlib.Core.Bool.{Bool, true, false, cond, not}
 use mathlib.Core.List.{List, [], _∷_}
 use lib.Dec.{eqb}
 use lib.ListN.{length}
+use Rattle.model.specs.Tables.{Row, firstOf}
 use Rattle.model.specs.Bytes.{part}
 use Rattle.model.specs.Geometry.{validVolume}
 use Rattle.model.specs.Item.{validImage}
 use Rattle.model.specs.Repair.{View, repairOf}
+use Rattle.model.specs.Refusals.{imageRows}
 use Rattle.model.specs.Calls.{Inspected, inspectOf, loadOf, refusalOf}
 use Rattle.model.specs.History.{on}
 use Rattle.model.specs.Claim.{History, Legal, reached, inspection, Agree}
@@ -56,14 +58,17 @@ pub record Examined : Type 0 where
   pub buffer : List ℕ
   pub report : List ℕ
 
--- an inspection that also tells class, start and count; a report of another length is refused as a buffer of another
--- length is
+-- a report of another length is refused as a buffer of another length is: 2, behind row 1; then as Inspect is
+unfoldable pub examineRows : List ℕ → ℕ → ℕ → ℕ → List Row
+examineRows v page size count = (not (validVolume v), 1) ∷ (not (eqb count 3), 2) ∷ imageRows v page size
+
+-- an inspection that also tells class, start and count
 unfoldable pub examineOf : List ℕ → ℕ → List ℕ → List ℕ → Examined
 examineOf v page buffer report =
     let o = inspectOf v page buffer in
-    cond (eqb (length report) 3)
-    (record { refusal = refusalOf (o .answer); buffer = o .buffer; report = reported (o .answer) report })
-    (record { refusal = cond (validVolume v) 2 1; buffer = buffer; report = report })
+    let no = firstOf (examineRows v page (length buffer) (length report)) in
+    cond (eqb no 0) (record { refusal = 0; buffer = o .buffer; report = reported (o .answer) report })
+    (record { refusal = no; buffer = buffer; report = report })
 
 -- ---- sameness
 

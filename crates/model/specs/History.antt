@@ -75,8 +75,8 @@ storedBefore at xs (nothing ∷ past) = storedBefore at xs past
 storedBefore at xs (newHeading tag ∷ past) = storedBefore at xs past
 storedBefore at xs (oneItem at′ ys ∷ past) = (samePlace at at′ && sameBytes xs ys) || storedBefore at xs past
 
--- a restamped image "counts as stored in its place exactly if the image that it restamps does": otherwise a forgery
--- that passes in a slot outside the index would be stored by its restamp, and might be returned where the slot is noted
+-- a restamped image counts as stored in its place exactly if the image that it restamps does: otherwise a forgery that
+-- passes in a slot outside the index would be stored by its restamp, and might be returned where the slot is noted
 abbrev pub restampCounts : List ℕ → StoredItem → List StoredItem → Bool
 restampCounts v nothing past = true
 restampCounts v (oneItem at xs) past = storedBefore at (item (geometryOf v) v at) past

@@ -18,7 +18,6 @@ use Rattle.model.specs.Scan.{validLog, validNotes, durableCount, logReco
 use Rattle.model.specs.Reading.{tabulate}
 use Rattle.model.specs.AbstractLog.{Logged}
 use Rattle.model.specs.Claim.{History, Legal, reached, durableOf, Agree, Begins}
-use Rattle.model.specs.Demand1.{ByTable}
 use Rattle.model.specs.declared.geometry.Geometry.{Geometry}
 use Rattle.model.specs.declared.reading.Comparison.{Comparison}
 use Rattle.model.specs.declared.reading.Comparison.the-variants.{Refused, FirstLacks, SecondLacks, Differs}
@@ -154,10 +153,8 @@ pub record CommonRecords (v w : List ℕ) (k : ℕ) : Type 0 where
   pub same : (n : ℕ) → 1 ≤ n → n ≤ k → sameChange (recordIn v n) (recordIn w n) ≡ true
   pub next : k < durableIn v → k < durableIn w → sameChange (recordIn v (suc k)) (recordIn w (suc k)) ≡ false
 
+-- (by which tables the two calls are refused: `ReadingClaim`)
 pub record MirrorClaim : Type 0 where
-  -- refused by the table; refused, no page is listed
-  pub table : (v w : List ℕ) → ByTable (mirrorRows v w) (mirrorRefusal (mirrorOf v w .answer))
-  pub refused : (v w : List ℕ) → mirrorRefusal (mirrorOf v w .answer) ≢ 0 → mirrorOf v w .touched ≡ replicate 64 false
   -- the two volumes have equal parts in it
   pub symmetry : (v w : List ℕ)
       → (mirrorOf w v .answer ≡ exchanged (mirrorOf v w .answer)) × (mirrorOf w v .touched ≡ mirrorOf v w .touched)
@@ -173,10 +170,8 @@ pub record MirrorClaim : Type 0 where
   pub whole : (v w : List ℕ) → mirrorRefusal (mirrorOf v w .answer) ≡ 0 → (n : ℕ) → 1 ≤ n → n ≤ commonOf v w
       → (recordOf (recordIn v n) ≡ recordOf (recordIn w n)) × (payloadOf (recordIn v n) ≡ payloadOf (recordIn w n))
 
--- of the call for C: refused by its table, and then the report is left; else it is told a comparison, not refused
+-- of the call for C: where it is not refused it is told a comparison, which is not refused
 pub record CompareClaim : Type 0 where
-  pub table : (v w report : List ℕ) → ByTable (compareRows v w (length report)) (compareOf v w report .refusal)
-  pub refused : (v w report : List ℕ) → compareOf v w report .refusal ≢ 0 → compareOf v w report .report ≡ report
   pub told : (v w report : List ℕ) → compareOf v w report .refusal ≡ 0
       → (mirrorRefusal (mirrorOf v w .answer) ≡ 0) × (compareOf v w report .report ≡ numbersOf (mirrorOf v w))
   pub size : (v w : List ℕ) → length (numbersOf (mirrorOf v w)) ≡ 66

@@ -131,9 +131,12 @@ unfoldable pub finishCarryRows : List ℕ → List ℕ → State → List Row
 finishCarryRows v m s =
     (not (headed carryTag v), 1) ∷ stateRows v m s ((oldLeft (geometryOf v) v (s .index), 20) ∷ [])
 
--- "in inspect 17 and 18 come before 7"
-unfoldable pub inspectRows : List ℕ → ℕ → ℕ → List Row
-inspectRows v page size =
+-- "in inspect 17 and 18 come before 7": the rows behind row 1
+abbrev pub imageRows : List ℕ → ℕ → ℕ → List Row
+imageRows v page size =
     let g = geometryOf v in
-    (not (validVolume v), 1) ∷ (not (eqb size 256), 2) ∷ (not (within (g .pages) page), 3)
+    (not (eqb size 256), 2) ∷ (not (within (g .pages) page), 3)
     ∷ logRows v ((eqb (entryOf (indexOf g v) page .durable) 0, 7) ∷ (foundBelow g v page, 23) ∷ [])
+
+unfoldable pub inspectRows : List ℕ → ℕ → ℕ → List Row
+inspectRows v page size = (not (validVolume v), 1) ∷ imageRows v page size

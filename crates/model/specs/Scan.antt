@@ -29,8 +29,8 @@ noteRecord g v n = noteOf (item g v (noteSlot g n))
 abbrev pub larger : ℕ → ℕ → ℕ
 larger a b = cond (leb a b) b a
 
--- "the highest number in any whole slot (0: none)", of the first `count` slots: items of c bytes and their checksum,
--- that start with their number
+-- the highest number in any whole slot, or 0, of the first `count` slots: items of c bytes and their checksum, that
+-- start with their number
 unfoldable pub highest : ℕ → (ℕ → List ℕ) → ℕ → ℕ
 highest c slot zero = 0
 highest c slot (suc i) =
@@ -134,8 +134,8 @@ noteFits g v index k =
     ∷ within (g .pages) (e .page) ∷ within n (e .lsn)
     ∷ (ltb (e .lsn) (firstHeld g v n) || eqb (logRecord g v (e .lsn) .page) (e .page)) ∷ noteFollows g index e ∷ [])
 
--- the index that a volume's log and notes give: "a page with no record in the run gets last = durable = its last backup
--- note's number"
+-- the index that a volume's log and notes give: "a page with no record in the run has its backup note's number as its
+-- newest", durable too
 abbrev pub indexOf : Geometry → List ℕ → List Entry
 indexOf g v =
     let k = noteCount g v in

@@ -34,3 +34,17 @@ pub struct Compared {
     pub answer: Comparison,
     pub touched: [bool; 64],
 }
+
+// How many more records, or notes, a volume takes before the next is refused, and the page that then stands in the way
+// (0: none).
+pub struct Space {
+    pub count: u32,
+    pub page: u32,
+}
+
+// The room of a volume: 0 or the refusal, and what is left of its log and of its notes; zeros where it is refused.
+pub struct Room {
+    pub refusal: u32,
+    pub log: Space,
+    pub notes: Space,
+}

@@ -1,1 +1,3 @@
+pub mod Damage
 pub mod Same
+pub mod Verdicts

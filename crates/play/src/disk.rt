@@ -1,5 +1,10 @@
 // The disk's part, and the plug's: bytes that are old again, or spoiled. No call of the store is used here.
-ghost use Prim.Native.Nat.{_≤_};
+ghost use mathlib.Core.Path.{_≡_};
+ghost use Prim.Native.Nat.{_-_, _≤_};
+ghost use lib.ListN.{length};
+ghost use Rattle.model.specs.Bytes.{part, splice};
+ghost use Rattle.play.specs.Disk.{lower, givenBack, spoiled};
+use codec::part;
 
 // Where the items that are damaged stand in a volume of 2 pages, 1 slot, 16 records and 8 notes.
 pub const SIZE: usize = 20 + 256 * 2 + 256 + 64 * 16 + 16 * 8;
@@ -18,7 +23,7 @@ pub const RECORD: usize = 16 + 256 * 2 + 256 + 64 * 2;
 
 // The smaller one.
 fn least(a: usize, b: usize) -> usize
-    ensures { λ r. ⌜ (r ≤ a) × (r ≤ b) ⌝ }
+    ensures { λ r. ⌜ (r ≡ lower a b) × (r ≤ a) × (r ≤ b) ⌝ }
 {
     if a <= b { a } else { b }
 }
@@ -35,18 +40,28 @@ pub fn image(volume: &Volume, at: usize) -> Image {
     image
 }
 
+// Makes the bytes of one slice from a place to another those of the other slice.
+fn copy(dst: &mut [u8], src: &[u8], from: usize, end: usize)
+    requires { ⌜ (from ≤ end) × (end ≤ length (now dst)) × (end ≤ length (now src)) ⌝ }
+    ensures { λ _. ⌜ now (dst .exit) ≡ splice (now (dst .entry)) from (part (now (src .entry)) from (end - from)) ⌝ }
+{
+    part::put(dst, from, &src[from..end]);
+}
+
 // Makes the bytes of a volume from a place to another, or to the end, those of an older copy.
-pub fn give_back(volume: &mut Volume, old: &Volume, from: usize, to: usize) {
+pub fn give_back(volume: &mut Volume, old: &Volume, from: usize, to: usize)
+    ensures { λ _. ⌜ now (volume .exit) ≡ givenBack (now (volume .entry)) (now (old .entry)) from to ⌝ }
+{
     let end = least(to, SIZE);
-    let mut i = from;
-    while i < end {
-        volume[i] = old[i];
-        i += 1;
+    if from < end {
+        copy(volume, old, from, end);
     }
 }
 
 // Spoils the bytes from a place to another.
-pub fn spoil(volume: &mut Volume, from: usize, to: usize) {
+pub fn spoil(volume: &mut Volume, from: usize, to: usize)
+    ensures { λ _. ⌜ now (volume .exit) ≡ spoiled (now (volume .entry)) from to ⌝ }
+{
     let junk = [b'#'; SIZE];
     give_back(volume, &junk, from, to);
 }

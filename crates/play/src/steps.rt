@@ -1,5 +1,8 @@
 // The store's calls, each with a word of what was called and what it answered, and the short runs of them that the
 // checks share.
+ghost use mathlib.Core.Path.{_≡_};
+ghost use Rattle.model.specs.Calls.{inspectOf};
+ghost use Rattle.play.specs.Text.{isRepaired, rebuiltAs};
 use crate::disk::Image;
 use crate::disk::Memory;
 use crate::disk::Volume;
@@ -154,21 +157,23 @@ pub fn opened(v: &mut Volume, m: &mut Memory) -> Store {
     put(b, v, m, 1, 0, b"06:10 bed 4 moved to 7")
 }
 
-// What is seen before any damage.
-pub fn before(v: &Volume, buffer: &mut Image) {
-    say(b"  Before the damage:\n");
-    inspect(v, 1, buffer);
+// An answer that a page was rebuilt.
+fn repaired(a: Answer) -> bool
+    ensures { λ r. ⌜ r ≡ isRepaired a ⌝ }
+{
+    match a {
+        Answer::Refused(_) => false,
+        Answer::Nothing => false,
+        Answer::Done => false,
+        Answer::Repaired(_) => true,
+    }
 }
 
-// What is seen of page 1 after damage, and why; whether its text is as it was before.
-pub fn after(v: &Volume, why: &[u8], before: &Image, after: &mut Image) -> bool {
-    say(why);
-    inspect(v, 1, after);
-    text::whole(before, after)
-}
-
-// Inspect: its answer, and the text that it rebuilt in the buffer.
-pub fn inspect(v: &Volume, page: u32, buffer: &mut Image) {
+// Inspect: its answer, and the text that it rebuilt in the buffer; whether it rebuilt one.
+pub fn inspect(v: &Volume, page: u32, buffer: &mut Image) -> bool
+    ensures answer { λ r. ⌜ r ≡ isRepaired (inspectOf (now (v .entry)) page (now (buffer .entry)) .answer) ⌝ }
+    ensures buffer { λ _. ⌜ now (buffer .exit) ≡ inspectOf (now (v .entry)) page (now (buffer .entry)) .buffer ⌝ }
+{
     say(b"    Inspect page ");
     number(page);
     say(b": ");
@@ -176,4 +181,26 @@ pub fn inspect(v: &Volume, page: u32, buffer: &mut Image) {
     answer(a);
     say(b"\n");
     text::show(buffer);
+    repaired(a)
+}
+
+// What is seen before any damage.
+pub fn before(v: &Volume, buffer: &mut Image)
+    ensures { λ _. ⌜ now (buffer .exit) ≡ inspectOf (now (v .entry)) 1 (now (buffer .entry)) .buffer ⌝ }
+{
+    say(b"  Before the damage:\n");
+    inspect(v, 1, buffer);
+}
+
+// What is seen of page 1 after damage, and why; whether it is rebuilt with its text as it was before.
+// Ruled out: a refused page that passes since the buffer holds an earlier text (tried).
+pub fn after(v: &Volume, why: &[u8], before: &Image, after: &mut Image) -> bool
+    ensures verdict { λ r. ⌜ r ≡ rebuiltAs (inspectOf (now (v .entry)) 1 (now (after .entry))) (now (before .entry)) ⌝ }
+    ensures after { λ _. ⌜ now (after .exit) ≡ inspectOf (now (v .entry)) 1 (now (after .entry)) .buffer ⌝ }
+{
+    say(why);
+    if !inspect(v, 1, after) {
+        return false;
+    }
+    text::whole(before, after)
 }

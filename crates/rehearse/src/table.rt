@@ -86,8 +86,32 @@ fn play(bytes: &[u8], n: usize, frames: u32, every: u32, victim: Victim) -> Rehe
     }
 }
 
-// A line: frames, victim, k; loads and records replayed; page images, backups and notes; the least B; two bars.
-fn line(list: List, frames: u32, every: u32, victim: Victim, words: &[u8]) {
+// A page's line: its number and its changes; then as in the line of all pages together.
+fn page_line(page: u32, f: Figures) {
+    column(page as u64);
+    say(b"  page   ");
+    column(f.records as u64);
+    column(f.loads as u64);
+    column(f.replayed as u64);
+    column(f.images as u64);
+    column(f.backups as u64);
+    column(f.notes as u64);
+    say(b"\n");
+}
+
+// A line for each page that was changed; no other has a figure.
+fn page_lines(pages: [Figures; 64]) {
+    for i in 0..64usize {
+        let f = pages[i];
+        if 0 < f.records {
+            page_line(i as u32 + 1, f);
+        }
+    }
+}
+
+// A line: frames, victim, k; loads and records replayed; page images, backups and notes; a B that is enough; two bars.
+// Behind it, where each page is asked for, the lines of the pages.
+fn line(list: List, each: bool, frames: u32, every: u32, victim: Victim, words: &[u8]) {
     let n = list.len;
     let bytes = list.bytes;
     let r = play(&bytes, n, frames, every, victim);
@@ -106,36 +130,42 @@ fn line(list: List, frames: u32, every: u32, victim: Victim, words: &[u8]) {
     bar(extra(t), b"#", 32);
     bar(t.replayed, b"*", 256);
     say(b"\n");
+    if each {
+        page_lines(pages);
+    }
 }
 
-fn habits(list: List, frames: u32, victim: Victim, words: &[u8]) {
-    line(list, frames, 1, victim, words);
-    line(list, frames, 4, victim, words);
-    line(list, frames, 16, victim, words);
-    line(list, frames, 255, victim, words);
+fn habits(list: List, each: bool, frames: u32, victim: Victim, words: &[u8]) {
+    line(list, each, frames, 1, victim, words);
+    line(list, each, frames, 4, victim, words);
+    line(list, each, frames, 16, victim, words);
+    line(list, each, frames, 255, victim, words);
 }
 
-fn both(list: List, frames: u32) {
-    habits(list, frames, Victim::Written, b"  written");
-    habits(list, frames, Victim::LetGo, b"  let go ");
+fn both(list: List, each: bool, frames: u32) {
+    habits(list, each, frames, Victim::Written, b"  written");
+    habits(list, each, frames, Victim::LetGo, b"  let go ");
 }
 
-fn heading(list: List, pages: [Figures; 64]) {
+fn heading(list: List, each: bool, pages: [Figures; 64]) {
     let t = rehearsal::figures::total(pages);
     column(list.len as u64);
     say(b" events,");
     column(t.records);
-    say(b" changes. Least room: P");
+    say(b" changes. Enough room: P");
     column(highest(pages));
     say(b", L");
     column(t.records);
     say(b", N the notes and B of the line\n");
     say(b" frames  victim       k  loads replay images backup  notes      B");
     say(b"  # 32 images, backups, notes  * 256 replayed\n");
+    if each {
+        say(b"   page         changes\n");
+    }
 }
 
-// The whole table, or the refusal.
-pub fn print(list: List) {
+// The whole table, with the lines of the pages or without, under its title; or the refusal alone.
+pub fn print(list: List, each: bool, title: &[u8]) {
     let n = list.len;
     let bytes = list.bytes;
     let r = play(&bytes, n, 1, 1, Victim::LetGo);
@@ -151,11 +181,12 @@ pub fn print(list: List) {
         Answer::Done => {}
         Answer::Repaired(_) => {}
     }
-    heading(list, pages);
-    both(list, 1);
-    both(list, 2);
-    both(list, 4);
-    both(list, 8);
-    both(list, 15);
-    both(list, 16);
+    say(title);
+    heading(list, each, pages);
+    both(list, each, 1);
+    both(list, each, 2);
+    both(list, each, 4);
+    both(list, each, 8);
+    both(list, each, 15);
+    both(list, each, 16);
 }

@@ -1,8 +1,10 @@
 // The rebuilt page: the body at which the walk stopped, the records of the chain replayed on it, and the image around
 // it.
 ghost use mathlib.Core.Path.{_≡_};
+ghost use mathlib.Core.Bool.{true};
 ghost use Prim.Native.Nat.{_≤_};
 ghost use lib.ListN.{length, take};
+ghost use Rattle.model.specs.Geometry.{geometryOf, validVolume};
 ghost use Rattle.model.specs.Item.{imageBody, recordOf};
 ghost use Rattle.model.specs.Repair.{viewOf, walkOf, startBody, replayChain, rebuilt};
 ghost use Rattle.repair.specs.Walked.{Ready, logOf, walkedOf, chainFrom};
@@ -41,15 +43,16 @@ fn begin(volume: &[u8], g: Geometry, first: u64, e: Entry, page: u32, stop: Stop
 
 // The number that log record n names as its page's previous one.
 fn previous(volume: &[u8], g: Geometry, n: u32) -> u32
-    requires { ⌜ 1 ≤ g .records ⌝ }
+    requires { ⌜ (validVolume (now volume) ≡ true) × (g ≡ geometryOf (now volume)) ⌝ }
     ensures { λ r. ⌜ r ≡ recordOf (logOf g (now (volume .entry)) n) .prev ⌝ }
 {
-    field::u32_at(volume, place::log_slot(g, n) + 4)
+    field::u32_at(place::record(volume, g, n), 4)
 }
 
 // The first `count` numbers of the chain from `top` down.
 fn collect(volume: &[u8], g: Geometry, top: u32, count: u32, lsns: &mut [u32])
-    requires { ⌜ (1 ≤ g .records) × (count ≤ length (now lsns)) ⌝ }
+    requires { ⌜ (validVolume (now volume) ≡ true) × (g ≡ geometryOf (now volume)) ⌝ }
+    requires { ⌜ count ≤ length (now lsns) ⌝ }
     ensures { λ _. ⌜ take count (now (lsns .exit)) ≡ chainFrom count (logOf g (now (volume .entry))) top ⌝ }
 {
     let end = count as usize;

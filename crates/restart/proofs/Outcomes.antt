@@ -7,7 +7,7 @@ use lib.Dec.{eqb}
 use lib.ListN.{length, replicate}
 use borrow.Author.Tests.{eq-eqb, ne-eqb, eqb-false, not-false}
 use Rattle.laws.proofs.Tables.{Numbered, none-at}
-use Rattle.restart.specs.Resumed.{resumedState}
+use Rattle.state.specs.Resumed.{resumedState}
 use Rattle.model.specs.Tables.{firstOf}
 use Rattle.model.specs.Geometry.{geometryOf, validVolume}
 use Rattle.model.specs.Scan.{validLog, validNotes}

@@ -2,15 +2,10 @@
 ghost use mathlib.Core.Path.{_≡_};
 ghost use mathlib.Core.Bool.{cond, not};
 ghost use lib.Dec.{eqb};
-ghost use Rattle.restart.specs.Resumed.{resumedState};
 ghost use Rattle.model.specs.Calls.{replyOf, restartOf};
 use codec::part;
-use index::Scanned;
 use model::answer::Answer;
 use model::answer::Reply;
-use model::state::Frame;
-use model::state::PendingNote;
-use model::state::State;
 use state::next;
 use volume::memory;
 use volume::rows;
@@ -20,25 +15,6 @@ fn refusal(scan: u32, memory: bool) -> u32
     ensures { λ r. ⌜ r ≡ cond (eqb scan 1) 1 (cond (not memory) 2 scan) ⌝ }
 {
     rows::first(scan == 1, 1, rows::first(!memory, 2, scan))
-}
-
-// The state that a scan gives, with no frame in use.
-fn resumed(scan: Scanned) -> State
-    ensures { λ r. ⌜ r ≡ resumedState scan ⌝ }
-{
-    let frames = [Frame {
-        page: 0,
-        dirty: false,
-    }; 16];
-    let index = scan.index;
-    State {
-        durable: scan.durable,
-        pending: 0,
-        notes: scan.notes,
-        note: PendingNote::Absent,
-        frames,
-        index,
-    }
 }
 
 // Restarts from a volume. Ruled out: records of before the restart left in the memory (tried); a durable count that is
@@ -58,6 +34,6 @@ pub fn restart(volume: &[u8], memory: &mut [u8]) -> Reply
     part::fill(memory, 0);
     Reply {
         answer: Answer::Done,
-        state: resumed(scanned),
+        state: next::resumed(scanned),
     }
 }

@@ -1,3 +1,4 @@
 -- Laws that belong to no one function.
 pub mod FullLog
 pub mod FullNotes
+pub mod Remaining

@@ -1,12 +1,9 @@
 // The program of a field engineer: reads one volume of at most 32,768 bytes from standard input and prints, a line for
-// each page, how Inspect found it: a page that the log can no longer rebuild does not hide the others. Any other
-// refusal, or a longer input, is the only line. All that matters is in `inspect`, which is proved; this file only
-// prints. What room is left goes to standard error, behind the last page's line.
-mod room;
-
+// each page, how Inspect found it. A refusal, of the volume or of a page that the log can no longer rebuild, or a
+// longer input, is the only line: all pages are judged before one is printed. All that matters is in `inspect`, which
+// is proved; this file only prints.
 use libc::STDIN_FILENO;
 use model::answer::Answer;
-use model::answer::Repair;
 use print::number;
 use print::say;
 
@@ -15,40 +12,56 @@ fn print_refused(n: u32) {
     say(b"\n");
 }
 
-fn print_repair(page: u32, r: Repair) {
-    number(page);
-    say(b" ");
-    print::repair(r);
-    say(b"\n");
-}
-
-// Prints the line of a page without a repair: blank, or lost, which does not hide the others; false where the volume is
-// refused.
-fn print_unserved(page: u32, n: u32) -> bool {
-    if n == 7 {
-        number(page);
-        say(b" BLANK\n");
-        return true;
-    }
-    let lost = n == 23;
-    if lost {
-        number(page);
-        say(b" ");
-    }
-    print_refused(n);
-    lost
-}
-
-// Prints a page's line; false where the volume is refused, and that is the only line.
-fn print_page(volume: &[u8], page: u32) -> bool {
+// How Inspect finds a page.
+fn found(volume: &[u8], page: u32) -> Answer {
     let mut buffer = [0u8; 256];
-    match inspect::inspect(volume, page, &mut buffer) {
-        Answer::Repaired(r) => print_repair(page, r),
-        Answer::Refused(n) => return print_unserved(page, n),
+    inspect::inspect(volume, page, &mut buffer)
+}
+
+// The refusal that hides every page's line, or 0: a blank page's 7 is that page's line.
+fn hiding(volume: &[u8], page: u32) -> u32 {
+    match found(volume, page) {
+        Answer::Refused(n) => if n == 7 { 0 } else { n },
+        Answer::Nothing => 0,
+        Answer::Done => 0,
+        Answer::Repaired(_) => 0,
+    }
+}
+
+// The refusal that is the only line, or 0.
+fn refusal(volume: &[u8], pages: u32) -> u32 {
+    let mut page: u32 = 1;
+    while page < pages {
+        let n = hiding(volume, page);
+        if n != 0 {
+            return n;
+        }
+        page += 1;
+    }
+    hiding(volume, page)
+}
+
+// Prints the line of a page that is blank or repaired.
+fn print_page(volume: &[u8], page: u32) {
+    number(page);
+    match found(volume, page) {
+        Answer::Repaired(r) => {
+            say(b" ");
+            print::repair(r);
+        }
+        Answer::Refused(_) => say(b" BLANK"),
         Answer::Nothing => {}
         Answer::Done => {}
     }
-    true
+    say(b"\n");
+}
+
+fn print_pages(volume: &[u8], pages: u32) {
+    let mut page: u32 = 0;
+    while page < pages {
+        page += 1;
+        print_page(volume, page);
+    }
 }
 
 fn main() {
@@ -60,13 +73,10 @@ fn main() {
     }
     let volume = &space[..n];
     let pages = volume::heading::geometry(volume).pages;
-    let mut page: u32 = 1;
-    while page < pages {
-        if !print_page(volume, page) {
-            return;
-        }
-        page += 1;
+    let no = refusal(volume, pages);
+    if no == 0 {
+        print_pages(volume, pages);
+    } else {
+        print_refused(no);
     }
-    print_page(volume, page);
-    room::tell(volume);
 }

@@ -3,7 +3,9 @@ ghost use mathlib.Core.Path.{_≡_};
 ghost use mathlib.Core.Bool.{true, false};
 ghost use Prim.Native.Nat.{_+_, _-_, _≤_, _<_};
 ghost use Rattle.model.specs.State.{zeroState};
+ghost use Rattle.state.specs.Resumed.{resumedState};
 ghost use Rattle.model.specs.Calls.{withFrame, withFrames, nextNote, appendedState, forcedState, notedState};
+use index::Scanned;
 use index::rows;
 use model::item::Note;
 use model::state::Frame;
@@ -23,6 +25,25 @@ pub fn zero() -> State
         durable: 0,
         pending: 0,
         notes: 0,
+        note: PendingNote::Absent,
+        frames,
+        index,
+    }
+}
+
+// The state that a scan gives, with no frame in use.
+pub fn resumed(scan: Scanned) -> State
+    ensures { λ r. ⌜ r ≡ resumedState scan ⌝ }
+{
+    let frames = [Frame {
+        page: 0,
+        dirty: false,
+    }; 16];
+    let index = scan.index;
+    State {
+        durable: scan.durable,
+        pending: 0,
+        notes: scan.notes,
         note: PendingNote::Absent,
         frames,
         index,

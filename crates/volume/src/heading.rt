@@ -1,21 +1,22 @@
 // What a volume's heading says, and whether heading, counts and length are right. Reads of any bytes are safe.
 ghost use mathlib.Core.Path.{_≡_};
-ghost use Rattle.model.specs.Bytes.{byteAt};
-ghost use Rattle.model.specs.Geometry.{magic, magicOf, headed, knownMagic, lengthFor, geometryOf, validCounts, validVolume};
+ghost use mathlib.Core.Bool.{true};
+ghost use Rattle.model.specs.Bytes.{startsWith};
+ghost use Rattle.model.specs.Geometry.{magic, knownMagic, lengthFor, geometryOf, validCounts, validVolume};
 use codec::field;
 use codec::part;
-use model::geometry::CARRY_TAG;
-use model::geometry::FIRST_TAG;
 use model::geometry::Geometry;
 use model::geometry::Heading;
-use model::geometry::SECOND_TAG;
 
-// The four bytes that a volume starts with: the first heading, and the second.
-const FIRST: [u8; 4] = *b"CHPV";
+// The four bytes that a volume starts with: the first heading, the second, and that of a volume that is being carried
+// over from one to the other.
+pub const FIRST: [u8; 4] = *b"CHPV";
 
-const SECOND: [u8; 4] = *b"CHP2";
+pub const SECOND: [u8; 4] = *b"CHP2";
 
-// A heading's four bytes.
+pub const CARRY: [u8; 4] = *b"CHPC";
+
+// The four bytes of the heading that Make is asked to write.
 pub fn magic_bytes(h: Heading) -> [u8; 4]
     ensures { λ r. ⌜ r ≡ magic h ⌝ }
 {
@@ -25,28 +26,18 @@ pub fn magic_bytes(h: Heading) -> [u8; 4]
     }
 }
 
-// The four bytes with a tag.
-pub fn tagged(tag: u8) -> [u8; 4]
-    ensures { λ r. ⌜ r ≡ magicOf tag ⌝ }
+// The volume starts with this heading.
+pub fn headed(v: &[u8], magic: [u8; 4]) -> bool
+    ensures { λ r. ⌜ r ≡ startsWith magic (now (v .entry)) ⌝ }
 {
-    [0x43, 0x48, 0x50, tag]
+    part::starts(v, &magic)
 }
 
-// The volume starts with the heading of the tag.
-pub fn headed(v: &[u8], tag: u8) -> bool
-    ensures { λ r. ⌜ r ≡ headed tag (now (v .entry)) ⌝ }
-{
-    let bytes = tagged(tag);
-    part::starts(v, &bytes)
-}
-
-// The volume, with this tag, starts with one of the three headings: its bytes are compared once.
-fn known(v: &[u8], tag: u8) -> bool
-    requires { ⌜ tag ≡ byteAt (now v) 3 ⌝ }
+// The volume starts with one of the three headings.
+pub fn known(v: &[u8]) -> bool
     ensures { λ r. ⌜ r ≡ knownMagic (now (v .entry)) ⌝ }
 {
-    let one = (tag == FIRST_TAG) | ((tag == SECOND_TAG) | (tag == CARRY_TAG));
-    one & headed(v, tag)
+    headed(v, FIRST) | (headed(v, SECOND) | headed(v, CARRY))
 }
 
 // The geometry; where the volume is not valid the numbers mean nothing.
@@ -84,19 +75,21 @@ pub fn size(p: u32, b: u32, l: u32, n: u32) -> usize
     20 + 256 * (p as usize) + 256 * (b as usize) + 64 * (l as usize) + 16 * (n as usize)
 }
 
-// Heading, counts and length are right, of a volume with this geometry.
+// Counts and length are right too, of a volume with a known heading and this geometry.
 pub fn sound(v: &[u8], g: Geometry) -> bool
-    requires { ⌜ g ≡ geometryOf (now v) ⌝ }
+    requires { ⌜ (knownMagic (now v) ≡ true) × (g ≡ geometryOf (now v)) ⌝ }
     ensures { λ r. ⌜ r ≡ validVolume (now (v .entry)) ⌝ }
 {
     let length = size(g.pages, g.slots, g.records, g.notes);
-    let right = counts(g.pages, g.slots, g.records, g.notes) & (v.len() == length);
-    known(v, g.tag) & right
+    counts(g.pages, g.slots, g.records, g.notes) & (v.len() == length)
 }
 
-// Heading, counts and length are right.
+// Heading, counts and length are right. The heading is compared before a count is read.
 pub fn valid(v: &[u8]) -> bool
     ensures { λ r. ⌜ r ≡ validVolume (now (v .entry)) ⌝ }
 {
+    if !known(v) {
+        return false;
+    }
     sound(v, geometry(v))
 }

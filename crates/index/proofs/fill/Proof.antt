@@ -30,7 +30,7 @@ opened : (c : tie.Else1) → validVolume (now (entry c .args .volume)) ≡ true
 opened c = sym (c .before .sound .ensures) ∙ not-false _ (c .if1 .left)
 
 size : (c : tie.Else1) → Sized (entry c .args .g) (now (entry c .args .volume))
-size c = sized _ (opened c) _ (entry c .pre .0)
+size c = sized _ (opened c) _ (entry c .pre .0 .1)
 
 sound-requires : tie.Need-sound-requires
 sound-requires c κs = c .before .before .before .before .before .pre .0
@@ -57,7 +57,7 @@ same-length c = search needs
 returns-2 : tie.Need-returns-2
 returns-2 c =
     let e = c .before .before .before .before .before .before .before in
-    refuses _ _ _ (c .refused2 .ensures) (log-refused _ (opened e) _ (entry e .pre .0) _
+    refuses _ _ _ (c .refused2 .ensures) (log-refused _ (opened e) _ (entry e .pre .0 .1) _
     (c .before .before .before .before .scan .ensures .0) (not-true _ (c .before .if2 .taken))) (eqb-false 17 0 refl)
 
 run-requires-2 : tie.Need-run-requires-2
@@ -111,7 +111,7 @@ returns-3 c =
     let l = c .before .before .before .before .before .before .before .before .before .before .before .before .before .before .before .before .before .before .before .before .before .before .scan .ensures in
     let n = c .before .before .before .before .before .before .before .before .before .before .before .before .before .before .scan2 .ensures in
     refuses _ _ _ (c .refused3 .ensures)
-    (notes-refused _ (opened e) _ (entry e .pre .0) _ (l .0) (not-false _ (c .before .before .before .before .before .before .before .before .before .before .before .before .before .before .before .before .before .before .before .if2 .left)) _ _ _ _ (l .1) _ (n .0) (n .1)
+    (notes-refused _ (opened e) _ (entry e .pre .0 .1) _ (l .0) (not-false _ (c .before .before .before .before .before .before .before .before .before .before .before .before .before .before .before .before .before .before .before .if2 .left)) _ _ _ _ (l .1) _ (n .0) (n .1)
     _ (c .before .before .ordered .ensures) (not-true _ (c .before .if3 .taken))) (eqb-false 18 0 refl)
 
 same-length-6 : tie.Need-same-length-6
@@ -131,7 +131,7 @@ returns-4 c =
     let e = c .before .before .before .before .before .before .before .before .before .before .before .before .before .before .before .before .before .before .before .before .before .before .before .before in
     let l = c .before .before .before .before .before .before .before .before .before .before .before .before .before .before .before .before .before .before .before .before .before .scan .ensures in
     let n = c .before .before .before .before .before .before .before .before .before .before .before .before .before .scan2 .ensures in
-    scan-clean _ (opened e) _ (entry e .pre .0) _ (l .0) (not-false _ (c .before .before .before .before .before .before .before .before .before .before .before .before .before .before .before .before .before .before .if2 .left)) _ _ _ _ (l .1) _ (n .0) (n .1)
+    scan-clean _ (opened e) _ (entry e .pre .0 .1) _ (l .0) (not-false _ (c .before .before .before .before .before .before .before .before .before .before .before .before .before .before .before .before .before .before .if2 .left)) _ _ _ _ (l .1) _ (n .0) (n .1)
     _ (c .before .ordered .ensures) (not-false _ (c .if3 .left)) _ _ (c .before .before .before .before .before .before .before .before .before .before .before .before .before .before .before .before .before .before .before .before .before .before .before .run .ensures) (c .before .before .before .before .before .before .before .before .before .before .before .before .before .before .before .before .before .run2 .ensures)
 
 pub fill-spec : {M : Type 1} → statement M

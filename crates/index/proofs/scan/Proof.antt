@@ -4,23 +4,20 @@ use borrow.Author.Needs.{needs}
 use Rattle.index.proofs.scan.Statement.{statement}
 use Rattle.index.proofs.scan.Tie as tie
 
-geometry-requires : tie.Need-geometry-requires
-geometry-requires c κs = search needs
+slice-aggregate-read : tie.Need-slice-aggregate-read
+slice-aggregate-read c = search needs
 
-slice-aggregate-fill : tie.Need-slice-aggregate-fill
-slice-aggregate-fill c = search needs
+slice-aggregate-read-2 : tie.Need-slice-aggregate-read-2
+slice-aggregate-read-2 c = search needs
 
-slice-aggregate-fill-2 : tie.Need-slice-aggregate-fill-2
-slice-aggregate-fill-2 c = search needs
+slice-aggregate-read-3 : tie.Need-slice-aggregate-read-3
+slice-aggregate-read-3 c = search needs
 
-slice-aggregate-fill-3 : tie.Need-slice-aggregate-fill-3
-slice-aggregate-fill-3 c = search needs
+slice-aggregate-read-4 : tie.Need-slice-aggregate-read-4
+slice-aggregate-read-4 c = search needs
 
-slice-aggregate-fill-4 : tie.Need-slice-aggregate-fill-4
-slice-aggregate-fill-4 c = search needs
-
-fill-requires : tie.Need-fill-requires
-fill-requires c κs = search needs
+read-requires : tie.Need-read-requires
+read-requires c κs = search needs
 
 slice-aggregate-gather : tie.Need-slice-aggregate-gather
 slice-aggregate-gather c = search needs
@@ -38,19 +35,18 @@ gather-requires : tie.Need-gather-requires
 gather-requires c κs = search needs
 
 returns : tie.Need-returns
-returns c = let f = c .before .before .before .before .before .before .before .before .before .fill in
+returns c = let f = c .before .before .before .before .before .before .before .before .before .read in
     (f .ensures .0, λ z. gives _ _ _ (f .ensures .1 .0 z) (c .gather .ensures _ (f .ensures .1 .1 z)))
 
 pub scan-spec : {M : Type 1} → statement M
 scan-spec =
     tie.close
     (tie.spec
-    geometry-requires
-    slice-aggregate-fill
-    slice-aggregate-fill-2
-    slice-aggregate-fill-3
-    slice-aggregate-fill-4
-    fill-requires
+    slice-aggregate-read
+    slice-aggregate-read-2
+    slice-aggregate-read-3
+    slice-aggregate-read-4
+    read-requires
     slice-aggregate-gather
     slice-aggregate-gather-2
     slice-aggregate-gather-3

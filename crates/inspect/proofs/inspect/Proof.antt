@@ -2,37 +2,47 @@
 use mathlib.Core.Path.{_≡_, refl, sym, _∙_}
 use native.Mathlib.Omega.{arith}
 use borrow.Author.Needs.{needs}
+use borrow.Author.Tests.{not-true, not-false}
 use denote.Ref.{now}
-use Rattle.inspect.proofs.Outcomes.{early, refusal-is, refused, Open, opened, below, done}
+use Rattle.volume.proofs.Readings.{unknown-read}
+use Rattle.inspect.proofs.Outcomes.{invalid, early, refusal-is, refused, Open, opened, below, done}
 use Rattle.inspect.proofs.inspect.Statement.{statement}
 use Rattle.inspect.proofs.inspect.Tie as tie
 use Rattle.item.proofs.image.seal.Reads as seal-reads
 
 -- the refusal's number is that of the rows before the walk
-number : (c : tie.After-refusal) → let s = c .before .before .before .before .before .before in
+number : (c : tie.After-refusal) → let s = c .before .before .before .before .before .before .before .before in
     c .refusal .result ≡ early (now (s .args .volume)) (s .args .page) (now (s .args .buffer))
 number c =
-    let s = c .before .before .before .before .before .before in
+    let s = c .before .before .before .before .before .before .before .before in
     let f = c .before .before .seek in
     refusal-is (now (s .args .volume)) (s .args .page) (now (s .args .buffer)) (f .result) _ _ (f .ensures .0)
     (c .before .before .before .geometry .ensures) (f .ensures .1) (c .refusal .ensures)
 
-known : (c : tie.Else1) → let s = c .before .before .before .before .before .before .before in Open (now (s .args .volume)) (s .args .page)
+known : (c : tie.Else2) → let s = c .before .before .before .before .before .before .before .before .before in Open (now (s .args .volume)) (s .args .page)
     (now (s .args .buffer)) (c .before .before .before .before .geometry .result) (c .before .before .before .seek .result)
 known c = let f = c .before .before .before .seek in opened _ _ _ (f .result) _ (f .ensures .0)
-    (c .before .before .before .before .geometry .ensures) (f .ensures .1) (sym (number (c .before)) ∙ c .if1 .left)
+    (c .before .before .before .before .geometry .ensures) (f .ensures .1) (sym (number (c .before)) ∙ c .if2 .left)
+
+known-requires : tie.Need-known-requires
+known-requires c κs = search needs
+
+returns : tie.Need-returns
+returns c = invalid _ _ _ (unknown-read _ (sym (c .before .known .ensures) ∙ not-true _ (c .if1 .taken)))
 
 geometry-requires : tie.Need-geometry-requires
 geometry-requires c κs = search needs
 
 seek-requires : tie.Need-seek-requires
-seek-requires c κs = c .geometry .ensures
+seek-requires c κs =
+    let e = c .before in
+    (sym (e .before .known .ensures) ∙ not-false _ (e .if1 .left), c .geometry .ensures)
 
 refusal-requires : tie.Need-refusal-requires
 refusal-requires c κs = search needs
 
-returns : tie.Need-returns
-returns c = refused _ _ _ _ (number (c .before)) (c .if1 .taken)
+returns-2 : tie.Need-returns-2
+returns-2 c = refused _ _ _ _ (number (c .before)) (c .if2 .taken)
 
 follow-requires : tie.Need-follow-requires
 follow-requires c κs = (known c .ready, known c .whole)
@@ -40,9 +50,9 @@ follow-requires c κs = (known c .ready, known c .whole)
 below-requires : tie.Need-below-requires
 below-requires c κs = search needs
 
-returns-2 : tie.Need-returns-2
-returns-2 c = below _ _ _ _ (c .before .before .before .before .before .before .seek .result) (known (c .before .before .before)) _ _
-    (c .before .before .follow .ensures) (c .before .below .ensures) (c .if2 .taken)
+returns-3 : tie.Need-returns-3
+returns-3 c = below _ _ _ _ (c .before .before .before .before .before .before .seek .result) (known (c .before .before .before)) _ _
+    (c .before .before .follow .ensures) (c .before .below .ensures) (c .if3 .taken)
 
 rebuild-requires : tie.Need-rebuild-requires
 rebuild-requires c κs = let k = known (c .before .before .before .before) in
@@ -60,24 +70,26 @@ answer-requires c κs = (
 same-length : tie.Need-same-length
 same-length c = search needs
 
-returns-3 : tie.Need-returns-3
-returns-3 c =
-    done _ _ _ _ (c .before .before .before .before .before .before .before .before .before .before .before .before .before .before .before .seek .result) (known (c .before .before .before .before .before .before .before .before .before .before .before .before)) _ _ _ _ _ (c .before .before .before .before .before .before .before .before .before .before .before .follow .ensures) (c .before .before .before .before .before .before .before .before .before .before .below .ensures) (c .before .before .before .before .before .before .before .before .before .if2 .left) (c .answer .ensures)
+returns-4 : tie.Need-returns-4
+returns-4 c =
+    done _ _ _ _ (c .before .before .before .before .before .before .before .before .before .before .before .before .before .before .before .seek .result) (known (c .before .before .before .before .before .before .before .before .before .before .before .before)) _ _ _ _ _ (c .before .before .before .before .before .before .before .before .before .before .before .follow .ensures) (c .before .before .before .before .before .before .before .before .before .before .below .ensures) (c .before .before .before .before .before .before .before .before .before .if3 .left) (c .answer .ensures)
     (c .before .before .before .before .before .before .before .rebuild .ensures) (c .before .before .before .seal .ensures)
 
 pub inspect-spec : {M : Type 1} → statement M
 inspect-spec =
     tie.close
     (tie.spec
+    known-requires
+    returns
     geometry-requires
     seek-requires
     refusal-requires
-    returns
+    returns-2
     follow-requires
     below-requires
-    returns-2
+    returns-3
     rebuild-requires
     seal-requires
     answer-requires
     same-length
-    returns-3)
+    returns-4)

@@ -1,5 +1,6 @@
 -- `finish::finish` is its definition: the laws of Outcomes.antt say what each case is.
 use mathlib.Core.Path.{sym, _∙_}
+use Rattle.model.specs.Geometry.{storeHeading}
 use Rattle.convert.proofs.Rows.{heading-fits, finish-valid}
 use Rattle.convert.proofs.Outcomes.{finish-refused, finish-done}
 use borrow.Author.Needs.{needs}
@@ -22,6 +23,7 @@ same-length-2 : tie.Need-same-length-2
 same-length-2 c = search needs
 
 returns-2 : tie.Need-returns-2
+unfolding storeHeading
 returns-2 c =
     let p = c .before .before in
     let i = p .before .before in

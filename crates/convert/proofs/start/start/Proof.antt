@@ -1,6 +1,7 @@
 -- `start::start` is its definition: the laws of Outcomes.antt say what each case is.
 use mathlib.Core.Path.{refl, sym, _∙_}
 use denote.Ref.{now}
+use Rattle.model.specs.Geometry.{storeHeading}
 use Rattle.convert.proofs.Rows.{valid-volume, heading-fits}
 use Rattle.convert.proofs.Outcomes.{start-refused, start-done}
 use borrow.Author.Needs.{needs}
@@ -34,6 +35,7 @@ same-length-2 c = search needs
 
 -- src/start.rt:13:1
 returns-2 : tie.Need-returns-2
+unfolding storeHeading
 returns-2 c =
     let p = c .before .before in
     let i = p .before .before in

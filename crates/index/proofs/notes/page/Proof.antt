@@ -1,26 +1,25 @@
-use mathlib.Core.Path.{_≡_, sym, ap, _∙_}
-use Prim.Native.Nat.{ℕ, _+_}
-use denote.Ref.{now}
+-- `index::notes::page` meets its contract: the field is read from the record's part.
+use mathlib.Core.Path.{ap, _∙_}
+use mathlib.Core.List.{List}
+use Prim.Native.Nat.{ℕ}
 use Rattle.model.specs.Bytes.{field}
-use Rattle.index.proofs.NotePass.{record-page}
+use Rattle.model.specs.Item.{recordOf}
+use Rattle.index.proofs.Located.{record-fits}
 use borrow.Author.Needs.{needs}
 use Rattle.index.proofs.notes.page.Statement.{statement}
 use Rattle.index.proofs.notes.page.Tie as tie
 
-log-slot-requires : tie.Need-log-slot-requires
-log-slot-requires c κs = search needs
-
-add-u16-at : tie.Need-add-u16-at
-add-u16-at c = search needs
+record-requires : tie.Need-record-requires
+record-requires c κs =
+    let s = c .before in
+    (s .pre .some, record-fits _ _ (s .pre) (s .args .n))
 
 u16-at-requires : tie.Need-u16-at-requires
 u16-at-requires c κs = search needs
 
 returns : tie.Need-returns
-returns c =
-    let a = c .before .before .before .args in
-    c .u16-at .ensures ∙ ap (λ (k : ℕ). field 2 (k + 8) (now (a .volume))) (c .before .log-slot .ensures)
-    ∙ sym (record-page (a .g) (now (a .volume)) (a .n))
+unfolding recordOf
+returns c = c .u16-at .ensures ∙ ap (λ (r : List ℕ). field 2 8 r) (c .before .«record» .ensures)
 
 pub page-spec : {M : Type 1} → statement M
-page-spec = tie.close (tie.spec log-slot-requires add-u16-at u16-at-requires returns)
+page-spec = tie.close (tie.spec record-requires u16-at-requires returns)

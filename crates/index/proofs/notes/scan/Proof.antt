@@ -173,7 +173,7 @@ follows-requires c κs = search needs
 
 agrees-requires : tie.Need-agrees-requires Inv-loop μ-loop
 agrees-requires c κs =
-    entry (c .before .before .before .before .before .before .before .before .before .before .before .before .before .before) .pre .0 .some
+    entry (c .before .before .before .before .before .before .before .before .before .before .before .before .before .before) .pre .0
 
 whole-requires : tie.Need-whole-requires Inv-loop μ-loop
 whole-requires c κs =

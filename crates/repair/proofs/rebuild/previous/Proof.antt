@@ -1,31 +1,25 @@
--- `repair::rebuild::previous` meets its contract: the field is read where it lies in the volume.
-use mathlib.Core.Path.{sym, ap, _∙_}
-use Prim.Native.Nat.{ℕ, _+_}
+-- `repair::rebuild::previous` meets its contract: the field is read from the record's part.
+use mathlib.Core.Path.{ap, _∙_}
+use mathlib.Core.List.{List}
+use Prim.Native.Nat.{ℕ}
 use borrow.Author.Needs.{needs}
-use denote.Ref.{now}
-use lib.Dec.{lit≤}
-use Rattle.laws.proofs.Fields.{field-part}
 use Rattle.model.specs.Bytes.{field}
-use Rattle.model.specs.Geometry.{item}
 use Rattle.model.specs.Item.{recordOf}
+use Rattle.repair.proofs.Starts.{sized, record-fits}
 use Rattle.repair.proofs.rebuild.previous.Statement.{statement}
 use Rattle.repair.proofs.rebuild.previous.Tie as tie
 
-log-slot-requires : tie.Need-log-slot-requires
-log-slot-requires c κs = search needs
-
-add-u32-at : tie.Need-add-u32-at
-add-u32-at c = search needs
+record-requires : tie.Need-record-requires
+record-requires c κs =
+    let h = c .before .pre in
+    (sized _ _ (h .0) (h .1) .some, record-fits _ _ (h .0) (h .1) _)
 
 u32-at-requires : tie.Need-u32-at-requires
 u32-at-requires c κs = search needs
 
 returns : tie.Need-returns
-unfolding recordOf item
-returns c =
-    let a = c .before .before .before .args in
-    c .u32-at .ensures ∙ ap (λ (k : ℕ). field 4 (k + 4) (now (a .volume))) (c .before .log-slot .ensures)
-    ∙ sym (field-part 4 4 64 _ (now (a .volume)) (lit≤ tt))
+unfolding recordOf
+returns c = c .u32-at .ensures ∙ ap (λ (r : List ℕ). field 4 4 r) (c .before .«record» .ensures)
 
 pub previous-spec : {M : Type 1} → statement M
-previous-spec = tie.close (tie.spec log-slot-requires add-u32-at u32-at-requires returns)
+previous-spec = tie.close (tie.spec record-requires u32-at-requires returns)

@@ -9,7 +9,6 @@ use Rattle.model.specs.declared.geometry.Geometry.{Geometry}
 use Rattle.model.specs.declared.state.Entry.{Entry}
 use Rattle.repair.specs.Walked.{Ready, logOf, chainFrom}
 use Rattle.repair.proofs.Replays.{chain-is}
-use Rattle.repair.proofs.Starts.{ready-sized}
 use borrow.Author.Needs.{needs}
 use Rattle.repair.proofs.rebuild.replay_in.Statement.{statement}
 use Rattle.repair.proofs.rebuild.replay_in.Tie as tie
@@ -25,7 +24,8 @@ module _ (v : List ℕ) (g : Geometry) (f : ℕ) (e : Entry) (page count : ℕ) 
   collected lsns t = t ∙ ap (λ (n : ℕ). chainFrom n (logOf g v) (e .durable)) k ∙ sym (chain-is g page (viewOf g v f e page))
 
 collect-requires : tie.Need-collect-requires
-collect-requires c κs = let b = c .before .before .before .before in (ready-sized _ _ _ _ _ (b .pre .0) .some, b .pre .1 .1 .0)
+collect-requires c κs = let b = c .before .before .before .before in
+    ((b .pre .0 .valid, b .pre .0 .geometry), b .pre .1 .1 .0)
 
 apply-requires : tie.Need-apply-requires
 apply-requires c κs =

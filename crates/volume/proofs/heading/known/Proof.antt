@@ -1,6 +1,5 @@
--- `heading::known` tests the tag, and the heading with it.
+-- `heading::known` compares the first bytes with each of the three headings.
 use borrow.Author.Needs.{needs}
-use Rattle.volume.proofs.Readings.{known-tag}
 use Rattle.volume.proofs.heading.known.Statement.{statement}
 use Rattle.volume.proofs.heading.known.Tie as tie
 use Rattle.volume.proofs.heading.known.Reads as reads
@@ -10,8 +9,14 @@ use Rattle.volume.proofs.heading.headed.Reads as headed-reads
 headed-requires : tie.Need-headed-requires
 headed-requires c κs = search needs
 
+headed-requires-2 : tie.Need-headed-requires-2
+headed-requires-2 c κs = search needs
+
+headed-requires-3 : tie.Need-headed-requires-3
+headed-requires-3 c κs = search needs
+
 returns : tie.Need-returns
-returns c = known-tag _ _ _ (c .before .before .pre) (c .headed .ensures)
+returns c = rw (c .headed3 .ensures, c .before .headed2 .ensures, c .before .before .headed .ensures)
 
 pub known-spec : {M : Type 1} → statement M
-known-spec = tie.close (tie.spec headed-requires returns)
+known-spec = tie.close (tie.spec headed-requires headed-requires-2 headed-requires-3 returns)

@@ -1,0 +1,158 @@
+-- The facts of the rings at three histories, so that their hypotheses are met: record 1 has left and is spare; a note is about to overwrite
+-- one that stands whole, which has a later one of its page and kind; and a page whose backup was damaged cannot be rebuilt.
+use Prim.Native.Nat.{ℕ, _≤_, _<_}
+use mathlib.Core.Path.{_≡_, refl}
+use mathlib.Core.Bool.{Bool, true, false, _&&_}
+use mathlib.Core.List.{List, [], _∷_, _++_}
+use native.Mathlib.Omega.{arith}
+use lib.Dec.{T, eqb, leb, eqb→eq}
+use lib.ListN.{length, take, replicate}
+use borrow.Author.Tests.{leb-true}
+use Rattle.model.specs.Checksum.{sealed}
+use Rattle.model.specs.Geometry.{Place, pageAt, slotAt, recordAt, noteAt, lengthFor, geometryOf, item}
+use Rattle.model.specs.Item.{noteOf}
+use Rattle.model.specs.State.{zeroState}
+use Rattle.model.specs.Calls.{StoredItem, nothing, oneItem, newHeading, begin, force, write, backup, note, makeOf, outcomeOf, refusalOf}
+use Rattle.model.specs.AbstractLog.{lastPlace}
+use Rattle.model.specs.History.{Power, off, on, Event, restart, perform, damage, isOn, allAllowed}
+use Rattle.model.specs.Claim.{History, Legal, fresh, reached, durableOf, inspection}
+use Rattle.model.specs.RingClaim.{ChangeOf, SpareRecord, SpareNote, runStart, Unrepairable}
+use Rattle.model.specs.declared.geometry.Heading.the-variants.{Second}
+use Rattle.model.specs.declared.state.State.{State}
+use Rattle.cases.specs.Opened.{opened}
+use Rattle.cases.specs.Build.{memory}
+use Rattle.cases.specs.Rings.{put, turned}
+use Rattle.history.proofs.Rings.{rings}
+use Rattle.instances.proofs.Rings.{ringHistory, legal}
+
+holds : (b : Bool) → T b → b ≡ true
+holds true t = refl
+holds false t = absurd t
+
+-- ---- record 1 has left, and is spare
+
+first-change : ChangeOf (durableOf ringHistory) 1 1
+unfolding opened
+first-change =
+    record {
+      low = omega arith;
+      high = leb-true 1 (length (durableOf ringHistory)) (holds (leb 1 (length (durableOf ringHistory))) tt);
+      last = eqb→eq (lastPlace 1 (take 1 (durableOf ringHistory))) 1 tt;
+    }
+
+starts-later : 1 < runStart (reached ringHistory .volume)
+unfolding opened
+starts-later = leb-true 2 (runStart (reached ringHistory .volume)) (holds (leb 2 (runStart (reached ringHistory .volume))) tt)
+
+pub spare-record : SpareRecord (reached ringHistory .volume) 1 1
+spare-record = rings .lost ringHistory legal 1 1 first-change starts-later
+
+-- ---- two written notes stand, and a backup's note is to overwrite the first
+
+abbrev pub notesTurn : History
+notesTurn =
+    record {
+      heading = Second;
+      found = replicate (lengthFor 1 1 4 2) 0xDD;
+      pages = 1;
+      slots = 1;
+      records = 4;
+      notes = 2;
+      events =
+          restart (memory 1) ∷ perform (begin 1 1 7) ∷ perform force ∷ perform (write 1) ∷ perform note ∷ perform (put 2)
+          ∷ perform force ∷ perform (write 1) ∷ perform note ∷ perform (backup 1 1) ∷ [];
+    }
+
+turn-legal : Legal notesTurn
+unfolding opened
+turn-legal =
+    record {
+      make = eqb→eq (refusalOf (makeOf Second (replicate (lengthFor 1 1 4 2) 0xDD) 1 1 4 2 .answer)) 0 tt;
+      events = holds (allAllowed (fresh notesTurn) (notesTurn .events)) tt;
+    }
+
+abbrev memoryIn : Power → List ℕ
+memoryIn off = []
+memoryIn (on m s) = m
+
+abbrev stateIn : Power → State
+stateIn off = zeroState
+stateIn (on m s) = s
+
+power-is : (x : Power) → T (isOn x) → x ≡ on (memoryIn x) (stateIn x)
+power-is off t = absurd t
+power-is (on m s) t = refl
+
+abbrev bytesIn : StoredItem → List ℕ
+bytesIn nothing = []
+bytesIn (oneItem at xs) = xs
+bytesIn (newHeading tag) = []
+
+abbrev inNote : ℕ → StoredItem → Bool
+inNote i nothing = false
+inNote i (oneItem (pageAt j) xs) = false
+inNote i (oneItem (slotAt j) xs) = false
+inNote i (oneItem (recordAt j) xs) = false
+inNote i (oneItem (noteAt j) xs) = eqb j i
+inNote i (newHeading tag) = false
+
+note-is : (i : ℕ) (x : StoredItem) → T (inNote i x) → x ≡ oneItem (noteAt i) (bytesIn x)
+note-is i nothing t = absurd t
+note-is i (oneItem (pageAt j) xs) t = absurd t
+note-is i (oneItem (slotAt j) xs) t = absurd t
+note-is i (oneItem (recordAt j) xs) t = absurd t
+note-is i (oneItem (noteAt j) xs) t = let e : j ≡ i = eqb→eq j i t in rw e
+note-is i (newHeading tag) t = absurd t
+
+abbrev m : List ℕ
+m = memoryIn (reached notesTurn .power)
+
+abbrev s : State
+s = stateIn (reached notesTurn .power)
+
+turn-on : reached notesTurn .power ≡ on m s
+unfolding opened
+turn-on = power-is (reached notesTurn .power) tt
+
+overwrites : outcomeOf note (reached notesTurn .volume) m s .stored
+    ≡ oneItem (noteAt 1) (bytesIn (outcomeOf note (reached notesTurn .volume) m s .stored))
+unfolding opened
+overwrites = note-is 1 (outcomeOf note (reached notesTurn .volume) m s .stored) tt
+
+stands : sealed 12 (item (geometryOf (reached notesTurn .volume)) (reached notesTurn .volume) (noteAt 1)) ≡ true
+unfolding opened
+stands = holds (sealed 12 (item (geometryOf (reached notesTurn .volume)) (reached notesTurn .volume) (noteAt 1))) tt
+
+pub spare-note : SpareNote (reached notesTurn .volume) 1
+    (noteOf (item (geometryOf (reached notesTurn .volume)) (reached notesTurn .volume) (noteAt 1)))
+spare-note =
+    rings .notes notesTurn turn-legal m s turn-on note 1 (bytesIn (outcomeOf note (reached notesTurn .volume) m s .stored)) overwrites stands
+
+-- ---- the ring that has turned, its backup damaged
+
+abbrev pub lostPage : History
+lostPage =
+    record {
+      heading = Second;
+      found = replicate (lengthFor 1 1 2 2) 0xDD;
+      pages = 1;
+      slots = 1;
+      records = 2;
+      notes = 2;
+      events = turned ++ (damage (slotAt 1) (replicate 256 0) ∷ []);
+    }
+
+lost-legal : Legal lostPage
+unfolding opened
+lost-legal =
+    record {
+      make = eqb→eq (refusalOf (makeOf Second (replicate (lengthFor 1 1 2 2) 0xDD) 1 1 2 2 .answer)) 0 tt;
+      events = holds (allAllowed (fresh lostPage) (lostPage .events)) tt;
+    }
+
+answers-23 : inspection lostPage 1 (replicate 256 0) ≡ 23
+unfolding opened
+answers-23 = eqb→eq (inspection lostPage 1 (replicate 256 0)) 23 tt
+
+pub unrepairable : (n : ℕ) × Unrepairable lostPage 1 n
+unrepairable = rings .inspects lostPage lost-legal 1 (omega arith) (omega arith) (replicate 256 0) refl .0 answers-23

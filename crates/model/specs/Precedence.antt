@@ -1,0 +1,87 @@
+-- In which order the rows of a table stand. States document 01, "The lowest number wins, but in inspect 17 and 18 come
+-- before 7", and document 02's "before" and "after": 20 "after 2", 21 "after 18", 22 "after 21" and 23 "after 19" are
+-- that order too, 24 "before 21" is the other exception. 25, "before all others", has no other beside it. The values of
+-- the types are proved in the crate `laws`.
+use Prim.Native.Nat.{ℕ, _<_}
+use mathlib.Core.Path.{_≡_}
+use mathlib.Core.Bool.{Bool, true, false, _&&_, _||_, not}
+use mathlib.Core.List.{List, [], _∷_}
+use lib.Dec.{eqb, leb}
+use lib.ListN.{length, getD}
+use Rattle.model.specs.Tables.{Row}
+use Rattle.model.specs.Reading.{scanRows, wholeRows}
+use Rattle.model.specs.Refusals.{makeRows, restartRows, inspectRows}
+use Rattle.model.specs.Calls.{Call, rowsOf}
+use Rattle.model.specs.Demand1.{ByTable}
+use Rattle.model.specs.Health.{examineRows}
+use Rattle.model.specs.Forecast.{tellRows}
+use Rattle.model.specs.Archive.{archiveRows, readRows}
+use Rattle.model.specs.Mirror.{mirrorRows, compareRows}
+use Rattle.model.specs.Rehearsal.{rehearsalRows}
+use Rattle.model.specs.declared.rehearsal.Settings.{Settings}
+use Rattle.model.specs.declared.state.State.{State}
+
+-- ---- the exceptions
+
+-- a number, and a lower one that it comes before
+abbrev pub Exception : Type 0
+Exception = ℕ × ℕ
+
+-- "in inspect 17 and 18 come before 7"
+abbrev pub inspectExceptions : List Exception
+inspectExceptions = (17, 7) ∷ (18, 7) ∷ []
+
+-- "24, the whole history is wanted and record 1 has left the log, before 21"
+abbrev pub archiveExceptions : List Exception
+archiveExceptions = (24, 21) ∷ []
+
+-- ---- the order
+
+-- n before k is one of the exceptions
+abbrev pub excepted : List Exception → ℕ → ℕ → Bool
+excepted [] n k = false
+excepted (e ∷ es) n k = (eqb (e .0) n && eqb (e .1) k) || excepted es n k
+
+-- n comes before k, or is k: it is not above it, or an exception has it so, and none has it the other way round
+abbrev pub precedes : List Exception → ℕ → ℕ → Bool
+precedes es n k = excepted es n k || (leb n k && not (excepted es k n))
+
+-- n comes before the number of every row
+abbrev pub precedesAll : List Exception → ℕ → List Row → Bool
+precedesAll es n [] = true
+precedesAll es n (r ∷ rs) = precedes es n (r .1) && precedesAll es n rs
+
+-- each row's number comes before those of all rows behind it; the conditions do not matter
+abbrev pub ordered : List Exception → List Row → Bool
+ordered es [] = true
+ordered es (r ∷ rs) = precedesAll es (r .1) rs && ordered es rs
+
+-- ---- the claims
+
+-- every table stands in this order
+pub record TablesOrdered : Type 0 where
+  pub calls : (c : Call) (v m : List ℕ) (s : State) → ordered [] (rowsOf c v m s) ≡ true
+  pub make : (v : List ℕ) (p b l n : ℕ) → ordered [] (makeRows v p b l n) ≡ true
+  pub restart : (v m : List ℕ) → ordered [] (restartRows v m) ≡ true
+  pub inspect : (v : List ℕ) (page size : ℕ) → ordered inspectExceptions (inspectRows v page size) ≡ true
+  -- the same for C, with class, start and count
+  pub examine : (v : List ℕ) (page size count : ℕ) → ordered inspectExceptions (examineRows v page size count) ≡ true
+  -- the forecast, and the same for C
+  pub forecast : (v : List ℕ) → ordered [] (scanRows v) ≡ true
+  pub tell : (v : List ℕ) (size : ℕ) → ordered [] (tellRows v size) ≡ true
+  -- the archive's length, writer and reader
+  pub size : (v : List ℕ) → ordered [] (wholeRows v []) ≡ true
+  pub archive : (v : List ℕ) (size : ℕ) → ordered archiveExceptions (archiveRows v size) ≡ true
+  pub read : (a : List ℕ) (size : ℕ) → ordered [] (readRows a size) ≡ true
+  -- two logs compared, and the same for C
+  pub mirror : (v w : List ℕ) → ordered [] (mirrorRows v w) ≡ true
+  pub compare : (v w : List ℕ) (size : ℕ) → ordered [] (compareRows v w size) ≡ true
+  pub rehearsal : (events : List ℕ) (t : Settings) → ordered [] (rehearsalRows events t) ≡ true
+
+-- "The lowest number wins": a call by a table in this order answers, where a row holds, that row's number or one that
+-- comes before it
+abbrev pub LowestWins : Type 0
+LowestWins =
+    (es : List Exception) (rows : List Row) (n : ℕ) → ordered es rows ≡ true → ByTable rows n
+    → (i : ℕ) → i < length rows → getD rows i (false, 0) .0 ≡ true
+    → precedes es n (getD rows i (false, 0) .1) ≡ true
