@@ -128,37 +128,57 @@ carry-check:
 	@printf 'RESTAMPED 4\nFAILING 4\n' | diff target/carried.txt -
 	@./target/bin/carry < samples/demo.vol 2>&1 | diff - <(echo REFUSED 1)
 
+# make library            the store for C: target/libpagestore.a, the proved functions and the plain C of lib/
 # make c-test             the C functions: K6 to K12, every refusal, full, smallest and random volumes, the stack they take
 # make example-check      the program that README quotes, on the sample volume, against what it must print
-.PHONY: inspect-library c-test example-check
+# make guide-check        the program of docs/C.md, compiled and run as it stands there
+.PHONY: library c-test c-sanitized example-check guide-check
 CC_TEST = gcc -Wall -Wextra -Werror -std=c11 -O2 -Iinclude
-# A test on random volumes, built with these libraries and run.
-C_TEST = $(CC_TEST) tests/c/$(1)_test.c tests/c/history.c tests/c/volume.c \
-    $(patsubst %,target/staticlib/lib%.a,$(2)) -o target/c/$(1)_test && ./target/c/$(1)_test
-inspect-library:
-	@$(STATICLIB) inspect
-	@mkdir -p target/c
+LIBRARY = target/libpagestore.a
+# A test of the C functions, of tests/c/NAME_test.c and these files, built and run.
+C_TEST = $(CC_TEST) -pthread tests/c/$(1)_test.c $(2) $(LIBRARY) -o target/c/$(1)_test && ./target/c/$(1)_test
+library:
+	@$(STATICLIB) capi
+	@mkdir -p target/c/lib
+	@for source in lib/*.c; do \
+	    $(CC_TEST) -Ilib -c $$source -o target/c/lib/$$(basename $$source .c).o || exit 1; \
+	done
+	@cp target/staticlib/libcapi.a $(LIBRARY).part
+	@ar rs $(LIBRARY).part target/c/lib/*.o 2> /dev/null
+	@mv $(LIBRARY).part $(LIBRARY)
 
-c-test: inspect-library
-	@$(CC_TEST) tests/c/inspect_test.c tests/c/volume.c target/staticlib/libinspect.a -o target/c/inspect_test
-	@./target/c/inspect_test
-	@$(STATICLIB) estimate
-	@$(call C_TEST,forecast,estimate inspect)
-	@$(STATICLIB) export
-	@$(STATICLIB) extract
-	@$(call C_TEST,archive,export extract inspect)
-	@$(STATICLIB) compare
-	@$(call C_TEST,compare,compare inspect)
-	@$(CC_TEST) -pthread tests/c/stack_test.c tests/c/volume.c \
-	    $(patsubst %,target/staticlib/lib%.a,inspect estimate export extract compare) -o target/c/stack_test
-	@./target/c/stack_test
+c-test: library
+	@$(call C_TEST,inspect,tests/c/volume.c)
+	@$(call C_TEST,forecast,tests/c/history.c tests/c/volume.c)
+	@$(call C_TEST,archive,tests/c/history.c tests/c/volume.c)
+	@$(call C_TEST,compare,tests/c/history.c tests/c/volume.c)
+	@$(call C_TEST,store,tests/c/box.c tests/c/volume.c)
+	@$(call C_TEST,cases,tests/c/box.c tests/c/volume.c)
+	@$(call C_TEST,stack,tests/c/painted.c tests/c/box.c tests/c/volume.c)
+	@$(MAKE) --no-print-directory c-sanitized
 
-example-check: inspect-library
-	@$(CC_TEST) examples/show.c target/staticlib/libinspect.a -o target/c/show
+# The header as C++, and the store's tests with the caller's side sanitized.
+c-sanitized: library
+	@echo '#include "pagestore.h"' | g++ -Wall -Wextra -Wpedantic -Werror -std=c++11 -Iinclude -x c++ -fsyntax-only -
+	@for test in store cases; do \
+	    $(CC_TEST) -g -fsanitize=address,undefined -fno-sanitize-recover=all tests/c/$${test}_test.c tests/c/box.c \
+	        tests/c/volume.c $(LIBRARY) -o target/c/$${test}_sanitized && ./target/c/$${test}_sanitized | tail -1 \
+	        || exit 1; \
+	done
+
+example-check: library
+	@$(CC_TEST) examples/show.c $(LIBRARY) -o target/c/show
 	@for page in 1 2 3 4 5 6 7; do \
 	    ./target/c/show samples/demo.vol $$page || echo "exit status $$?"; \
 	done > target/c/show.txt 2>&1
 	@diff target/c/show.txt samples/show.txt
+
+guide-check: library
+	@sed -n '/^```c$$/,/^```$$/p;/^```$$/q' docs/C.md | sed '/^```/d' > target/c/guide.c
+	@$(CC_TEST) target/c/guide.c $(LIBRARY) -o target/c/guide
+	@rm -f target/c/guide.vol
+	@./target/c/guide target/c/guide.vol > target/c/guide.txt
+	@sed -n '/^    gcc .*guide/,/^$$/p' docs/C.md | sed '1d;$$d;s/^    //' | diff target/c/guide.txt -
 
 # make kit-check          tells which Rattle kit is at hand, and which the proofs were last run with (file rattle-kit)
 # make docs-check         the documents against the sources: refusals, names, the quoted example, columns
@@ -190,16 +210,13 @@ fuzz:
 
 AGAINST = cd reference/against && cargo run --release --offline --quiet --target-dir ../target --bin
 
-against: inspect-library
+against: library
 	@$(AGAINST) against_inspect
+	@$(AGAINST) against_store
 
-# The crates that the benchmark links; those of the reports on a volume where they are there.
-REPORTS = $(patsubst crates/%/src,%,$(wildcard crates/estimate/src crates/export/src crates/compare/src))
-BENCHED = inspect measure $(REPORTS)
-
-bench-program: inspect-library
-	@for crate in measure $(REPORTS); do $(STATICLIB) $$crate; done
-	@$(CC_TEST) $(REPORTS:%=-DBENCH_%) bench/*.c tests/c/volume.c $(BENCHED:%=target/staticlib/lib%.a) -o target/c/bench
+bench-program: library
+	@$(STATICLIB) measure
+	@$(CC_TEST) bench/*.c tests/c/volume.c target/staticlib/libmeasure.a $(LIBRARY) -o target/c/bench
 
 bench-check: bench-program
 	@./target/c/bench check

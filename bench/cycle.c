@@ -1,5 +1,6 @@
-/* Times a cycle of calls: the proved store against the peer, in turns, on the same made volume; before that, both are
- * played on volumes of several kinds, and must leave the same bytes. */
+/* Times a cycle of calls: the proved store, by itself and by the calls for C, against the peer, in turns, on the same
+ * made volume; before that, all are played on volumes of several kinds, and must leave the same bytes. */
+#include "../include/pagestore.h"
 #include "bench.h"
 #include "store.h"
 #include "../tests/c/volume.h"
@@ -10,6 +11,8 @@
 uint32_t pagestore_cycles(uint8_t *volume, size_t volume_len, uint8_t *memory, size_t memory_len, uint32_t count);
 
 enum { MEMORY = 1024 + 2 * IMAGE, MOST = 131092, CYCLES = 64 };
+
+typedef uint32_t cycles(uint8_t *, size_t, uint8_t *, size_t, uint32_t);
 
 static uint8_t ours[MOST], theirs[MOST], memory_ours[1024 + 17 * IMAGE], memory_theirs[1024 + 17 * IMAGE];
 
@@ -44,16 +47,42 @@ static uint32_t peer_cycles(uint8_t *volume, size_t volume_len, uint8_t *memory,
     return played((struct bytes){volume, volume_len, memory, memory_len}, count).number;
 }
 
-/* Both from the volume in `ours`: the same refusals, volume and memory. */
+/* The same cycles by the calls for C: the state's numbers go in and out of each. */
+static uint32_t c_cycles(uint8_t *volume, size_t volume_len, uint8_t *memory, size_t memory_len, uint32_t count) {
+#define LENT volume, volume_len, memory, memory_len, state, PAGESTORE_STATE_SIZE
+#define REPORT report, PAGESTORE_CALL_REPORT_SIZE
+    uint32_t state[PAGESTORE_STATE_SIZE], report[PAGESTORE_CALL_REPORT_SIZE];
+    uint8_t payload[44];
+    memset(payload, 9, sizeof payload);
+    uint32_t refused = pagestore_restart(LENT) != PAGESTORE_OK;
+    for (uint32_t n = 0; n < count; n++) {
+        const uint32_t answers[] = {
+            pagestore_begin(LENT, n + 1, 1, 7, REPORT),
+            pagestore_change(LENT, n + 1, PAGESTORE_PUT, 100, 44, 0, payload, sizeof payload, REPORT),
+            pagestore_force(LENT, REPORT), pagestore_force(LENT, REPORT), pagestore_write(LENT, n + 1, REPORT),
+            pagestore_note(LENT, REPORT), pagestore_load(LENT, n, 2, REPORT),
+        };
+        for (size_t i = 0; i < sizeof answers / sizeof answers[0]; i++)
+            refused += answers[i] != PAGESTORE_OK && answers[i] != PAGESTORE_NOTHING;
+    }
+    return refused;
+}
+
+/* All from the volume in `ours`: the same refusals, volume and memory. */
 static void same(const char *name, size_t size, size_t memory, uint32_t count) {
-    memcpy(theirs, ours, size);
+    cycles *const others[] = {c_cycles, peer_cycles};
+    static uint8_t before[MOST];
+    memcpy(before, ours, size);
     memset(memory_ours, 5, sizeof memory_ours);
-    memset(memory_theirs, 5, sizeof memory_theirs);
     uint32_t a = pagestore_cycles(ours, size, memory_ours, memory, count);
-    uint32_t b = peer_cycles(theirs, size, memory_theirs, memory, count);
-    if (a == b && !memcmp(ours, theirs, size) && !memcmp(memory_ours, memory_theirs, sizeof memory_ours)) return;
-    printf("cycles, %s: proved %u refusals, peer %u: they differ\n", name, a, b);
-    exit(1);
+    for (int i = 0; i < 2; i++) {
+        memcpy(theirs, before, size);
+        memset(memory_theirs, 5, sizeof memory_theirs);
+        uint32_t b = others[i](theirs, size, memory_theirs, memory, count);
+        if (a == b && !memcmp(ours, theirs, size) && !memcmp(memory_ours, memory_theirs, sizeof memory_ours)) continue;
+        printf("cycles, %s: proved %u refusals, %s %u: they differ\n", name, a, i ? "peer" : "for C", b);
+        exit(1);
+    }
 }
 
 /* Breaks clause k of a well-formed state, with page 3 in frame 1 and page 2 in frame 2; false past the last clause. */
@@ -127,8 +156,6 @@ void cycles_compared(void) {
     heading = "CHP2";
 }
 
-typedef uint32_t cycles(uint8_t *, size_t, uint8_t *, size_t, uint32_t);
-
 static double round_of(cycles *f, const uint8_t *made, size_t size) {
     memcpy(ours, made, size);
     memset(memory_ours, 0, MEMORY);
@@ -142,12 +169,15 @@ static double round_of(cycles *f, const uint8_t *made, size_t size) {
 void cycles_timed(void) {
     static uint8_t made[MOST];
     struct counts c = {CYCLES, 0, 2 * CYCLES, CYCLES};
-    double a = 1e18, b = 1e18;
+    cycles *const sides[] = {pagestore_cycles, peer_cycles, c_cycles};
+    double best[] = {1e18, 1e18, 1e18};
     make(made, c);
-    for (int i = 0; i < 3000; i++) {
-        double x = round_of(pagestore_cycles, made, size_of(c)), y = round_of(peer_cycles, made, size_of(c));
-        if (x < a) a = x;
-        if (y < b) b = y;
-    }
-    row("cycle of seven calls", a, b);
+    for (int i = 0; i < 3000; i++)
+        for (int k = 0; k < 3; k++) {
+            double spent = round_of(sides[k], made, size_of(c));
+            if (spent < best[k]) best[k] = spent;
+        }
+    row("cycle of seven calls", best[0], best[1]);
+    row("the same by the calls for C", best[2], best[1]);
+    printf("| the calls for C beside those of Rattle | %.0f | %.0f | %.2f |\n", best[2], best[0], best[2] / best[0]);
 }

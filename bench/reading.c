@@ -1,4 +1,4 @@
-/* The reports on a volume: the proved functions against the peers, those of them that are linked (BENCH_..). */
+/* The reports on a volume: the proved functions against the peers. */
 #include "../include/pagestore.h"
 #include "bench.h"
 #include "readers.h"
@@ -32,29 +32,17 @@ struct reader {
     size_t written;
 };
 
-#ifdef BENCH_estimate
 static uint32_t forecast_ours(void *out) { return pagestore_forecast(volume, size, out, 128); }
 static uint32_t forecast_theirs(void *out) { return peer_forecast(volume, size, out, 128); }
-#endif
-#ifdef BENCH_export
 static uint32_t archive_ours(void *out) { return pagestore_archive_write(volume, size, out, archive_size); }
 static uint32_t archive_theirs(void *out) { return peer_archive_write(volume, size, out, archive_size); }
-#endif
-#ifdef BENCH_compare
 static uint32_t compare_ours(void *out) { return pagestore_compare(volume, size, other, size, out, 66); }
 static uint32_t compare_theirs(void *out) { return peer_compare(volume, size, other, size, out, 66); }
-#endif
 
 static const struct reader readers[] = {
-#ifdef BENCH_estimate
     {"forecast", forecast_ours, forecast_theirs, 128 * sizeof(uint32_t)},
-#endif
-#ifdef BENCH_export
     {"archive", archive_ours, archive_theirs, ARCHIVE},
-#endif
-#ifdef BENCH_compare
     {"compare", compare_ours, compare_theirs, 66 * sizeof(uint32_t)},
-#endif
     {NULL, NULL, NULL, 0},
 };
 

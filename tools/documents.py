@@ -2,8 +2,8 @@
 """Holds the documents against the sources; prints each difference, and exits with 1 where there is one.
 
 The refusals stand in docs/FORMAT.md, section 6. README's short table, the constants of include/pagestore.h and the
-order of the rows in crates/model/specs (Reading, Refusals, Health, Forecast, Archive, Mirror, Rehearsal) must be the
-same.
+order of the rows in crates/model/specs (Reading, Refusals, Health, Forecast, Archive, Mirror, Rehearsal) and
+crates/face/specs (Slots) must be the same.
 README quotes examples/show.c. Every function, definition, must-fail edit and file that the documents name is there.
 No line has more than 120 columns.
 """
@@ -61,17 +61,18 @@ CALLED = {
     "read": "readarchive",
     "mirror": "compare",
     "compare": "comparereport",
+    "slot": "record",
 }
 
-# the calls that have a function for C, and the crates whose functions are public
-FOR_C = ("Inspect", "Examine", "ForecastFigures", "ArchiveLength", "Archive", "ReadArchive", "CompareReport")
+# the crates whose functions are public
 FACES = ("store", "inspect", "estimate", "export", "extract", "compare", "rehearsal")
 
 
 def defined_orders():
     """What the definitions have for each call: the numbers of its rows, each once."""
-    files = ("Reading", "Refusals", "Health", "Forecast", "Archive", "Mirror", "Rehearsal")
-    text = re.sub(r"--.*", "", "".join(read(f"crates/model/specs/{name}.antt") for name in files))
+    names = ("Reading", "Refusals", "Health", "Forecast", "Archive", "Mirror", "Rehearsal")
+    files = [f"model/specs/{name}" for name in names]
+    text = re.sub(r"--.*", "", "".join(read(f"crates/{name}.antt") for name in [*files, "face/specs/Slots"]))
     bodies = {name: body for name, body in re.findall(r"^(\w+)Rows(?! :)(.*(?:\n .*)*)", text, re.M)}
 
     def numbers(body):
@@ -97,15 +98,11 @@ def check_refusals():
         if short.pop(str(number), None) != words:
             yield f"README.md, refusal {number}: docs/FORMAT.md has '{words}'"
     yield from (f"README.md, refusal {number}: not in docs/FORMAT.md" for number in short)
-    answers = read("include/pagestore.h").partition("/* Answers")[2].partition("\n\n")[0]
+    answers = read("include/pagestore.h").partition("/* ---- answers")[2].partition("/* ---- the volume")[0]
     constants = {int(n): name for name, n in re.findall(r"#define (\w+) (\d+)u", answers)}
-    given = sorted(set(itertools.chain(*(order.get(call, []) for call in FOR_C))))
-    wanted = {0: "PAGESTORE_OK"} | {n: known[n][1] for n in given if n in known}
+    wanted = {0: "PAGESTORE_OK", 256: "PAGESTORE_NOTHING"} | {n: name for n, (_, name) in known.items()}
     if constants != wanted:
         yield f"include/pagestore.h has the answers {constants}, docs/FORMAT.md {wanted}"
-    for number, (_, name) in known.items():
-        if name and number not in given:
-            yield f"docs/FORMAT.md, refusal {number}: {name}, and no function for C gives it"
 
 
 # ---- what the documents name

@@ -27,9 +27,10 @@ BEFORE = [
 AFTER = [
     ("layout of the sources (rt fmt --check)", ["rt", "fmt", "--check"]),
     ("the programs on the sample volumes and lists", make("demo-check", "carry-check", "rehearse-check")),
-    ("README's example; the C function: cases, refusals, full volumes, stack", make("example-check", "c-test")),
+    ("the programs of README and docs/C.md", make("example-check", "guide-check")),
+    ("the C functions: cases, refusals, full volumes, stack, sanitizers", make("c-test")),
     ("the second implementation: tests and plain book", make("reference-test")),
-    ("the C function against the second implementation", make("against")),
+    ("the C functions against the second implementation", make("against")),
     ("inspection and cycles of calls against the peers in C", make("bench-check")),
     ("scripts through both implementations, 20 seconds", make("fuzz", "FUZZ_SECONDS=20", "FUZZ_SEED=1")),
 ]

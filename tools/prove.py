@@ -30,9 +30,10 @@ def progress(line, number, count):
 
 
 def current(name):
-    """The library for C is there, and newer than every file of the crates that it needs."""
+    """The library for C is there, and newer than every file of the crates that it needs (edits that must fail aside)."""
     library = ROOT / f"target/staticlib/lib{name}.a"
-    files = [f for crate in needed(name) for f in (ROOT / "crates" / crate).rglob("*") if f.is_file()]
+    folders = [ROOT / "crates" / crate / part for crate in needed(name) for part in ("src", "specs", "proofs")]
+    files = [f for folder in folders for f in folder.rglob("*") if f.is_file()]
     return library.is_file() and max(f.stat().st_mtime for f in files) < library.stat().st_mtime
 
 

@@ -1,15 +1,20 @@
-//! Links the static libraries that `rt staticlib` writes, each into the programs that call it.
+//! Links the libraries for C, each into the programs that call it: the store (`make library`), and `measure`, which has
+//! functions for the benchmark (`rt staticlib measure`).
 
 use std::path::Path;
 
-const LIBRARIES: [(&str, &str); 3] =
-    [("against_inspect", "inspect"), ("bench", "inspect"), ("bench", "measure")];
+const LIBRARIES: [(&str, &str); 4] = [
+    ("against_inspect", "libpagestore.a"),
+    ("against_store", "libpagestore.a"),
+    ("bench", "staticlib/libmeasure.a"),
+    ("bench", "libpagestore.a"),
+];
 
 fn main() {
     let here = std::env::var("CARGO_MANIFEST_DIR").expect("cargo sets it");
-    let libraries = Path::new(&here).join("../../target/staticlib");
+    let target = Path::new(&here).join("../../target");
     for (program, name) in LIBRARIES {
-        let library = libraries.join(format!("lib{name}.a"));
+        let library = target.join(name);
         println!("cargo:rustc-link-arg-bin={program}={}", library.display());
         println!("cargo:rerun-if-changed={}", library.display());
     }

@@ -2,19 +2,17 @@
  * on the smallest stack that a thread may have. Exits with 1 if a call takes more than PAGESTORE_STACK, or does not end
  * well. */
 #define _GNU_SOURCE
-#include "pagestore.h"
-#include "volume.h"
+#include "box.h"
+#include "painted.h"
 
 #include <limits.h>
 #include <pthread.h>
 #include <stdio.h>
-#include <stdlib.h>
 #include <string.h>
-#include <sys/mman.h>
 #include <sys/wait.h>
 #include <unistd.h>
 
-enum { GUARD = 4096, LARGE = 1 << 20, UNANSWERED = 99 };
+enum { UNANSWERED = 99 };
 
 /* ---- the calls: each kind in volumes from the smallest to the largest, whose chain has 1,024 records ---- */
 
@@ -28,11 +26,15 @@ static const char *const NAMES[KINDS] = {
 
 static uint8_t volume[PAGESTORE_VOLUME_MAX], buffer[PAGESTORE_IMAGE_SIZE], expected[PAGESTORE_IMAGE_SIZE];
 
-/* Every function of the header; all but inspection are tried on the largest volume. */
-enum function { INSPECT, EXAMINE, FORECAST, LENGTH, WRITE, READ, PAGES, COMPARE, FUNCTIONS };
+/* Every function of the header that takes no state; all but inspection are tried on the largest volume. */
+enum function {
+    INSPECT, EXAMINE, FORECAST, LENGTH, WRITER, READER, PAGES, COMPARE, COUNTS, RECORD, NOTE_AT, MAKE, MAKE_FIRST,
+    ROOM, FUNCTIONS,
+};
 static const char *const CALLED[FUNCTIONS] = {
-    "inspect",      "examine",       "forecast", "archive_length", "archive_write",
-    "archive_read", "archive_pages", "compare",
+    "inspect",       "examine", "forecast", "archive_length", "archive_write", "archive_read",
+    "archive_pages", "compare", "counts",   "record",         "note_at",       "make",
+    "make_first",    "room",
 };
 static uint8_t archive[PAGESTORE_ARCHIVE_MAX], area[PAGESTORE_AREA_MAX];
 static uint32_t numbers[PAGESTORE_FORECAST_SIZE];
@@ -71,78 +73,26 @@ static __attribute__((noinline)) uint32_t called(const struct call *c) {
     switch (c->function) {
         case EXAMINE:
             return pagestore_examine(volume, c->size, c->page, buffer, sizeof buffer, numbers, PAGESTORE_REPORT_SIZE);
+        case COUNTS: return pagestore_counts(volume, c->size, numbers, PAGESTORE_COUNTS_SIZE);
+        case RECORD: return pagestore_record(volume, c->size, 1024, numbers, PAGESTORE_FIELDS_SIZE);
+        case NOTE_AT: return pagestore_note_at(volume, c->size, 1024, numbers, PAGESTORE_FIELDS_SIZE);
+        case ROOM: return pagestore_room(volume, c->size, numbers, PAGESTORE_ROOM_SIZE);
+        case MAKE: return pagestore_make(volume, c->size, 64, 128, 1024, 1024);
+        case MAKE_FIRST: return pagestore_make_first(volume, c->size, 64, 128, 1024, 1024);
         case FORECAST: return pagestore_forecast(volume, c->size, numbers, PAGESTORE_FORECAST_SIZE);
         case LENGTH: return pagestore_archive_length(volume, c->size);
-        case WRITE: return pagestore_archive_write(volume, c->size, archive, sizeof archive);
-        case READ: return pagestore_archive_read(archive, sizeof archive, area, sizeof area);
+        case WRITER: return pagestore_archive_write(volume, c->size, archive, sizeof archive);
+        case READER: return pagestore_archive_read(archive, sizeof archive, area, sizeof area);
         case PAGES: return pagestore_archive_pages(archive, sizeof archive);
         case COMPARE: return pagestore_compare(volume, c->size, volume, c->size, numbers, PAGESTORE_COMPARE_SIZE);
         default: return pagestore_inspect(volume, c->size, c->page, buffer, sizeof buffer);
     }
 }
 
-static __attribute__((noinline)) void run(struct call *c) { c->answer = called(c); }
+static __attribute__((noinline)) void run(void *c) { ((struct call *)c)->answer = called(c); }
 
 static int right(const struct call *c) {
     return c->answer == c->wanted && memcmp(buffer, expected, sizeof buffer) == 0;
-}
-
-/* ---- a thread on a stack of ours, an unreadable page below it ---- */
-
-static void must(int holds, const char *what) {
-    if (holds) return;
-    perror(what);
-    exit(2);
-}
-
-static uint8_t *stack_of(size_t size) {
-    uint8_t *space = mmap(NULL, GUARD + size, PROT_READ | PROT_WRITE, MAP_PRIVATE | MAP_ANONYMOUS, -1, 0);
-    must(space != MAP_FAILED, "mmap");
-    must(mprotect(space, GUARD, PROT_NONE) == 0, "mprotect");
-    return space + GUARD;
-}
-
-static void on_stack(uint8_t *stack, size_t size, void *(*work)(void *), void *with) {
-    pthread_attr_t attributes;
-    pthread_t thread;
-    must(pthread_attr_init(&attributes) == 0, "pthread_attr_init");
-    must(pthread_attr_setstack(&attributes, stack, size) == 0, "pthread_attr_setstack");
-    must(pthread_create(&thread, &attributes, work, with) == 0, "pthread_create");
-    must(pthread_join(thread, NULL) == 0, "pthread_join");
-    pthread_attr_destroy(&attributes);
-}
-
-/* ---- how much a call takes ---- */
-
-struct measured {
-    struct call *call;
-    uint8_t *stack;
-    uint8_t paint;
-    size_t touched;
-};
-
-/* Paints what lies below this frame, calls, and looks for the lowest byte that has another colour. */
-static void *measure(void *given) {
-    struct measured *m = given;
-    uint8_t *here = (uint8_t *)__builtin_frame_address(0) - 256, *low = m->stack;
-    for (volatile uint8_t *at = low; at < here; at++) *at = m->paint;
-    run(m->call);
-    while (low < here && *(volatile uint8_t *)low == m->paint) low++;
-    m->touched = (size_t)(here + 256 - low);
-    return NULL;
-}
-
-/* A byte may be written in the colour of the paint: two colours, and the larger. */
-static size_t touched(struct call *c) {
-    uint8_t *stack = stack_of(LARGE);
-    size_t most = 0;
-    for (int paint = 0x5a; paint <= 0xa5; paint += 0xa5 - 0x5a) {
-        struct measured m = {c, stack, (uint8_t)paint, 0};
-        on_stack(stack, LARGE, measure, &m);
-        if (m.touched > most) most = m.touched;
-    }
-    munmap(stack - GUARD, GUARD + LARGE);
-    return most;
 }
 
 /* ---- on the smallest stack; in a process of its own, since a stack that is too small kills it ---- */
@@ -167,7 +117,7 @@ static int ends_on_smallest(struct call *c) {
 /* Prints a line; whether all is well. */
 static int check(struct counts n, enum kind kind) {
     struct call c = prepared(n, kind);
-    size_t bytes = touched(&c);
+    size_t bytes = touched(run, &c);
     int answers = right(&c), small = bytes <= PAGESTORE_STACK;
     c = prepared(n, kind);
     int ends = ends_on_smallest(&c);
@@ -184,14 +134,66 @@ static int check_other(enum function f) {
     struct call c = prepared(SIZES[sizeof SIZES / sizeof SIZES[0] - 1], TORN);
     c.function = f;
     c.wanted = f == LENGTH ? sizeof archive : f == PAGES ? 64 : PAGESTORE_OK;
-    size_t bytes = touched(&c);
+    size_t bytes = touched(run, &c);
     int well = c.answer == c.wanted && bytes <= PAGESTORE_STACK;
     printf("%s %s: %zu bytes of stack, at most %u\n", well ? "ok    " : "FAILED", CALLED[f], bytes, PAGESTORE_STACK);
     return well;
 }
 
-int main(void) {
+/* ---- the calls on the state, in the largest volume with 16 frames ---- */
+
+static struct box box;
+static struct asked asked;
+static uint32_t answer;
+
+static __attribute__((noinline)) void on_state(void *given) {
+    const struct asked *a = given;
+    answer = a ? box_called(&box, *a) : box_restarted(&box);
+}
+
+/* Prints a line; whether the call answers so and keeps to its stack. The call is made twice, for two colours: the
+ * store is put back before the second by `kept`. */
+static struct box kept;
+
+static __attribute__((noinline)) void on_kept(void *given) {
+    box = kept;
+    on_state(given);
+}
+
+static int check_state(const char *name, const struct asked *a, uint32_t wanted) {
+    kept = box;
+    size_t bytes = touched(on_kept, (void *)a);
+    int well = answer == wanted && bytes <= PAGESTORE_STATE_STACK;
+    printf("%s %s: %u; %zu bytes of stack, at most %u\n", well ? "ok    " : "FAILED", name, (unsigned)answer, bytes,
+           PAGESTORE_STATE_STACK);
+    return well;
+}
+
+static int check_calls(int first) {
+    static const char bytes[44];
+    static const struct asked calls[] = {
+        {.call = BEGIN, .page = 64, .frame = 16, .fill = 7}, {.call = BEGIN, .page = 1, .frame = 1, .fill = 256},
+        {.call = CHANGE, .page = 64, .kind = PAGESTORE_SLIDE, .length = 44, .payload = bytes, .payload_len = 44},
+        {.call = FORCE}, {.call = FORCE}, {.call = WRITE, .page = 64}, {.call = STORE_NOTE},
+        {.call = BACKUP, .page = 64, .slot = 128}, {.call = STORE_NOTE}, {.call = RELEASE, .page = 64},
+        {.call = LOAD, .page = 64, .frame = 2}, {.call = START}, {.call = RESTAMP}, {.call = RESTAMP}, {.call = FINISH},
+    };
+    static const char *const names[] = {
+        "begin", "begin, fill 256", "change", "force", "force", "write", "note", "backup",
+        "note", "release", "load", "start", "restamp", "restamp", "finish",
+    };
     int failures = 0;
+    box_made(&box, SIZES[sizeof SIZES / sizeof SIZES[0] - 1], 16, first);
+    failures += !check_state("restart", NULL, PAGESTORE_OK);
+    for (size_t i = 0; i < sizeof calls / sizeof calls[0] - (first ? 0 : 4); i++) {
+        asked = calls[i];
+        failures += !check_state(names[i], &asked, asked.fill == 256 ? PAGESTORE_BAD_CHANGE : PAGESTORE_OK);
+    }
+    return failures;
+}
+
+int main(void) {
+    int failures = check_calls(1) + check_calls(0);
     for (size_t i = 0; i < sizeof SIZES / sizeof SIZES[0]; i++)
         for (int kind = 0; kind < KINDS; kind++) failures += !check(SIZES[i], (enum kind)kind);
     for (int f = EXAMINE; f < FUNCTIONS; f++) failures += !check_other((enum function)f);

@@ -1,4 +1,4 @@
-// The comparison for C, as 66 numbers in a lent report: kind, count, and a number for each page.
+// The comparison as 66 numbers in a lent report: kind, count, and a number for each page.
 ghost use mathlib.Core.Path.{_≡_};
 ghost use lib.ListN.{length};
 ghost use Rattle.model.specs.Mirror as mirrors;
@@ -67,10 +67,9 @@ fn tell(c: Compared, report: &mut [u32])
     }
 }
 
-// Comparison for C: 0 or the refusal. `include/pagestore.h` declares it.
+// Compares two volumes' logs into a lent report: 0 or the refusal.
 // Ruled out: a refusal that wrote to the report (tried); a log that lacks records told as the other (tried).
-#[no_mangle]
-pub extern "C" fn pagestore_compare(first: &[u8], second: &[u8], report: &mut [u32]) -> u32
+pub fn tell_comparison(first: &[u8], second: &[u8], report: &mut [u32]) -> u32
     ensures answer { λ r. ⌜ r
         ≡ mirrors.compareOf (now (first .entry)) (now (second .entry)) (now (report .entry)) .refusal ⌝ }
     ensures report { λ _. ⌜ now (report .exit)

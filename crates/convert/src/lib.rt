@@ -2,7 +2,7 @@
 pub mod failing;
 pub mod finish;
 mod heading;
-mod images;
+pub mod images;
 mod passes;
 pub mod restamp;
 pub mod start;

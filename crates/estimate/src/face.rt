@@ -1,4 +1,4 @@
-// The forecast for C: two numbers for each of 64 pages.
+// The forecast as numbers: two for each of 64 pages.
 ghost use mathlib.Core.Path.{_≡_};
 ghost use lib.ListN.{length};
 ghost use Rattle.model.specs.Forecast.{figureNumbers, tellForecast};
@@ -20,11 +20,10 @@ fn tell(pages: [Figure; 64], figures: &mut [u32])
     }
 }
 
-// The forecast for C: 0 or the refusal. `include/pagestore.h` declares it.
+// Forecasts a volume into lent numbers: 0 or the refusal.
 // Ruled out: refusal and count exchanged (tried); 2 for a volume that is not valid (tried); a refusal that wrote to the
 // figures.
-#[no_mangle]
-pub extern "C" fn pagestore_forecast(volume: &[u8], figures: &mut [u32]) -> u32
+pub fn tell_forecast(volume: &[u8], figures: &mut [u32]) -> u32
     ensures answer { λ r. ⌜ r ≡ tellForecast (now (volume .entry)) (now (figures .entry)) .refusal ⌝ }
     ensures figures { λ _. ⌜ now (figures .exit)
         ≡ tellForecast (now (volume .entry)) (now (figures .entry)) .figures ⌝ }

@@ -1,4 +1,4 @@
-// The log archive's length and its writer, from a volume and without memory or state; and the same calls for C.
+// The log archive's length and its writer, from a volume and without memory or state.
 ghost use mathlib.Core.Path.{_≡_};
 ghost use mathlib.Core.Bool.{cond, not, _&&_};
 ghost use Prim.Native.Nat.{_+_, _*_};
@@ -91,20 +91,18 @@ pub fn write(volume: &[u8], buffer: &mut [u8]) -> Answer
     Answer::Done
 }
 
-// The length for C: 0 where it is refused, since every length is at least 4. `include/pagestore.h` declares it.
+// The length as a number: 0 where it is refused, since every length is at least 4.
 // Ruled out: a refusal's number as a length; 0 for a volume with an archive.
-#[no_mangle]
-pub extern "C" fn pagestore_archive_length(volume: &[u8]) -> u32
+pub fn length_number(volume: &[u8]) -> u32
     ensures { λ r. ⌜ r ≡ sizeNumber (sizeOf (now (volume .entry))) ⌝ }
 {
     let e = measure(volume);
     e.size
 }
 
-// The writer for C: 0 or the refusal. `include/pagestore.h` declares it.
+// Writes a volume's archive: 0 or the refusal.
 // Ruled out: 0 with an untouched buffer; a refusal that wrote to the buffer (tried).
-#[no_mangle]
-pub extern "C" fn pagestore_archive_write(volume: &[u8], buffer: &mut [u8]) -> u32
+pub fn write_number(volume: &[u8], buffer: &mut [u8]) -> u32
     ensures answer { λ r. ⌜ r ≡ refusalOf (archiveOf (now (volume .entry)) (now (buffer .entry)) .answer) ⌝ }
     ensures buffer { λ _. ⌜ now (buffer .exit) ≡ archiveOf (now (volume .entry)) (now (buffer .entry)) .buffer ⌝ }
 {

@@ -33,15 +33,6 @@ pub fn pages(archive: &[u8]) -> u32
     k
 }
 
-// The same for C. `include/pagestore.h` declares it.
-// Ruled out: a number for an archive whose last section is cut off (tried); 0 for every archive.
-#[no_mangle]
-pub extern "C" fn pagestore_archive_pages(archive: &[u8]) -> u32
-    ensures { λ r. ⌜ r ≡ archivePages (now (archive .entry)) ⌝ }
-{
-    pages(archive)
-}
-
 // An area of so many bytes has room for 1 to 64 images, and for nothing else.
 fn holds_images(size: usize) -> bool
     ensures { λ r. ⌜ r ≡ validArea size ⌝ }
@@ -90,10 +81,9 @@ pub fn read(archive: &[u8], area: &mut [u8]) -> Answer
     Answer::Done
 }
 
-// The same for C: 0 or the refusal. `include/pagestore.h` declares it.
+// The same, its answer as a number: 0 or the refusal.
 // Ruled out: a write before a refusal (tried); a check set in the area (tried).
-#[no_mangle]
-pub extern "C" fn pagestore_archive_read(archive: &[u8], area: &mut [u8]) -> u32
+pub fn read_number(archive: &[u8], area: &mut [u8]) -> u32
     ensures answer { λ r. ⌜ r ≡ refusalOf (readOf (now (archive .entry)) (now (area .entry)) .answer) ⌝ }
     ensures area { λ _. ⌜ now (area .exit) ≡ readOf (now (archive .entry)) (now (area .entry)) .buffer ⌝ }
 {

@@ -9,7 +9,7 @@ use model::answer::Start;
 use volume::heading;
 use volume::rows;
 
-fn class_number(c: Class) -> u32
+pub fn class_number(c: Class) -> u32
     ensures { λ r. ⌜ r ≡ classNumber c ⌝ }
 {
     match c {
@@ -21,7 +21,7 @@ fn class_number(c: Class) -> u32
     }
 }
 
-fn start_number(s: Start) -> u32
+pub fn start_number(s: Start) -> u32
     ensures { λ r. ⌜ r ≡ startNumber s ⌝ }
 {
     match s {
@@ -83,15 +83,9 @@ fn tell(a: Answer, report: &mut [u32])
     report[2] = count;
 }
 
-// Inspection for C with its class, start and count: 0 or the refusal. `include/pagestore.h` declares it.
+// Inspection with its class, start and count as numbers: 0 or the refusal.
 // Ruled out: a refusal that wrote to the report (tried); the numbers of two classes exchanged (tried).
-#[no_mangle]
-pub extern "C" fn pagestore_examine(
-    volume: &[u8],
-    page: u32,
-    buffer: &mut [u8],
-    report: &mut [u32],
-) -> u32
+pub fn examine(volume: &[u8], page: u32, buffer: &mut [u8], report: &mut [u32]) -> u32
     ensures answer { λ r. ⌜ r
         ≡ examineOf (now (volume .entry)) page (now (buffer .entry)) (now (report .entry)) .refusal ⌝ }
     ensures buffer { λ _. ⌜ now (buffer .exit)

@@ -1,4 +1,4 @@
-// Inspect: a page rebuilt from the durable records of a volume, into a lent buffer; and the same call for C.
+// Inspect: a page rebuilt from the durable records of a volume, into a lent buffer.
 ghost use mathlib.Core.Path.{_≡_};
 ghost use mathlib.Core.Bool.{cond, not};
 ghost use lib.Dec.{eqb};
@@ -68,14 +68,4 @@ pub fn number(a: Answer) -> u32
         Answer::Done => 0,
         Answer::Repaired(_) => 0,
     }
-}
-
-// Inspection for C: 0 or the refusal. `include/pagestore.h` declares it.
-// Ruled out: 0 with an untouched buffer; 19.
-#[no_mangle]
-pub extern "C" fn pagestore_inspect(volume: &[u8], page: u32, buffer: &mut [u8]) -> u32
-    ensures answer { λ r. ⌜ r ≡ refusalOf (inspectOf (now (volume .entry)) page (now (buffer .entry)) .answer) ⌝ }
-    ensures buffer { λ _. ⌜ now (buffer .exit) ≡ inspectOf (now (volume .entry)) page (now (buffer .entry)) .buffer ⌝ }
-{
-    number(inspect(volume, page, buffer))
 }

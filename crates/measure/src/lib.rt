@@ -76,7 +76,7 @@ fn cut(count: u32) -> u32
 // Restarts from a volume, and gives the number of refusals, 1 or 0. Ruled out: a refusal that is not counted; a memory
 // that is left as it was.
 #[no_mangle]
-pub extern "C" fn pagestore_restart(volume: &[u8], memory: &mut [u8]) -> u32
+pub extern "C" fn measure_restart(volume: &[u8], memory: &mut [u8]) -> u32
     ensures refused { λ r. ⌜ r ≡ restartRun (now (volume .entry)) (now (memory .entry)) .refused ⌝ }
     ensures memory { λ _. ⌜ now (memory .exit) ≡ restartRun (now (volume .entry)) (now (memory .entry)) .memory ⌝ }
 {

@@ -2,3 +2,4 @@
 
 pub mod full;
 pub mod proved;
+pub mod store;

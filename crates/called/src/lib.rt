@@ -1,0 +1,1 @@
+// What C calls is the step of a history: no code.

@@ -1,0 +1,4 @@
+pub mod FaceLaws
+pub mod ArgumentLaws
+pub mod SlotLaws
+pub mod SpaceLaws

@@ -1,0 +1,80 @@
+use Rattle.capi.proofs.ArgumentLaws.{misfilled-unfit, misfilled-fit}
+use Rattle.numbers.proofs.FitLaws.{long}
+use Rattle.capi.proofs.FaceLaws.{both}
+use Rattle.laws.proofs.Tables.{and-left}
+use lib.Dec.{eqb}
+use mathlib.Core.Path.{sym, _∙_}
+use borrow.Author.Needs.{needs}
+use Rattle.capi.proofs.begin.misfilled.Statement.{statement}
+use Rattle.capi.proofs.begin.misfilled.Tie as tie
+
+fits-requires : tie.Need-fits-requires
+fits-requires c κs = search needs
+
+valid-requires : tie.Need-valid-requires
+valid-requires c κs = search needs
+
+first-requires : tie.Need-first-requires
+first-requires c κs = search needs
+
+returns : tie.Need-returns
+returns c = λ m report em er.
+    let a = c .before .before .before .before .before .before .args in
+    let f = c .before .before .before .fits2 in
+    misfilled-unfit (a .page) (a .frame) (a .volume .now) m (a .state .now) report (a .numbers) er (f .result) (f .ensures)
+    (c .before .before .if1 .taken) (c .before .valid .result) (c .first .result) (c .before .valid .ensures) (c .first .ensures)
+
+decode-requires : tie.Need-decode-requires
+decode-requires c κs =
+    let f = c .before .fits2 in
+    let a = c .before .before .before .before .args in
+    long (a .state .now) (sym (f .ensures) ∙ and-left (f .result) (eqb (a .numbers) 5) (both (f .result) (eqb (a .numbers) 5) (c .if1 .left)))
+
+refusal-requires : tie.Need-refusal-requires
+refusal-requires c κs = search needs
+
+geometry-requires : tie.Need-geometry-requires
+geometry-requires c κs = search needs
+
+frames-requires : tie.Need-frames-requires
+frames-requires c κs = search needs
+
+first-requires-2 : tie.Need-first-requires-2
+first-requires-2 c κs = search needs
+
+first-requires-3 : tie.Need-first-requires-3
+first-requires-3 c κs = search needs
+
+first-requires-4 : tie.Need-first-requires-4
+first-requires-4 c κs = search needs
+
+returns-2 : tie.Need-returns-2
+returns-2 c = λ m report em er.
+    let k = c .before .before .before .before in
+    let i = k .before .before .before .before in
+    let f = i .before .fits2 in
+    let a = i .before .before .before .before .args in
+    let d = k .before .before .before .decode in
+    let q = k .before .before .refusal in
+    let g = k .before .geometry in
+    misfilled-fit (a .page) (a .frame) (a .volume .now) m (a .state .now) report (a .numbers) er (f .result) (f .ensures)
+    (i .if1 .left) (a .size) em (d .result) (d .ensures) (q .result) (q .ensures) (g .result) (g .ensures)
+    (k .frames .result) (k .frames .ensures) (c .before .before .first2 .result) (c .before .first3 .result) (c .first4 .result)
+    (c .before .before .first2 .ensures) (c .before .first3 .ensures) (c .first4 .ensures)
+
+pub misfilled-spec : {M : Type 1} → statement M
+misfilled-spec =
+    tie.close
+    (tie.spec
+    fits-requires
+    valid-requires
+    first-requires
+    returns
+    decode-requires
+    refusal-requires
+    geometry-requires
+    frames-requires
+    first-requires-2
+    first-requires-3
+    first-requires-4
+    returns-2)

@@ -1,0 +1,116 @@
+use Rattle.capi.proofs.FaceLaws.{unfit, sized, fitting, fit}
+use Rattle.numbers.proofs.FitLaws.{long}
+use Rattle.model.specs.Commands.{callOf}
+use mathlib.Core.Path.{_≡_, ap}
+use lib.ListN.{length}
+use borrow.Author.Needs.{needs}
+use Rattle.capi.proofs.step.step.Statement.{statement}
+use Rattle.capi.proofs.step.step.Tie as tie
+
+-- past the test: the numbers fit, the report has five
+right : (c : tie.Else1) → length (c .before .before .before .before .before .before .before .args .report .now) ≡ 5
+right c =
+    let s = c .before .before .before .before .before .before .before in
+    let a = s .args in
+    sized (callOf (a .command) (a .payload)) (a .volume .now) (a .memory .now) (a .state .now) (a .report .now) (c .before .fits2 .result)
+    (c .before .fits2 .ensures) (c .if1 .left)
+
+whole : (c : tie.Else1) → length (c .before .before .before .before .before .before .before .args .state .now) ≡ 360
+whole c =
+    let s = c .before .before .before .before .before .before .before in
+    let a = s .args in
+    long (a .state .now)
+    (fitting (callOf (a .command) (a .payload)) (a .volume .now) (a .memory .now) (a .state .now) (a .report .now) (c .before .fits2 .result)
+    (c .before .fits2 .ensures) (c .if1 .left))
+
+fits-requires : tie.Need-fits-requires
+fits-requires c κs = search needs
+
+misheaded-requires : tie.Need-misheaded-requires
+misheaded-requires c κs = search needs
+
+first-requires : tie.Need-first-requires
+first-requires c κs = search needs
+
+same-length : tie.Need-same-length
+same-length c = search needs
+
+same-length-2 : tie.Need-same-length-2
+same-length-2 c = search needs
+
+returns : tie.Need-returns
+returns c =
+    let i = c .before .before .before in
+    let s = i .before .before .before .before .before .before .before in
+    let a = s .args in
+    unfit (callOf (a .command) (a .payload)) (a .volume .now) (a .memory .now) (a .state .now) (a .report .now) (i .before .fits2 .result)
+    (i .before .fits2 .ensures)
+    (c .first .result) (a .own) (c .before .misheaded .result) (i .if1 .taken) (s .pre) (c .before .misheaded .ensures) (c .first .ensures)
+
+decode-requires : tie.Need-decode-requires
+decode-requires c κs = whole (c .before)
+
+aim-requires : tie.Need-aim-requires
+aim-requires c κs = search needs
+
+perform-requires : tie.Need-perform-requires
+perform-requires c κs = search needs
+
+encode-requires : tie.Need-encode-requires
+encode-requires c κs = whole (c .before .before .before .before .before .before .before .before .before .before .before .before .before .before)
+
+tell-requires : tie.Need-tell-requires
+tell-requires c κs = right (c .before .before .before .before .before .before .before .before .before .before .before .before .before .before .before .before .before .before)
+
+number-requires : tie.Need-number-requires
+number-requires c κs = search needs
+
+same-length-3 : tie.Need-same-length-3
+same-length-3 c = search needs
+
+same-length-4 : tie.Need-same-length-4
+same-length-4 c = search needs
+
+same-length-5 : tie.Need-same-length-5
+same-length-5 c = search needs
+
+same-length-6 : tie.Need-same-length-6
+same-length-6 c = search needs
+
+returns-2 : tie.Need-returns-2
+returns-2 c =
+    let p = c .before .before .before .before .before .before .before .before .before .before .before .before .before .before .before in
+    let x = p .before .before .before in
+    let d = x .before .before in
+    let i = d .before .before in
+    let s = i .before .before .before .before .before .before .before in
+    let a = s .args in
+    let o = p .perform in
+    fit (callOf (a .command) (a .payload)) (a .volume .now) (a .memory .now) (a .state .now) (a .report .now) (i .before .fits2 .result)
+    (i .before .fits2 .ensures) (i .if1 .left)
+    (d .decode .result) (d .decode .ensures) (o .result .answer) (o .result .store .state) (x .aim .result) (c .number .result)
+    (c .before .before .before .before .before .before .before .encode .last .1 .0) (c .before .before .before .tell .last .1 .1 .0) (o .last .1 .1 .0) (o .last .1 .0)
+    (ap (λ r. r .answer) (o .ensures .0)) (ap (λ r. r .store .state) (o .ensures .0)) (o .ensures .1 .0) (o .ensures .1 .1)
+    (x .aim .ensures (a .payload)) (c .number .ensures) (c .before .before .before .before .before .before .before .encode .ensures) (c .before .before .before .tell .ensures)
+
+pub step-spec : {M : Type 1} → statement M
+step-spec =
+    tie.close
+    (tie.spec
+    fits-requires
+    misheaded-requires
+    first-requires
+    same-length
+    same-length-2
+    returns
+    decode-requires
+    aim-requires
+    perform-requires
+    encode-requires
+    tell-requires
+    number-requires
+    same-length-3
+    same-length-4
+    same-length-5
+    same-length-6
+    returns-2)

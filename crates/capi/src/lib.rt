@@ -1,0 +1,12 @@
+// The page store for C: every exported function, each by an equation for all that it leaves. `include/pagestore.h`
+// declares them, and `rt staticlib capi` makes the library of them.
+mod begin;
+mod calls;
+mod change;
+mod range;
+mod readers;
+mod report;
+mod slots;
+mod space;
+mod step;
+mod volumes;

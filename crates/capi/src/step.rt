@@ -1,0 +1,55 @@
+// The step that every call on the state makes: the state out of its numbers, the call that a command names, the next
+// state into the numbers, and the report.
+ghost use mathlib.Core.Path.{_≡_};
+ghost use Rattle.model.specs.Commands.{callOf};
+ghost use Rattle.capi.specs.Targets.{ownMagic, misheadedBy};
+ghost use Rattle.face.specs.Face.{faced, faceOf};
+use crate::range;
+use crate::report;
+use model::command::Command;
+use store::Store;
+use volume::heading;
+use volume::rows;
+
+// In place of a heading: the call takes a volume with any of them.
+pub const ANY: [u8; 4] = [0, 0, 0, 0];
+
+// The volume is not one that the call takes.
+fn misheaded(volume: &[u8], own: [u8; 4]) -> bool
+    ensures { λ r. ⌜ r ≡ misheadedBy own (now (volume .entry)) ⌝ }
+{
+    let any = own[0] == 0;
+    let headed = any | heading::headed(volume, own);
+    !headed | !heading::valid(volume)
+}
+
+// Makes the call that the command names.
+pub fn step(
+    volume: &mut [u8],
+    memory: &mut [u8],
+    state: &mut [u32],
+    command: Command,
+    payload: [u8; 44],
+    own: [u8; 4],
+    report: &mut [u32],
+) -> u32
+    requires { ⌜ own ≡ ownMagic (callOf command payload) ⌝ }
+    ensures { λ r.
+        ⌜ faced r (now (state .exit)) (now (report .exit)) (now (memory .exit)) (now (volume .exit))
+        ≡ faceOf (callOf command payload) (now (volume .entry)) (now (memory .entry)) (now (state .entry))
+        (now (report .entry)) ⌝ }
+{
+    if !numbers::fits(state) | (report.len() != 5) {
+        return rows::first(misheaded(volume, own), 1, 2);
+    }
+    let before = numbers::decode(state);
+    let x = range::aim(volume, before, command);
+    let store = Store { state: before };
+    let o = store.perform(volume, memory, command, payload);
+    let a = o.answer;
+    let next = o.store;
+    let after = next.state;
+    numbers::encode(after, state);
+    report::tell(a, x, report);
+    report::number(a)
+}

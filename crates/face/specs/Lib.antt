@@ -1,0 +1,6 @@
+pub mod Numbers
+pub mod Face
+pub mod Arguments
+pub mod Slots
+pub mod Room
+pub mod Claim

@@ -1,0 +1,20 @@
+-- The room of a volume, as four numbers for C: records left, the page in the way then (0: none), notes left, its page.
+use Prim.Native.Nat.{ℕ}
+use mathlib.Core.Bool.{Bool, true, false, cond, not}
+use mathlib.Core.List.{List, [], _∷_}
+use lib.Dec.{eqb}
+use lib.ListN.{length}
+use Rattle.model.specs.Geometry.{validVolume}
+use Rattle.model.specs.Room.{roomOf}
+use Rattle.model.specs.declared.reading.Room.{Room}
+use Rattle.face.specs.Slots.{Listed, listed}
+
+abbrev pub roomNumbers : Room → List ℕ
+roomNumbers r = r .log .count ∷ r .log .page ∷ r .notes .count ∷ r .notes .page ∷ []
+
+-- refused as a restart; a report of another length than 4 is refused by 2, in 2's place
+unfoldable pub tellRoom : List ℕ → List ℕ → Listed
+tellRoom v xs =
+    let r = roomOf v in
+    cond (eqb (length xs) 4) (listed (r .refusal) xs (roomNumbers r))
+    (record { refusal = cond (not (validVolume v)) 1 2; numbers = xs })

@@ -1,0 +1,1 @@
+// The promise for a C caller: definitions and the claim, no code.

@@ -1,0 +1,74 @@
+-- `numbers::frames_fit` meets its contract. The loop keeps: whether the rows passed are held.
+use mathlib.Core.Path.{_≡_, refl, sym, _∙_}
+use Prim.Native.Nat.{_-_, _≤_}
+use native.Mathlib.Omega.{arith}
+use borrow.Author.Needs.{needs}
+use Rattle.laws.proofs.Tables.{every-none}
+use Rattle.model.specs.Tables.{every}
+use Rattle.face.specs.Numbers.{frameHeld}
+use Rattle.numbers.proofs.FitLaws.{every-next}
+use Rattle.numbers.proofs.frames_fit.Statement.{statement}
+use Rattle.numbers.proofs.frames_fit.Tie as tie
+
+abbrev Inv-loop : tie.InvT-loop
+Inv-loop xs held₀ i₀ held i = (i ≤ 16) × (held ≡ every i (frameHeld xs))
+
+abbrev μ-loop : tie.MeasureT-loop
+μ-loop xs held₀ i₀ held i = 16 - i
+
+loop-holds : tie.Need-loop-holds Inv-loop μ-loop
+loop-holds c = (omega arith, sym (every-none _))
+
+mul-k : tie.Need-mul-k Inv-loop μ-loop
+mul-k c = search needs
+
+mul-held : tie.Need-mul-held Inv-loop μ-loop
+mul-held c = search needs
+
+shared-slice-read-held : tie.Need-shared-slice-read-held Inv-loop μ-loop
+shared-slice-read-held c = search needs
+
+add-held : tie.Need-add-held Inv-loop μ-loop
+add-held c = search needs
+
+mul-held-2 : tie.Need-mul-held-2 Inv-loop μ-loop
+mul-held-2 c = search needs
+
+shared-slice-read-held-2 : tie.Need-shared-slice-read-held-2 Inv-loop μ-loop
+shared-slice-read-held-2 c = search needs
+
+add-i : tie.Need-add-i Inv-loop μ-loop
+add-i c = search needs
+
+loop-less : tie.Need-loop-less Inv-loop μ-loop
+loop-less c = search needs
+
+loop-again : tie.Need-loop-again Inv-loop μ-loop
+loop-again c =
+    let l = c .before .before .before .loop in
+    let xs = c .before .before .before .before .args .xs .now in
+    (omega (arith, c .before .before .loop-test .taken), every-next (frameHeld xs) (l .i) (l .held) (l .inv .1))
+
+returns : tie.Need-returns Inv-loop μ-loop
+returns c =
+    let l = c .before .loop in
+    let e : l .i ≡ 16 = omega (arith, l .inv .0, c .loop-test .left) in
+    l .inv .1 ∙ rw e
+
+pub frames-fit-spec : {M : Type 1} → statement M
+frames-fit-spec =
+    tie.close
+    (tie.spec
+    Inv-loop
+    μ-loop
+    loop-holds
+    mul-k
+    mul-held
+    shared-slice-read-held
+    add-held
+    mul-held-2
+    shared-slice-read-held-2
+    add-i
+    loop-less
+    loop-again
+    returns)
