@@ -180,6 +180,63 @@ guide-check: library
 	@./target/c/guide target/c/guide.vol > target/c/guide.txt
 	@sed -n '/^    gcc .*guide/,/^$$/p' docs/C.md | sed '1d;$$d;s/^    //' | diff target/c/guide.txt -
 
+# make torture            the store in a file, killed, cut and damaged, against a plain book; ROUNDS=300, SEED=1
+# make torture-check      300 rounds of it, failing calls of the system, both sanitized too, faults planted in the layer
+# make ward-check         README's story of examples/ward.c, word by word
+.PHONY: torture torture-check torture-program ward-check
+ROUNDS ?= 300
+SEED ?= 1
+CC_FILE = $(CC_TEST) -pthread -Ilib -Wl,--wrap=pwrite,--wrap=fdatasync,--wrap=fsync,--wrap=posix_fadvise
+SANITIZED = -g -fsanitize=address,undefined -fno-sanitize-recover=all
+# a file system without a disk, where syncs cost nothing
+ROOM = $(if $(wildcard /dev/shm),/dev/shm,/tmp)
+TORTURE = $(patsubst %,tests/c/%.c,torture caller book harm disk volume)
+FILE_TEST = $(patsubst %,tests/c/%.c,file_test file_faults disk volume)
+
+torture-program: library
+	@$(CC_FILE) $(TORTURE) $(LIBRARY) -o target/c/torture
+
+torture: torture-program
+	@./target/c/torture $(ROUNDS) $(SEED) $(ROOM)
+
+torture-check: torture-program
+	@$(CC_FILE) $(FILE_TEST) $(LIBRARY) -o target/c/file_test
+	@./target/c/file_test
+	@$(CC_FILE) $(SANITIZED) $(FILE_TEST) lib/pagestore_file.c $(LIBRARY) -o target/c/file_test_sanitized
+	@./target/c/file_test_sanitized $(ROOM)
+	@$(CC_FILE) $(SANITIZED) $(TORTURE) lib/pagestore_file.c $(LIBRARY) -o target/c/torture_sanitized
+	@./target/c/torture_sanitized 300 2 $(ROOM) | tail -1
+	@echo '#include "pagestore_file.h"' | g++ -Wall -Wextra -Werror -std=c++11 -Iinclude -Ilib -fsyntax-only -x c++ -
+	@python3 tests/planted_faults.py $(ROOM) $(CC_FILE) $(LIBRARY)
+	@./target/c/torture 300 1 $(ROOM)
+
+ward-check: library
+	@python3 tests/ward.py
+	@$(MAKE) --no-print-directory install PREFIX=target/c/installed
+	@$(CC_TEST:-Iinclude=-Itarget/c/installed/include) $(SANITIZED) examples/ward.c -Ltarget/c/installed/lib -lpagestore \
+	    -o target/c/ward
+	@rm -f target/c/ward.vol && ./target/c/ward target/c/ward.vol new && ./target/c/ward target/c/ward.vol say 1 line \
+	    && ./target/c/ward target/c/ward.vol read 1 | diff - <(echo line)
+	@! ./target/c/ward target/c/ward.vol new 2> /dev/null && ! ./target/c/ward target/c/none.vol read 1 2> /dev/null
+
+# make install            the two headers and the library to PREFIX (/usr/local), below DESTDIR if it is given
+.PHONY: install
+PREFIX ?= /usr/local
+install: library
+	@install -d "$(DESTDIR)$(PREFIX)/include" "$(DESTDIR)$(PREFIX)/lib"
+	@install -m 644 include/pagestore.h lib/pagestore_file.h "$(DESTDIR)$(PREFIX)/include"
+	@install -m 644 $(LIBRARY) "$(DESTDIR)$(PREFIX)/lib"
+
+# make bench-sqlite       durable changes by ours and by SQLite, and the same damage done to both (wants libsqlite3-dev)
+.PHONY: bench-sqlite
+CC_SQLITE = $(CC_TEST) -Ilib -Wl,--wrap=pwrite,--wrap=pwrite64,--wrap=write,--wrap=fsync,--wrap=fdatasync
+bench-sqlite: library
+	@echo '#include <sqlite3.h>' | gcc -E - > /dev/null 2>&1 && test -f "$$(gcc -print-file-name=libsqlite3.a)" || \
+	    { echo "bench-sqlite wants SQLite's header and static library: the Debian package libsqlite3-dev"; exit 2; }
+	@$(CC_SQLITE) bench/sqlite/*.c $(LIBRARY) -l:libsqlite3.a -lm -o target/c/bench_sqlite
+	@disk="$$(mktemp -d target/bench.XXXXXX)"; shm="$$(mktemp -d $(ROOM)/bench.XXXXXX)"; \
+	    ./target/c/bench_sqlite "$$disk" "$$shm"; status=$$?; rm -rf "$$disk" "$$shm"; exit $$status
+
 # make kit-check          tells which Rattle kit is at hand, and which the proofs were last run with (file rattle-kit)
 # make docs-check         the documents against the sources: refusals, names, the quoted example, columns
 .PHONY: kit-check docs-check

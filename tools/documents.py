@@ -16,7 +16,7 @@ from crates import ROOT
 
 WIDTH = 120
 DOCUMENTS = ["README.md"] + sorted(str(p.relative_to(ROOT)) for p in (ROOT / "docs").glob("*.md"))
-NARROW = ["include/*.h", "examples/*.c", "tests/c/*"]
+NARROW = ["include/*.h", "lib/*", "examples/*.c", "tests/c/*", "bench/sqlite/*"]
 
 
 def read(name):
