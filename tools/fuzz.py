@@ -26,13 +26,14 @@ DRIVERS = {"proved": os.path.join(ROOT, "target", "bin", "drive"), "reference": 
 SAVED = os.path.join(ROOT, "target", "fuzz")
 
 # What a run asks for now: scripts of each kind, answers of each sort. A request that adds an operation or an answer adds it here.
-KINDS = ["history", "ring", "arbitrary", "reading", "mirror", "rehearse", "carrying"]  # written in an instant, played in turn
-AIMED = ["reading", "mirror", "rehearse", "carrying"]  # of these, the kinds with a list of cases that all their scripts together have to reach
+KINDS = ["history", "ring", "arbitrary", "reading", "mirror", "rehearse", "carrying", "upkeep"]  # written in an instant, played in turn
+AIMED = ["reading", "mirror", "rehearse", "carrying", "upkeep"]  # of these, the kinds with a list of cases that all their scripts together have to reach
 ONCE = ["full"]  # a large one of each at the start
 SEARCHED = ["mixed", "turning"]  # searched for until every answer is reached; made beside the others
 EXPECTED = [f"REFUSED {n}" for n in range(1, 26)] + ["NOTHING", "OK"]
 EXPECTED += ["GOOD", "BEHIND", "STALE", "FAILED", "AHEAD"] + ["OWN", "BACKUP", "FORMAT"]
 EXPECTED += ["FORECAST", "LENGTH", "PAGES 0", "PAGES"] + ["AGREE", "FIRST", "SECOND", "DIFFERS"] + ["REHEARSED"]
+EXPECTED += ["ADVISE", "IDLE", "STUCK"]
 
 CELL = 64
 CELLS = 2000  # of a script that is written in an instant
@@ -86,6 +87,7 @@ def decode(cell):
              2: f"size of the second buffer {a}"}.get(kind, f"unknown second {kind}"),
         28: f"poke the second buffer, {poke}",
         29: "pages of the archive in the second buffer",
+        31: f"advise, frame {other} left to upkeep",
         30: f"rehearse with {page} frames, a backup after {a}, victims {['written', 'let go'][kind] if kind < 2 else kind}",
     }
     return words.get(op, f"unknown op {op}")

@@ -7,8 +7,8 @@ it; the check must fail there, by a computed test that is now false, and nowhere
 in a proof of `laws` or `history`, for `instances` (a claim that says less, which its proofs still give) also in one of
 its own, and not for a name that is missing or a text that is not read.
 
-    python3 tools/mutants.py [--only WORD] [--file NAME] [--part WORD] [--crate cases|history|instances] [--search]
-                             [--jobs N] [--texts]
+    python3 tools/mutants.py [--only WORD] [--file NAME] [--part WORD] [--search] [--jobs N] [--texts]
+                             [--crate cases|upkeep_cases|history|instances]
 
 --only tries the edits whose name holds WORD, --file those of one definition file, --part those under the headings of
 the list that hold WORD; each may be given more than once, and an edit is tried if it meets one of each option given.
@@ -60,6 +60,26 @@ history : String → List Worked → Bool
 history n [] = true
 history n (w ∷ ws) = let rest = history n ws in let here = cond (computes w) rest false in cond (eqt (w .name) n) here rest
 """
+# the same for the rows of upkeep, which stand in a crate of their own
+UPKEEP_PROBE = """-- One declaration for each row asked for: made by tools/mutants.py.
+use Prim.Native.String.{String}
+use mathlib.Core.Bool.{Bool, true, false, cond}
+use mathlib.Core.List.{List, [], _∷_, _++_}
+use lib.Dec.{T}
+use lib.Text.{eqt}
+use Rattle.cases.specs.Opened.{opened}
+use Rattle.cases.specs.Rows.{Row, same}
+use Rattle.upkeep_cases.specs.Upkeeps.{upkeepRows}
+use Rattle.upkeep_cases.specs.Turns.{turnRows, lockRows}
+
+row : String → List Row → Bool
+row n [] = true
+row n (r ∷ rs) = let rest = row n rs in let here = cond (same (r .found) (r .says)) rest false in cond (eqt (r .name) n) here rest
+
+unfoldable rows : List Row
+rows = upkeepRows ++ (turnRows ++ lockRows)
+"""
+ROW_CRATES = ("cases", "upkeep_cases")
 # what a row's test unfolds: the table's parts, and all that they compute with
 OPENED = (
     "opened rows diskRows callRows turnedRows ringRows ringEvents ringEdges laterRows examinedRows forecastRows "
@@ -102,7 +122,7 @@ def read_edits(text):
 def table():
     """The names of the rows and of the histories, as the specs write them."""
     rows, histories = [], []
-    for path in sorted((ROOT / "crates/cases/specs").glob("*.antt")):
+    for path in sorted(path for crate in ROW_CRATES for path in (ROOT / "crates" / crate / "specs").glob("*.antt")):
         text = path.read_text()
         rows += re.findall(r'\brow\s+"([^"]+)"', text)
         histories += re.findall(r'\bname = "([^"]+)"', text)
@@ -114,18 +134,19 @@ def copy(crate, to):
     for name in lines:
         shutil.copytree(ROOT / "crates" / name, to / "crates" / name)
     (to / "crates.txt").write_text("".join(f"{name}: {' '.join(deps)}\n" for name, deps in lines.items()))
-    if crate == "cases":
-        for path in (to / "crates/cases/proofs").glob("*.antt"):
-            path.unlink()
-        (to / "crates/cases/proofs/Lib.antt").write_text("pub mod Probe\n")
+    if crate in ROW_CRATES:
+        shutil.rmtree(to / "crates/cases/proofs")
+        shutil.rmtree(to / "crates" / crate / "proofs", ignore_errors=True)
+        (to / "crates" / crate / "proofs").mkdir()
+        (to / "crates" / crate / "proofs/Lib.antt").write_text("pub mod Probe\n")
 
 
-def write_probe(to, rows, names):
-    text = PROBE
+def write_probe(crate, to, rows, names):
+    text, opened = (PROBE, OPENED) if crate == "cases" else (UPKEEP_PROBE, "opened rows upkeepRows turnRows lockRows")
     for i, name in enumerate(names):
         kind, of = ("row", "rows") if name in rows else ("history", "allHistories")
-        text += f'\ncaught-{i} : T ({kind} "{name}" {of})\nunfolding {OPENED} {kind}\ncaught-{i} = tt\n'
-    (to / "crates/cases/proofs/Probe.antt").write_text(text)
+        text += f'\ncaught-{i} : T ({kind} "{name}" {of})\nunfolding {opened} {kind}\ncaught-{i} = tt\n'
+    (to / "crates" / crate / "proofs/Probe.antt").write_text(text)
 
 
 def check(crate, to):
@@ -140,10 +161,10 @@ def check(crate, to):
     return run.returncode, errors, out
 
 
-def try_cases(to, rows, names):
+def try_cases(crate, to, rows, names):
     """Which of the names catch the edit; None where it is no definition or there is no verdict."""
-    write_probe(to, rows, names)
-    status, errors, out = check("cases", to)
+    write_probe(crate, to, rows, names)
+    status, errors, out = check(crate, to)
     caught = []
     for path, text in errors:
         hit = re.match(FALSE, text, re.S)
@@ -188,13 +209,13 @@ def apply(to, edit):
 def judge(crate, to, edit, rows, wanted):
     """Whether the edit is caught, and the words that say by what."""
     undo = apply(to, edit)
-    caught, why = try_cases(to, rows, wanted) if crate == "cases" else try_proofs(crate, to)
+    caught, why = try_cases(crate, to, rows, wanted) if crate in ROW_CRATES else try_proofs(crate, to)
     undo()
     if caught is None:
         return False, "no verdict: " + why
     if not caught:
         return False, "SURVIVES"
-    missed = [name for name in edit["caught"] if crate == "cases" and name not in caught]
+    missed = [name for name in edit["caught"] if crate in ROW_CRATES and name not in caught]
     return not missed, "caught by " + "; ".join(caught) + ("; NOT by " + "; ".join(missed) if missed else "")
 
 
@@ -229,17 +250,17 @@ def texts(edits):
     return found
 
 
-def sound(edits):
+def sound(crate, edits):
     """The rows and histories that the edits name are there, and hold of the definitions as they are."""
     rows, named, lost = names(edits)
     if lost:
-        print("cases: no such row or history: " + "; ".join(lost))
+        print(f"{crate}: no such row or history: " + "; ".join(lost))
         return False
     with tempfile.TemporaryDirectory() as folder:
-        copy("cases", Path(folder))
-        caught, why = try_cases(Path(folder), rows, named)
+        copy(crate, Path(folder))
+        caught, why = try_cases(crate, Path(folder), rows, named)
     if caught or caught is None:
-        print(f"cases: the definitions as they are: {'; '.join(caught or [why])}")
+        print(f"{crate}: the definitions as they are: {'; '.join(caught or [why])}")
     return caught == []
 
 
@@ -257,7 +278,7 @@ def main():
     words.add_argument("--only", action="append")
     words.add_argument("--file", action="append")
     words.add_argument("--part", action="append")
-    words.add_argument("--crate", choices=["cases", "history", "instances"])
+    words.add_argument("--crate", choices=[*ROW_CRATES, "history", "instances"])
     words.add_argument("--search", action="store_true")
     words.add_argument("--jobs", type=int, default=1)
     words.add_argument("--texts", action="store_true")
@@ -270,11 +291,11 @@ def main():
         print("\n".join(found or [f"the {len(edits)} edits of mutants.txt find their texts"]))
         return 1 if found else 0
     failed = 0
-    for crate in [given.crate] if given.crate else ["cases", "history", "instances"]:
+    for crate in [given.crate] if given.crate else [*ROW_CRATES, "history", "instances"]:
         mine = [e for e in edits if crate in e["crates"]]
         if not needed(crate):
             print(f"{crate}: there is no such crate yet; {len(mine)} edits wait for it")
-        elif crate == "cases" and not sound(mine):
+        elif crate in ROW_CRATES and not sound(crate, mine):
             failed += 1
         else:
             with ThreadPoolExecutor(given.jobs) as pool:

@@ -1,6 +1,7 @@
 //! What a call answers: refusals with document 01's numbers, and results.
 
 use crate::compare::Comparison;
+use crate::upkeep::Advice;
 use std::fmt;
 
 /// Why a call is refused. The value is the number in the table of refusals.
@@ -88,6 +89,8 @@ pub enum Answer {
     Compared(Comparison, u64),
     /// A hash of the figures.
     Rehearsed(u64),
+    /// What upkeep says.
+    Advised(Advice),
     Refused(Refusal),
 }
 
@@ -137,6 +140,7 @@ impl fmt::Display for Answer {
             Answer::Pages(pages) => write!(out, "PAGES {pages}"),
             Answer::Compared(comparison, hash) => write!(out, "{comparison} {hash}"),
             Answer::Rehearsed(hash) => write!(out, "REHEARSED {hash}"),
+            Answer::Advised(advice) => advice.fmt(out),
             Answer::Refused(refusal) => write!(out, "REFUSED {}", refusal.number()),
         }
     }

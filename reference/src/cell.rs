@@ -68,6 +68,10 @@ pub enum Call {
     Pages,
     /// The second buffer's events.
     Rehearse(Settings),
+    /// What upkeep says; the frame is left to it.
+    Advise {
+        frame: u16,
+    },
 }
 
 /// What a cell asks of the driver.
@@ -122,6 +126,7 @@ impl Call {
             Call::Compare => 26,
             Call::Pages => 29,
             Call::Rehearse(_) => 30,
+            Call::Advise { .. } => 31,
         }
     }
 }
@@ -163,6 +168,7 @@ pub fn decode(cell: &Cell) -> Op {
             Some(victim) => Call::Rehearse(Settings { frames: page, interval: number_a, victim }),
             None => return Op::Skip,
         },
+        31 => Call::Advise { frame: frame_or_slot },
         11 => {
             return Op::Sizes {
                 volume: number_a,

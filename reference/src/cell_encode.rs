@@ -85,6 +85,7 @@ fn encode_call(call: &Call, cell: &mut Cell) {
             put_u16(cell, 2, frames);
             put_u32(cell, NUMBER_A, interval);
         }
+        Call::Advise { frame } => put_u16(cell, 4, frame),
         // No arguments.
         _ => {}
     }

@@ -4,7 +4,7 @@ use crate::answer::{Answer, Refusal};
 use crate::cell::{decode, Call, Cell, Op};
 use crate::coverage_carry::{carry_cases, carry_targets};
 use crate::coverage_reading::{cases, mirror_targets, reading_targets, rehearse_targets};
-use crate::coverage_table::{is_reading, name_of, ROWS};
+use crate::coverage_table::{is_reading, name_of, ROWS, UPKEEP_ROWS};
 use crate::driver::Driver;
 use crate::fault::Fault;
 use crate::geometry::{frame_count, Geometry};
@@ -12,6 +12,7 @@ use crate::heading::Heading;
 use crate::restart::recover;
 use crate::sound::clause_names;
 use crate::state::State;
+use crate::upkeep::RULES;
 use crate::walk::rebuild;
 use std::collections::{BTreeMap, BTreeSet};
 
@@ -87,8 +88,15 @@ pub fn sought(kind: &str) -> Option<BTreeSet<Hit>> {
         "mirror" => Some(mirror_targets()),
         "rehearse" => Some(rehearse_targets()),
         "carrying" => Some(carry_targets()),
+        "upkeep" => Some(upkeep_targets()),
         _ => None,
     }
+}
+
+/// What upkeep can say, by each of its rules.
+fn upkeep_targets() -> BTreeSet<Hit> {
+    let rules = RULES.iter().map(|rule| (CAUSE, rule.to_string()));
+    UPKEEP_ROWS.iter().flat_map(|row| row.hits()).chain(rules).collect()
 }
 
 /// The call of a cell, if it is one.
@@ -114,6 +122,7 @@ pub fn hits(cells: &[Cell]) -> BTreeSet<Hit> {
         all.insert((name_of(&call), label(&answer.to_string())));
         let behind = match answer {
             _ if is_reading(&call) => cases(&driver, &call, &answer),
+            Answer::Advised(_) => rules(&driver, &call),
             Answer::Refused(refusal) => {
                 cause(&driver, &state, &call, refusal).into_iter().collect()
             }
@@ -123,6 +132,15 @@ pub fn hits(cells: &[Cell]) -> BTreeSet<Hit> {
         all.extend(behind.into_iter().chain(carried).map(|cause| (CAUSE, cause)));
     }
     all
+}
+
+/// The rules by which upkeep says what it says.
+fn rules(driver: &Driver, call: &Call) -> Vec<String> {
+    let Call::Advise { frame } = *call else {
+        return Vec::new();
+    };
+    let said = driver.state.upkeep_by_rule(driver.volume(), driver.memory(), frame);
+    said.map_or(Vec::new(), |(_, rules)| rules.iter().map(|rule| rule.to_string()).collect())
 }
 
 /// Whether a call's cases need the driver as it was.

@@ -75,6 +75,10 @@ pub const MIRROR_ROWS: &[Row] = &[Row {
     answers: &["AGREE", "FIRST", "SECOND", "DIFFERS"],
 }];
 
+/// What upkeep says.
+pub const UPKEEP_ROWS: &[Row] =
+    &[Row { name: "advise", refusals: &[1, 2, 4], answers: &["ADVISE", "IDLE", "STUCK"] }];
+
 /// The call that takes no volume.
 pub const REHEARSE_ROWS: &[Row] =
     &[Row { name: "rehearse", refusals: &[25], answers: &["REHEARSED"] }];
@@ -110,5 +114,6 @@ pub fn name_of(call: &Call) -> &'static str {
         Call::Compare => "compare",
         Call::Pages => "pages",
         Call::Rehearse(_) => "rehearse",
+        Call::Advise { .. } => "advise",
     }
 }

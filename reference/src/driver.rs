@@ -143,6 +143,10 @@ impl Driver {
             Call::Start => state.start(volume, memory),
             Call::Restamp => state.restamp(volume, memory),
             Call::Finish => state.finish(volume, memory),
+            Call::Advise { frame } => {
+                let advice = state.upkeep(volume, memory, frame);
+                (state, advice.map_or_else(Answer::Refused, Answer::Advised))
+            }
             _ => (state, self.read(call)),
         };
         self.state = state;

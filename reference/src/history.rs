@@ -149,7 +149,7 @@ fn start_in_the_way(world: &World, call: &Call) -> Option<Place> {
 }
 
 /// A cut between calls or within this one.
-fn cut(world: &World, call: Call, rng: &mut Rng) -> Event {
+pub fn cut(world: &World, call: Call, rng: &mut Rng) -> Event {
     if rng.chance(150) {
         return Event::Cut { within: None, left: Left::Old };
     }

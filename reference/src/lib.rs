@@ -66,5 +66,7 @@ pub mod script;
 pub mod section;
 pub mod sound;
 pub mod state;
+pub mod upkeep;
+pub mod upkeep_episodes;
 pub mod walk;
 pub mod world;

@@ -27,7 +27,7 @@ impl State {
     }
 
     /// Whether the noted backup of the record's page is at or above it.
-    fn is_spare_record(&self, number: u32, record: &[u8], geometry: &Geometry) -> bool {
+    pub(crate) fn is_spare_record(&self, number: u32, record: &[u8], geometry: &Geometry) -> bool {
         let page = Record::page_of(record);
         if !(1..=geometry.pages).contains(&usize::from(page)) {
             return false;

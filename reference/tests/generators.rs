@@ -8,6 +8,7 @@ use reference::driver::drive;
 use reference::history::{history_script, ring_script};
 use reference::reading::{carrying_script, mirror_script, reading_script, rehearse_script};
 use reference::rng::Rng;
+use reference::upkeep_episodes::upkeep_script;
 use std::collections::BTreeSet;
 
 #[test]
@@ -37,7 +38,7 @@ fn scripts_give_only_answers_that_the_table_knows() {
         reached.extend(hits(&history_script(&mut Rng::new(seed), 1_000)));
         reached.extend(hits(&ring_script(&mut Rng::new(seed), 1_000)));
     }
-    let kinds = ["mixed", "turning", "reading", "mirror", "rehearse", "carrying"];
+    let kinds = ["mixed", "turning", "reading", "mirror", "rehearse", "carrying", "upkeep"];
     let known: BTreeSet<_> = kinds.into_iter().flat_map(sought).flatten().collect();
     let unknown: Vec<_> = reached.difference(&known).collect();
     assert!(unknown.is_empty(), "{unknown:?}");
@@ -51,6 +52,11 @@ fn left_out(kind: &str, script: fn(&mut Rng, usize) -> Vec<Cell>) {
         missing = missing.difference(&reached).cloned().collect();
     }
     assert!(missing.is_empty(), "{missing:?}");
+}
+
+#[test]
+fn upkeep_scripts_reach_all_that_they_are_for() {
+    left_out("upkeep", upkeep_script);
 }
 
 #[test]

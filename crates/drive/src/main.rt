@@ -1,6 +1,7 @@
 // Drives the store by a script of cells on standard input, at most 4,096, and prints a line for each: what the call
 // answered, and hashes of all that it may have changed. It holds the proved store against an independent
 // implementation, so nothing is proved of it but that it is safe and ends.
+mod advice;
 mod archive;
 mod calls;
 mod cell;
@@ -34,6 +35,7 @@ fn turn(
         23..=25 | 29 => archive::turn(b, c, volume, lent, second),
         26 => mirror::turn(b, volume, second),
         30 => rehearse::turn(b, c, second),
+        31 => advice::turn(b, c, volume, memory),
         _ => setup::turn(b, c, volume, memory, lent, second),
     }
 }

@@ -31,6 +31,12 @@ pub fn said(s: Said) -> bool {
         Said::Second(n, h) => compared(b"SECOND ", n, h),
         Said::Differs(n, h) => compared(b"DIFFERS ", n, h),
         Said::Rehearsed(h) => told(b"REHEARSED ", h),
+        Said::Idle => say(b"IDLE"),
+        Said::Stuck(page) => told(b"STUCK ", page),
+        Said::Advise(c, page, other, byte) => {
+            compared(b"ADVISE ", c, page);
+            compared(b" ", other, byte);
+        }
     }
     true
 }

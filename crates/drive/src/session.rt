@@ -25,6 +25,9 @@ pub enum Said {
     Second(u32, u32),
     Differs(u32, u32),
     Rehearsed(u32),
+    Idle,
+    Stuck(u32),
+    Advise(u32, u32, u32, u32),
 }
 
 pub struct Turn {

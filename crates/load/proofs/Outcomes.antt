@@ -118,7 +118,7 @@ module _ (v m : List ℕ) (s : State) (page frame : ℕ) where
         ap (λ (x : ℕ). h g x e) ef ∙ ap (λ (k : Geometry). h k (firstHeld k v (s .durable)) e) (o .geometry)
         ∙ ap (h (geometryOf v) (firstHeld (geometryOf v) v (s .durable))) (o .entry)
 
-    decides : (c : Walked) (n : ℕ) → c ≡ walkedOf g page (viewOf g v f e page) → n ≡ firstOf (walkTail (c .stop))
+    pub decides : (c : Walked) (n : ℕ) → c ≡ walkedOf g page (viewOf g v f e page) → n ≡ firstOf (walkTail (c .stop))
         → firstOf (loadRows v m s page frame) ≡ n
     unfolding walkedOf
     decides c n ec en =

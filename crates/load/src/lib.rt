@@ -1,4 +1,6 @@
-// Load: brings a page into a frame, repaired. The module `release` lets it go again.
+// Load: brings a page into a frame, repaired. The module `release` lets it go again; `probe` tells what Load would
+// answer.
+pub mod probe;
 pub mod release;
 
 ghost use mathlib.Core.Path.{_≡_};

@@ -17,7 +17,7 @@ use volume::ring;
 
 // Record j is not known to be spare: it is pending, or it stands whole in its slot and its page has no noted backup at
 // or above it.
-fn needed(s: State, volume: &[u8], g: Geometry, j: u32) -> bool
+pub fn needed(s: State, volume: &[u8], g: Geometry, j: u32) -> bool
     requires { ⌜ (validVolume (now volume) ≡ true) × (g ≡ geometryOf (now volume)) ⌝ }
     ensures { λ r. ⌜ r ≡ recordNeeded g (now (volume .entry)) s j ⌝ }
 {

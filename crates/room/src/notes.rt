@@ -45,7 +45,7 @@ fn like(volume: &[u8], g: Geometry, j: u32, i: u32) -> bool
 }
 
 // Note j, of k, is not known to be spare: it stands whole, and no later one of its page and kind does.
-fn needed(volume: &[u8], g: Geometry, k: u32, j: u32) -> bool
+pub fn needed(volume: &[u8], g: Geometry, k: u32, j: u32) -> bool
     requires { ⌜ (validVolume (now volume) ≡ true) × (g ≡ geometryOf (now volume)) × (1 ≤ g .notes) × (j ≤ k) ⌝ }
     ensures { λ r. ⌜ r ≡ noteNeeded g (now (volume .entry)) k j ⌝ }
 {

@@ -7,11 +7,12 @@ use reference::history::{history_script, ring_script};
 use reference::mixed::mixed_script;
 use reference::reading::{carrying_script, mirror_script, reading_script, rehearse_script};
 use reference::rng::Rng;
+use reference::upkeep_episodes::upkeep_script;
 use std::io::{self, Write};
 use std::process::ExitCode;
 
 const KINDS: &str =
-    "history, ring, arbitrary, reading, mirror, rehearse, carrying, full, mixed or turning";
+    "history, ring, arbitrary, reading, mirror, rehearse, carrying, upkeep, full, mixed or turning";
 
 fn main() -> io::Result<ExitCode> {
     let mut rng = Rng::new(value("--seed", 1));
@@ -25,6 +26,7 @@ fn main() -> io::Result<ExitCode> {
         "mirror" => mirror_script(&mut rng, cells),
         "rehearse" => rehearse_script(&mut rng, cells),
         "carrying" => carrying_script(&mut rng, cells),
+        "upkeep" => upkeep_script(&mut rng, cells),
         "full" => full_script(&mut rng),
         "mixed" | "turning" => {
             let (script, missing) = mixed_script(&mut rng, cells, kind == "turning");

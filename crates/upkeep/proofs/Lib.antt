@@ -1,0 +1,6 @@
+-- Laws that belong to no one function.
+pub mod Search
+pub mod LogPositions
+pub mod NotePositions
+pub mod Slots
+pub mod Advice

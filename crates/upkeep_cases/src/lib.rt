@@ -1,0 +1,1 @@
+// No code: worked rows of upkeep, computed (specs/).

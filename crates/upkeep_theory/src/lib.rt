@@ -1,0 +1,1 @@
+// No code: what is proved of upkeep (proofs/), and its worked rows (specs/).
