@@ -17,7 +17,7 @@ test:
 quick: docs-check
 	@rt fmt --check
 	@rt check
-	@$(MAKE) --no-print-directory demo-check carry-check example-check c-test
+	@$(MAKE) --no-print-directory demo-check example-check c-test tool-check
 
 # make edits [CRATES=..]  the must-fail edits that are not in the gate (tests/edits), all or those of some crates (long)
 .PHONY: edits
@@ -33,13 +33,8 @@ CHECK = python3 tools/prove.py check
 STATICLIB = python3 tools/prove.py staticlib
 
 # make scan VOLUME=file   the program on a volume of your own (at most 32,768 bytes)
-# make forecast VOLUME=file   how many log records each page's repair replays (at most 32,768 bytes)
-# make archive VOLUME=file    the volume's log archive, to standard output
-# make unarchive ARCHIVE=file   what a log archive holds: a line a page
-# make mirror FIRST=file SECOND=file   two volumes' logs held against each other
-# make carry VOLUME=file OUT=file   a volume carried over to the second heading, as a new file; what was done is told
-.PHONY: scan forecast archive unarchive mirror carry scan-program demo-check
-export VOLUME ARCHIVE FIRST SECOND OUT
+.PHONY: scan scan-program demo-check
+export VOLUME
 # The file that a target is given by name, as VOLUME=file.
 define GIVEN
 @test -n "$${$(1):-}" || { echo "say which file: make $@ $(1)=file"; exit 2; }
@@ -62,36 +57,6 @@ scan:
 	@$(MAKE) --no-print-directory scan-program
 	@./target/bin/scan < "$$VOLUME"
 
-forecast:
-	$(call GIVEN,VOLUME)
-	@$(CHECK) forecast
-	@./target/bin/forecast < "$$VOLUME"
-
-carry:
-	$(call GIVEN,VOLUME)
-	@test -n "$${OUT:-}" || { echo "say where to: make carry VOLUME=file OUT=file"; exit 2; }
-	@test ! -e "$$OUT" || { echo "make carry: there is a file $$OUT already"; exit 2; }
-	@$(CHECK) carry
-	@./target/bin/carry < "$$VOLUME" > "$$OUT.part"
-	@if test -s "$$OUT.part"; then mv "$$OUT.part" "$$OUT"; else rm "$$OUT.part"; exit 1; fi
-
-# What is said of the proof goes to standard error: the archive alone is standard output.
-archive:
-	$(call GIVEN,VOLUME)
-	@$(CHECK) archive >&2
-	@./target/bin/archive < "$$VOLUME"
-
-unarchive:
-	$(call GIVEN,ARCHIVE)
-	@$(CHECK) unarchive
-	@./target/bin/unarchive < "$$ARCHIVE"
-
-mirror:
-	$(call GIVEN,FIRST)
-	$(call GIVEN,SECOND)
-	@$(CHECK) mirror
-	@./target/bin/mirror "$$FIRST" "$$SECOND"
-
 # make rehearse [LIST=file]   frames and backup habits tried on the two lists, or on a list of events of one's own
 .PHONY: rehearse
 rehearse:
@@ -113,20 +78,8 @@ demo-check: scan-program
 	    python3 tools/sample.py $$name target/$$name.vol && cmp target/$$name.vol samples/$$name.vol \
 	    && ./target/bin/scan < samples/$$name.vol 2>&1 | diff - samples/$${name%-first}.txt || exit 1; \
 	done
-	@python3 tools/sample.py visit target/visit.vol && cmp target/visit.vol crates/forecast/stdin \
+	@python3 tools/sample.py visit target/visit.vol \
 	    && ./target/bin/scan < target/visit.vol 2>&1 | diff - <(echo REFUSED 23)
-	@python3 tools/sample.py demo-archive target/demo.arc && cmp target/demo.arc crates/archive/stdout \
-	    && cmp target/demo.arc crates/unarchive/stdin && cmp samples/demo.vol crates/archive/stdin
-	@python3 tools/sample.py mirror target/mirror.vol && cmp target/mirror.vol crates/mirror/data/mirror.vol \
-	    && cmp samples/demo.vol crates/mirror/data/ward.vol
-
-# make carry-check        the sample volume of the first heading carried over is that of the second, byte by byte
-.PHONY: carry-check
-carry-check:
-	@$(CHECK) carry
-	@./target/bin/carry < samples/demo-first.vol 2> target/carried.txt | cmp - samples/demo.vol
-	@printf 'RESTAMPED 4\nFAILING 4\n' | diff target/carried.txt -
-	@./target/bin/carry < samples/demo.vol 2>&1 | diff - <(echo REFUSED 1)
 
 # make library            the store for C: target/libpagestore.a, the proved functions and the plain C of lib/
 # make c-test             the C functions: K6 to K12, every refusal, full, smallest and random volumes, the stack they take
@@ -154,13 +107,14 @@ c-test: library
 	@$(call C_TEST,compare,tests/c/history.c tests/c/volume.c)
 	@$(call C_TEST,store,tests/c/box.c tests/c/volume.c)
 	@$(call C_TEST,cases,tests/c/box.c tests/c/volume.c)
+	@$(call C_TEST,upkeep,tests/c/box.c tests/c/volume.c)
 	@$(call C_TEST,stack,tests/c/painted.c tests/c/box.c tests/c/volume.c)
 	@$(MAKE) --no-print-directory c-sanitized
 
 # The header as C++, and the store's tests with the caller's side sanitized.
 c-sanitized: library
 	@echo '#include "pagestore.h"' | g++ -Wall -Wextra -Wpedantic -Werror -std=c++11 -Iinclude -x c++ -fsyntax-only -
-	@for test in store cases; do \
+	@for test in store cases upkeep; do \
 	    $(CC_TEST) -g -fsanitize=address,undefined -fno-sanitize-recover=all tests/c/$${test}_test.c tests/c/box.c \
 	        tests/c/volume.c $(LIBRARY) -o target/c/$${test}_sanitized && ./target/c/$${test}_sanitized | tail -1 \
 	        || exit 1; \
@@ -180,7 +134,8 @@ guide-check: library
 	@./target/c/guide target/c/guide.vol > target/c/guide.txt
 	@sed -n '/^    gcc .*guide/,/^$$/p' docs/C.md | sed '1d;$$d;s/^    //' | diff target/c/guide.txt -
 
-# make torture            the store in a file, killed, cut and damaged, against a plain book; ROUNDS=300, SEED=1
+# make torture            the store in a file, killed, cut and damaged, against a plain book; ROUNDS=300, SEED=1,
+#                         MODE=upkeep: small rings, and no call may be refused for room
 # make torture-check      300 rounds of it, failing calls of the system, both sanitized too, faults planted in the layer
 # make ward-check         README's story of examples/ward.c, word by word
 .PHONY: torture torture-check torture-program ward-check
@@ -191,13 +146,13 @@ SANITIZED = -g -fsanitize=address,undefined -fno-sanitize-recover=all
 # a file system without a disk, where syncs cost nothing
 ROOM = $(if $(wildcard /dev/shm),/dev/shm,/tmp)
 TORTURE = $(patsubst %,tests/c/%.c,torture caller book harm disk volume)
-FILE_TEST = $(patsubst %,tests/c/%.c,file_test file_faults disk volume)
+FILE_TEST = $(patsubst %,tests/c/%.c,file_test file_faults file_upkeep disk volume)
 
 torture-program: library
 	@$(CC_FILE) $(TORTURE) $(LIBRARY) -o target/c/torture
 
 torture: torture-program
-	@./target/c/torture $(ROUNDS) $(SEED) $(ROOM)
+	@./target/c/torture $(ROUNDS) $(SEED) $(ROOM) $(MODE)
 
 torture-check: torture-program
 	@$(CC_FILE) $(FILE_TEST) $(LIBRARY) -o target/c/file_test
@@ -209,6 +164,7 @@ torture-check: torture-program
 	@echo '#include "pagestore_file.h"' | g++ -Wall -Wextra -Werror -std=c++11 -Iinclude -Ilib -fsyntax-only -x c++ -
 	@python3 tests/planted_faults.py $(ROOM) $(CC_FILE) $(LIBRARY)
 	@./target/c/torture 300 1 $(ROOM)
+	@./target/c/torture 2000 1 $(ROOM) upkeep
 
 ward-check: library
 	@python3 tests/ward.py
@@ -219,13 +175,65 @@ ward-check: library
 	    && ./target/c/ward target/c/ward.vol read 1 | diff - <(echo line)
 	@! ./target/c/ward target/c/ward.vol new 2> /dev/null && ! ./target/c/ward target/c/none.vol read 1 2> /dev/null
 
-# make install            the two headers and the library to PREFIX (/usr/local), below DESTDIR if it is given
-.PHONY: install
+# make tool               the field engineer's tool: target/bin/pagestore, static
+# make tool-check         every command, status, sentence, JSON name; 10,000 mutated files, sanitized; the pictures
+.PHONY: tool tool-check pictures
+TOOL = target/bin/pagestore
+TOOL_PARTS = $(filter-out tool/main.c,$(wildcard tool/*.c))
+# the sanitized tool has what is C of the library compiled along with it
+CC_SANITIZED = $(CC_TEST) -Ilib $(SANITIZED) $(TOOL_PARTS) lib/*.c
+MUTANTS ?= 10000
+tool: library
+	@mkdir -p target/bin
+	@$(CC_TEST) -Ilib -static tool/*.c $(LIBRARY) -o $(TOOL)
+
+tool-check: tool
+	@python3 tests/tool/tool_test.py $(TOOL)
+	@for name in demo turned; do $(TOOL) map samples/$$name.vol -o - | diff -q - samples/$$name.svg || exit 1; done
+	@$(CC_SANITIZED) tool/main.c $(LIBRARY) -o target/c/pagestore_sanitized
+	@python3 tests/tool/tool_test.py target/c/pagestore_sanitized
+	@$(CC_SANITIZED) tests/tool/mutants.c $(LIBRARY) -o target/c/mutants
+	@./target/c/mutants $(MUTANTS) 1 $(ROOM) samples/*.vol
+	@python3 tools/sample.py full target/full.vol && ./target/c/mutants 40 2 $(ROOM) target/full.vol
+
+# make pictures           writes the stored pictures anew (then look at them in a browser)
+pictures: tool
+	@for name in demo turned; do $(TOOL) map samples/$$name.vol -o samples/$$name.svg --force || exit 1; done
+
+# make lesson             the trainer's four checks as a page to open offline: docs/lesson.html
+# make dist               the bundle for a closed network: target/pagestore-VERSION-x86_64-linux.tar.gz
+# make dist-check         the bundle built twice, unpacked and used where neither the kit nor the sources are
+# make install            what the bundle holds to PREFIX (/usr/local), below DESTDIR if it is given; make uninstall
+.PHONY: lesson lesson-check dist dist-check install uninstall
 PREFIX ?= /usr/local
-install: library
-	@install -d "$(DESTDIR)$(PREFIX)/include" "$(DESTDIR)$(PREFIX)/lib"
-	@install -m 644 include/pagestore.h lib/pagestore_file.h "$(DESTDIR)$(PREFIX)/include"
-	@install -m 644 $(LIBRARY) "$(DESTDIR)$(PREFIX)/lib"
+BUNDLE = target/pagestore-$(shell cat VERSION)-x86_64-linux.tar.gz
+LESSON = $(CC_TEST) lesson/checks.c $(LIBRARY) -o target/c/checks && python3 tools/lesson.py target/c/checks $(TOOL)
+lesson: tool
+	@$(LESSON) docs/lesson.html
+
+lesson-check: tool
+	@$(LESSON) target/lesson.html
+	@diff -q target/lesson.html docs/lesson.html
+
+dist: tool
+	@python3 tools/dist.py bundle $(BUNDLE)
+	@echo $(BUNDLE)
+
+dist-check: lesson-check
+	@command -v pkg-config > /dev/null || { echo "dist-check wants the Debian package pkg-config"; exit 2; }
+	@$(MAKE) --no-print-directory dist > /dev/null && mv $(BUNDLE) target/first.tar.gz && rm -f $(TOOL) $(LIBRARY)
+	@$(MAKE) --no-print-directory dist > /dev/null && cmp $(BUNDLE) target/first.tar.gz
+	@python3 tests/tool/dist_test.py $(BUNDLE)
+	@rm -rf target/installed && $(MAKE) --no-print-directory install DESTDIR=target/installed PREFIX=/usr
+	@./target/installed/usr/bin/pagestore show samples/demo.vol 4 | grep -q "06:10 bed 4 moved"
+	@$(MAKE) --no-print-directory uninstall DESTDIR=target/installed PREFIX=/usr
+	@test -z "$$(find target/installed -type f -o -path '*pagestore*')"
+
+install: tool
+	@DESTDIR="$(DESTDIR)" python3 tools/dist.py install "$(PREFIX)"
+
+uninstall:
+	@DESTDIR="$(DESTDIR)" python3 tools/dist.py uninstall "$(PREFIX)"
 
 # make bench-sqlite       durable changes by ours and by SQLite, and the same damage done to both (wants libsqlite3-dev)
 .PHONY: bench-sqlite

@@ -15,11 +15,29 @@
 #include <unistd.h>
 
 enum { PAGES = 8, SLOTS = 9, RECORDS = 1024, NOTES = 1024 };
+enum { OWN = 1, SPARE = 2, FRAMES = 2 }; /* the page that is read or written is in the first, the second is upkeep's */
 
 /* Tells what an answer means; gives the exit status. */
 static int failed(const char *what, int answer) {
     fprintf(stderr, "%s: %s\n", what, answer < 0 ? strerror(-answer) : pagestore_text((uint32_t)answer));
     return 1;
+}
+
+/* Upkeep, before every call of ours: then none is refused for room, however long the file is used. A page that it is
+ * stuck at is lost, and in the end the file with it; until then the others go on. */
+static int upkeep(struct pagestore_file *file) {
+    int answer = pagestore_file_upkeep(file, SPARE);
+    if (answer != (int)PAGESTORE_PAGE_LOST) return answer;
+    fprintf(stderr, "(page %u is lost: copy the other pages to a new file)\n",
+            (unsigned)pagestore_file_report(file)[PAGESTORE_REPORT_PAGE]);
+    return 0;
+}
+
+/* Brings the page into its frame; upkeep may have it in the other. */
+static int bring_in(struct pagestore_file *file, uint32_t page) {
+    int answer = upkeep(file);
+    if (answer == 0 && pagestore_file_text(file, page) != NULL) answer = pagestore_file_release(file, page);
+    return answer == 0 ? pagestore_file_load(file, page, OWN) : answer;
 }
 
 /* The length of the thread in a body: all up to the last newline. */
@@ -35,30 +53,26 @@ static int put_line(struct pagestore_file *file, uint32_t page, uint32_t offset,
     for (uint32_t done = 0, n; done < length; done += n) {
         if (done > 0 && pause != NULL) sleep((unsigned)atoi(pause));
         n = length - done < PAGESTORE_PAYLOAD_MAX ? length - done : PAGESTORE_PAYLOAD_MAX;
-        int answer = pagestore_file_change(file, page, PAGESTORE_PUT, offset + done, n, 0,
-                                           (const uint8_t *)line + done, n);
+        int answer = upkeep(file);
+        if (answer == 0)
+            answer = pagestore_file_change(file, page, PAGESTORE_PUT, offset + done, n, 0, (const uint8_t *)line + done,
+                                           n);
         if (answer == 0) answer = pagestore_file_commit(file);
         if (answer != 0) return answer;
     }
     return 0;
 }
 
-/* Stores the page's image and a backup of it, so that its log records are spare. The line is kept already: where this
- * is refused nothing is lost. */
+/* Stores the page's image, so that the next load is short; backups are upkeep's. The line is kept already: where this
+ * fails nothing is lost. */
 static void tidy(struct pagestore_file *file, uint32_t page) {
-    int answer = pagestore_file_write(file, page);
-    if (answer == 0) pagestore_file_note(file);
-    for (uint32_t slot = 1; slot <= SLOTS; slot++) {
-        answer = pagestore_file_backup(file, page, slot);
-        if (answer != (int)PAGESTORE_SLOT_IN_USE) break;
-    }
-    if (answer == 0) pagestore_file_note(file);
+    if (upkeep(file) == 0 && pagestore_file_write(file, page) == 0) pagestore_file_note(file);
 }
 
 static int say(struct pagestore_file *file, uint32_t page, const char *text) {
     char line[PAGESTORE_BODY_SIZE + 1];
-    int answer = pagestore_file_load(file, page, 1);
-    if (answer == (int)PAGESTORE_BLANK_PAGE) answer = pagestore_file_begin(file, page, 1, 0);
+    int answer = bring_in(file, page);
+    if (answer == (int)PAGESTORE_BLANK_PAGE) answer = pagestore_file_begin(file, page, OWN, 0);
     if (answer != 0) return failed("not kept", answer);
     uint32_t offset = thread_length(pagestore_file_text(file, page)), room = PAGESTORE_BODY_SIZE - offset;
     size_t length = strlen(text) + 1;
@@ -76,7 +90,7 @@ static int say(struct pagestore_file *file, uint32_t page, const char *text) {
 }
 
 static int read_thread(struct pagestore_file *file, uint32_t page) {
-    int answer = pagestore_file_load(file, page, 1);
+    int answer = bring_in(file, page);
     if (answer == (int)PAGESTORE_BLANK_PAGE) return 0;
     if (answer != 0) return failed("cannot be read", answer);
     uint32_t class = pagestore_file_report(file)[PAGESTORE_REPORT_CLASS];
@@ -101,7 +115,7 @@ int main(int argc, char **argv) {
         return answer == 0 ? 0 : failed(argv[1], answer);
     }
     if ((!says && !reads) || *end != '\0' || page < 1 || page > PAGES) return usage();
-    int answer = pagestore_file_open(&file, argv[1], 1);
+    int answer = pagestore_file_open(&file, argv[1], FRAMES);
     if (answer != 0) return failed(argv[1], answer);
     int status = says ? say(file, (uint32_t)page, argv[4]) : read_thread(file, (uint32_t)page);
     answer = pagestore_file_close(file);

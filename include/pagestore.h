@@ -236,6 +236,37 @@ uint32_t pagestore_restamp(uint8_t *volume, size_t volume_len, const uint8_t *me
 uint32_t pagestore_finish_carry(uint8_t *volume, size_t volume_len, const uint8_t *memory, size_t memory_len,
                                 uint32_t *state, size_t state_len, uint32_t *report, size_t report_len);
 
+/* ---- upkeep: which call to make next ---- */
+
+/* What upkeep says (docs/UPKEEP.md), by place: which of the three it is, the call to make by its number, its page, its
+ * frame or slot, and of a change kind, length, offset and the byte to put; 0 where there is none. Stuck names its page.
+ * Begin, release and the carrying calls are never named. */
+#define PAGESTORE_UPKEEP_SIZE 8u
+#define PAGESTORE_UPKEEP_KIND 0u
+#define PAGESTORE_UPKEEP_NUMBER 1u
+#define PAGESTORE_UPKEEP_PAGE 2u
+#define PAGESTORE_UPKEEP_PLACE 3u          /* load: the frame; backup: the slot */
+#define PAGESTORE_UPKEEP_CHANGE 4u         /* kind of the change, with fill 0 */
+#define PAGESTORE_UPKEEP_LENGTH 5u
+#define PAGESTORE_UPKEEP_OFFSET 6u
+#define PAGESTORE_UPKEEP_BYTE 7u           /* first byte of the payload; it has no other */
+
+#define PAGESTORE_UPKEEP_IDLE 0u           /* nothing to do */
+#define PAGESTORE_UPKEEP_CALL 1u           /* make that call, and ask again */
+#define PAGESTORE_UPKEEP_STUCK 2u          /* the page cannot be renewed: it is lost, or the box was locked before */
+
+#define PAGESTORE_CALL_LOAD 4u
+#define PAGESTORE_CALL_CHANGE 5u
+#define PAGESTORE_CALL_FORCE 6u
+#define PAGESTORE_CALL_WRITE 7u
+#define PAGESTORE_CALL_BACKUP 8u
+#define PAGESTORE_CALL_NOTE 9u
+
+/* Writes it; `frame` is the one that is left to upkeep. BAD_VOLUME, BAD_BUFFER, NO_SUCH_FRAME. */
+uint32_t pagestore_upkeep(const uint8_t *volume, size_t volume_len, const uint8_t *memory, size_t memory_len,
+                          const uint32_t *state, size_t state_len, uint32_t frame, uint32_t *report,
+                          size_t report_len);
+
 /* ---- what only reads ---- */
 
 /* Rebuilds page `page` of the volume from its durable log records into the buffer, PAGESTORE_IMAGE_SIZE bytes, checksum
@@ -299,18 +330,23 @@ uint32_t pagestore_archive_pages(const uint8_t *archive, size_t archive_len);
 uint32_t pagestore_compare(const uint8_t *first, size_t first_len, const uint8_t *second, size_t second_len,
                            uint32_t *report, size_t report_len);
 
-/* What stands in a slot of the log, 1 to L, or of the notes, 1 to N, by place: which of the three it is, then its
- * fields as they stand. Of a log record: lsn, previous lsn, page, kind, length, offset, fill. Of a note: number, page,
- * kind (1 written, 2 backed up), slot, lsn, 0, 0. */
+/* What stands in a slot of the log, 1 to L, of the notes, 1 to N, or of the backups, 1 to B, by place: which of the
+ * three it is, then its fields as they stand. Of a log record: lsn, previous lsn, page, kind, length, offset, fill.
+ * Of a note: number, page, kind (1 written, 2 backed up), slot, lsn, 0, 0. Of a backup: page, lsn, 0, 0, 0, 0, 0. */
 #define PAGESTORE_FIELDS_SIZE 8u
 #define PAGESTORE_SLOT_ZEROS 0u
-#define PAGESTORE_SLOT_WHOLE 1u            /* its checksum is right */
+#define PAGESTORE_SLOT_WHOLE 1u            /* its checksum is right; a backup is valid as some page's, 1 to P */
 #define PAGESTORE_SLOT_FAILS 2u
 
 /* BAD_VOLUME, BAD_BUFFER, NO_SUCH_SLOT. */
 uint32_t pagestore_record(const uint8_t *volume, size_t volume_len, uint32_t slot, uint32_t *fields, size_t fields_len);
 uint32_t pagestore_note_at(const uint8_t *volume, size_t volume_len, uint32_t slot, uint32_t *fields,
                            size_t fields_len);
+uint32_t pagestore_slot(const uint8_t *volume, size_t volume_len, uint32_t slot, uint32_t *fields, size_t fields_len);
+
+/* How many images of pages and backups fail in their place, under each sum that the heading allows, by the state that a
+ * restart or a call gave; 0 where the volume or the state's length is wrong. */
+uint32_t pagestore_failing(const uint8_t *volume, size_t volume_len, const uint32_t *state, size_t state_len);
 
 #ifdef __cplusplus
 }

@@ -218,6 +218,53 @@ int pagestore_file_commit(struct pagestore_file *file) {
     return answer == (int)PAGESTORE_NOTHING ? 0 : answer;
 }
 
+/* ---- upkeep */
+
+/* Makes the call that was advised. */
+static int follow(struct pagestore_file *file, const uint32_t *advice) {
+    uint32_t page = advice[PAGESTORE_UPKEEP_PAGE], place = advice[PAGESTORE_UPKEEP_PLACE];
+    uint8_t byte = (uint8_t)advice[PAGESTORE_UPKEEP_BYTE];
+    switch (advice[PAGESTORE_UPKEEP_NUMBER]) {
+    case PAGESTORE_CALL_LOAD: return pagestore_file_load(file, page, place);
+    case PAGESTORE_CALL_CHANGE:
+        return pagestore_file_change(file, page, advice[PAGESTORE_UPKEEP_CHANGE], advice[PAGESTORE_UPKEEP_OFFSET],
+                                     advice[PAGESTORE_UPKEEP_LENGTH], 0, &byte, 1);
+    case PAGESTORE_CALL_FORCE: return pagestore_file_force(file);
+    case PAGESTORE_CALL_WRITE: return pagestore_file_write(file, page);
+    case PAGESTORE_CALL_BACKUP: return pagestore_file_backup(file, page, place);
+    case PAGESTORE_CALL_NOTE: return pagestore_file_note(file);
+    default: return -ENOSYS; /* never named */
+    }
+}
+
+/* Asks what to do: PAGESTORE_NOTHING at rest, PAGESTORE_PAGE_LOST where it is stuck, 0 where a call is to be made. */
+static int ask(struct pagestore_file *file, uint32_t frame, uint32_t *advice) {
+    int answer = (int)pagestore_upkeep(LENT(file), frame, advice, PAGESTORE_UPKEEP_SIZE);
+    if (answer != 0) return answer;
+    switch (advice[PAGESTORE_UPKEEP_KIND]) {
+    case PAGESTORE_UPKEEP_IDLE: return PAGESTORE_NOTHING;
+    case PAGESTORE_UPKEEP_STUCK: return PAGESTORE_PAGE_LOST;
+    default: return 0;
+    }
+}
+
+int pagestore_file_upkeep(struct pagestore_file *file, uint32_t frame) {
+    uint32_t advice[PAGESTORE_UPKEEP_SIZE] = {0}, counts[PAGESTORE_COUNTS_SIZE] = {0}, calls = 0;
+    if (!ready(file)) return -EIO;
+    pagestore_counts(file->volume, file->volume_len, counts, PAGESTORE_COUNTS_SIZE); /* a volume that was opened */
+    int answer = ask(file, frame, advice);
+    while (answer == 0 && calls <= 8 * counts[PAGESTORE_COUNTS_PAGES]) {
+        answer = follow(file, advice);
+        calls += answer == 0;
+        if (answer == 0) answer = ask(file, frame, advice);
+    }
+    ready(file); /* the calls' own reports are no news */
+    file->report[PAGESTORE_REPORT_COUNT] = calls;
+    if (answer == (int)PAGESTORE_PAGE_LOST) file->report[PAGESTORE_REPORT_PAGE] = advice[PAGESTORE_UPKEEP_PAGE];
+    if (answer == 0) return -EAGAIN;
+    return answer == (int)PAGESTORE_NOTHING ? 0 : answer;
+}
+
 const uint8_t *pagestore_file_text(const struct pagestore_file *file, uint32_t page) {
     uint32_t frame = file->dead ? 0 : pagestore_frame_of(file->state, page);
     return frame == 0 ? NULL : pagestore_body(file->memory, frame);

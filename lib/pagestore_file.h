@@ -48,12 +48,20 @@ int pagestore_file_inspect(struct pagestore_file *file, uint32_t page, uint8_t *
 /* Forces until nothing is pending: 0 where all changes are kept. */
 int pagestore_file_commit(struct pagestore_file *file);
 
+/* Upkeep (docs/UPKEEP.md): makes the calls that pagestore_upkeep names, in the frame that is left to it, until there is
+ * nothing to do. Call it after every open and before every call of yours: then none of yours is refused for room. It
+ * makes at most 8 P + 1 calls, enough where B, L and N are as docs/UPKEEP.md asks; -EAGAIN: they were not enough, and
+ * the handle lives. PAGE_LOST: it is stuck at a page. NO_SUCH_FRAME. The report then says two things, whatever the
+ * answer: how many calls were made, at PAGESTORE_REPORT_COUNT, and the page that it is stuck at (else 0). */
+#define PAGESTORE_REPORT_PAGE 0u
+int pagestore_file_upkeep(struct pagestore_file *file, uint32_t frame);
+
 /* The body of the page in its frame, PAGESTORE_BODY_SIZE bytes, good until the next call; NULL where the page is in no
  * frame or the handle is dead. */
 const uint8_t *pagestore_file_text(const struct pagestore_file *file, uint32_t page);
 
 /* The last call's report: class, start and count of a load, then place and length of what was stored; zeros where the
- * call was refused. */
+ * call was refused. (Of upkeep: see there.) */
 const uint32_t *pagestore_file_report(const struct pagestore_file *file);
 
 /* Unlocks and closes. Changes that were not forced are dropped, as by a cut. The handle is gone whatever is answered;

@@ -19,7 +19,7 @@ FOLDER = ROOT / "target/c/planted"
 HELPERS = ["tests/c/disk.c", "tests/c/volume.c"]
 PROGRAMS = {
     "torture": (["tests/c/torture.c", "tests/c/caller.c", "tests/c/book.c", "tests/c/harm.c"], ["300", "1"]),
-    "file_test": (["tests/c/file_test.c", "tests/c/file_faults.c"], []),
+    "file_test": (["tests/c/file_test.c", "tests/c/file_faults.c", "tests/c/file_upkeep.c"], []),
 }
 
 SYNC = "if (error == 0 && fdatasync(file->fd) != 0) error = -errno;"
@@ -45,6 +45,9 @@ FAULTS = [
     ("a new file that is not synced", "if (error == 0 && fsync(fd) != 0) error = -errno;\n    if (close", "if (close"),
     ("a new file whose directory is not synced", "sync_directory(dirname(temporary)) : error", "0 : error"),
     ("a commit that forces once", "while (answer == 0);", "while (0);"),
+    ("upkeep that makes one call", "calls <= 8 * counts[PAGESTORE_COUNTS_PAGES]", "calls < 1"),
+    ("upkeep that is stuck and says that it is at rest", "UPKEEP_STUCK: return PAGESTORE_PAGE_LOST",
+     "UPKEEP_STUCK: return PAGESTORE_NOTHING"),
 ]
 NEEDED = 5
 VERDICT = re.compile(r"torture: .* (\d+) lost, (\d+) wrong|the store in a file: \d+ checks, (\d+) failed")

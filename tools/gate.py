@@ -26,11 +26,13 @@ BEFORE = [
 ]
 AFTER = [
     ("layout of the sources (rt fmt --check)", ["rt", "fmt", "--check"]),
-    ("the programs on the sample volumes and lists", make("demo-check", "carry-check", "rehearse-check")),
+    ("the programs on the sample volumes and lists", make("demo-check", "rehearse-check")),
     ("the programs of README and docs/C.md", make("example-check", "guide-check")),
     ("the C functions: cases, refusals, full volumes, stack, sanitizers", make("c-test")),
     ("the store in a file: killed, cut and damaged, failing calls of the system, planted faults", make("torture-check")),
     ("README's story of the ward, word by word", make("ward-check")),
+    ("the tool: every command, mutated files, the stored pictures", make("tool-check")),
+    ("the lesson and the bundle: built twice, unpacked and used by itself", make("dist-check")),
     ("the second implementation: tests and plain book", make("reference-test")),
     ("the C functions against the second implementation", make("against")),
     ("inspection and cycles of calls against the peers in C", make("bench-check")),

@@ -7,6 +7,7 @@
     python3 tools/sample.py mirror FILE       a second box's volume, whose log differs from the demo's at record 9
     python3 tools/sample.py turned FILE       two pages of a log that has turned: records 3 to 10 in 8 slots
     python3 tools/sample.py visit FILE        five pages of such a log, for the forecast: records 3 to 10 in 8 slots
+    python3 tools/sample.py full FILE         the largest volume, log and notes past their first turn; some pages damaged
     python3 tools/sample.py k6 FILE           the worked case K6 with page 2 good, under the first heading
 
 A second reader of the format, on purpose: it shares no code with the store.
@@ -172,6 +173,35 @@ def visit():
     return volume(SECOND, [*pages, b"\0" * 256], slots, log, notes, 8, 4)
 
 
+def full():
+    """The largest volume: 64 pages written in turn, each backed up every fourth time, into alternating slots. Then
+    page 7 is torn, page 12's last write lost, page 20's last write cut, and page 33 lost with its backup."""
+    pages, slots, log, notes = {}, {}, {}, []
+    for n in range(1, 1501):
+        page, turn = (n - 1) % 64 + 1, (n - 1) // 64
+        line = b"%02d:%02d bed %d looked after" % (turn % 24, n % 60, page)
+        log[n] = record(n, n - 64, page, PUT, payload=line) if turn else record(n, 0, page, FORMAT, fill=32)
+        body = line.ljust(244, b" ") if turn else b" " * 244
+        if page == 20 and n > 1400:
+            continue
+        if page != 12 or n < 1400:
+            pages[page] = image(SECOND, page, n, body)
+        notes.append(note(len(notes) + 1, page, WRITTEN, 0, n))
+        if turn % 4 == 0:
+            slot = page if turn % 8 else 64 + page
+            slots[slot] = image(SECOND, page, n, body)
+            notes.append(note(len(notes) + 1, page, BACKED_UP, slot, n))
+    pages[7], pages[33] = torn(pages[7]), torn(pages[33])
+    slots[33], slots[97] = torn(slots[33]), torn(slots[97])
+
+    def ring(items, count):
+        return [items[count * ((len(items) - 1 - i) // count) + i] for i in range(count)]
+
+    records = ring([log[n] for n in sorted(log)], 1024)
+    images = [pages[p] for p in range(1, 65)], [slots[s] for s in range(1, 129)]
+    return volume(SECOND, *images, records, ring(notes, 1024), 1024, 1024)
+
+
 def k6():
     log = [record(1, 0, 1, FORMAT, fill=7), record(2, 0, 2, FORMAT, fill=9), record(3, 1, 1, PUT, payload=b"AB")]
     return volume(FIRST, [image(FIRST, 1, 1, b"\7" * 244), image(FIRST, 2, 2, b"\t" * 244)], [b"\0" * 256], log, [], 4, 4)
@@ -185,6 +215,7 @@ def main():
         "mirror": mirror,
         "turned": turned,
         "visit": visit,
+        "full": full,
         "k6": k6,
     }
     if len(sys.argv) != 3 or sys.argv[1] not in makers:

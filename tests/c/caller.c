@@ -37,7 +37,8 @@ static void check_dead(int error) {
         pagestore_file_write(file, 1), pagestore_file_backup(file, 1, 1), pagestore_file_release(file, 1),
         pagestore_file_load(file, 1, 1), pagestore_file_begin(file, 1, 1, 0),
         pagestore_file_change(file, 1, 1, 0, 0, 0, NULL, 0), pagestore_file_inspect(file, 1, image, sizeof image),
-        pagestore_file_start_carry(file), pagestore_file_restamp(file), pagestore_file_finish_carry(file)
+        pagestore_file_start_carry(file), pagestore_file_restamp(file), pagestore_file_finish_carry(file),
+        pagestore_file_upkeep(file, 1)
     };
     uint32_t writes = disk->writes;
     for (size_t i = 0; i < sizeof answers / sizeof *answers; i++)
@@ -54,26 +55,43 @@ static int answered(int answer) {
     return answer;
 }
 
+/* Where upkeep is followed: it comes to rest in frame 1, and whatever waited is stored. */
+static void upkeep(void) {
+    if (!task.upkeep) return;
+    int answer = answered(pagestore_file_upkeep(file, 1));
+    if (answer != 0) end(MISTAKE, 300 + answer);
+    say(UPKEPT, (int)pagestore_file_report(file)[PAGESTORE_REPORT_COUNT]);
+}
+
+/* After it no call is refused for room, nor for what still waits. */
+static int unblocked(int answer) {
+    if (task.upkeep && answer >= 10 && answer <= 15) end(MISTAKE, 400 + answer);
+    return answer;
+}
+
+/* A call of the child's own. */
+#define CALL(call) (upkeep(), unblocked(answered(call)))
+
 /* ---- the calls that the book hears of */
 
 static void force(void) {
-    say(FORCED, answered(pagestore_file_force(file)));
+    say(FORCED, CALL(pagestore_file_force(file)));
 }
 
 static void commit(void) {
-    say(COMMITTED, answered(pagestore_file_commit(file)));
+    say(COMMITTED, CALL(pagestore_file_commit(file)));
 }
 
 static int begin(uint32_t page, uint32_t frame, uint32_t fill) {
     tell(ASKED, 0, (struct change){page, 1, 0, 0, fill, {0}});
-    int answer = answered(pagestore_file_begin(file, page, frame, fill));
+    int answer = CALL(pagestore_file_begin(file, page, frame, fill));
     say(ANSWERED, answer);
     return answer;
 }
 
 static int change(struct change c) {
     tell(ASKED, 0, c);
-    int answer = answered(pagestore_file_change(file, c.page, c.kind, c.offset, c.length, c.fill, c.payload, PAYLOAD));
+    int answer = CALL(pagestore_file_change(file, c.page, c.kind, c.offset, c.length, c.fill, c.payload, PAYLOAD));
     say(ANSWERED, answer);
     return answer;
 }
@@ -105,10 +123,10 @@ static struct change any_change(uint32_t page) {
 static int held(uint32_t page) {
     uint32_t frame = 1 + random_below(task.frames);
     if (pagestore_file_text(file, page) != NULL) return 1;
-    int answer = answered(pagestore_file_load(file, page, frame));
+    int answer = CALL(pagestore_file_load(file, page, frame));
     if (answer == 10) {
         commit();
-        answer = answered(pagestore_file_load(file, page, frame));
+        answer = CALL(pagestore_file_load(file, page, frame));
     }
     if (answer == 7) answer = begin(page, frame, random_below(256));
     if (answer == 11) commit();
@@ -117,13 +135,13 @@ static int held(uint32_t page) {
 }
 
 static void store_note(void) {
-    if (answered(pagestore_file_note(file)) == 0) noted++;
+    if (CALL(pagestore_file_note(file)) == 0) noted++;
 }
 
 static int back_up(uint32_t page) {
     int answer = 16;
     for (uint32_t slot = 1; slot <= task.counts.slots && answer == 16; slot++)
-        answer = answered(pagestore_file_backup(file, page, slot));
+        answer = CALL(pagestore_file_backup(file, page, slot));
     return answer;
 }
 
@@ -135,7 +153,7 @@ static void renew(int rewrite) {
         if (!held(page)) continue;
         if (rewrite) change(any_change(page));
         commit();
-        if (rewrite) answered(pagestore_file_write(file, page));
+        if (rewrite) CALL(pagestore_file_write(file, page));
         store_note();
         back_up(page);
         store_note();
@@ -156,8 +174,8 @@ static void edit(void) {
 
 /* A step of carrying a volume of the first heading over. */
 static void carry(void) {
-    answered(pagestore_file_start_carry(file));
-    if (answered(pagestore_file_restamp(file)) == (int)PAGESTORE_NOTHING) answered(pagestore_file_finish_carry(file));
+    CALL(pagestore_file_start_carry(file));
+    if (CALL(pagestore_file_restamp(file)) == (int)PAGESTORE_NOTHING) CALL(pagestore_file_finish_carry(file));
 }
 
 /* Arguments that must be refused; the volume is as it was, as the book will see. */
@@ -184,11 +202,11 @@ static void step(void) {
     if (kind < 30) edit();
     else if (kind < 44) force();
     else if (kind < 50) commit();
-    else if (kind < 66) answered(pagestore_file_write(file, page));
+    else if (kind < 66) CALL(pagestore_file_write(file, page));
     else if (kind < 78) back_up(page);
     else if (kind < 93) store_note();
-    else if (kind < 95) answered(pagestore_file_release(file, page));
-    else if (kind < 98) answered(pagestore_file_inspect(file, page, image, sizeof image));
+    else if (kind < 95) CALL(pagestore_file_release(file, page));
+    else if (kind < 98) CALL(pagestore_file_inspect(file, page, image, sizeof image));
     else nonsense();
     if (task.carry && random_below(16) == 0) carry();
 }
@@ -198,7 +216,7 @@ void caller(struct task given) {
     int answer = pagestore_file_open(&file, task.path, task.frames);
     if (answer < 0 && disk->happened > 0) end(DEAD, answer);
     if (answer != 0) end(MISTAKE, answer);
-    int room = task.counts.notes > 4 * task.counts.pages + 4;
+    int room = !task.upkeep && task.counts.notes > 4 * task.counts.pages + 4;
     if (room && random_below(4) == 0) renew(1);
     for (uint32_t i = 0; i < task.steps; i++) {
         if (room && noted + 2 * task.counts.pages + 4 > task.counts.notes) renew(1);

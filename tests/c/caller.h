@@ -10,6 +10,7 @@ enum tell {
     ANSWERED,   /* behind it, with its answer */
     FORCED,     /* behind a force */
     COMMITTED,  /* behind a commit */
+    UPKEPT,     /* upkeep is at rest, behind so many calls; what waited is stored */
     DEAD,       /* a call failed with this errno, and the handle was found dead */
     LOCKED,     /* there is no more room for this change: a new file, please */
     MISTAKE     /* a call gave what it must not; the answer tells which check */
@@ -26,6 +27,7 @@ struct task {
     struct counts counts;
     uint32_t frames, steps;
     int carry;  /* the volume is to be carried over */
+    int upkeep; /* upkeep is followed before every call, in frame 1 */
     int out;    /* the pipe */
 };
 

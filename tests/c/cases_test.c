@@ -116,6 +116,28 @@ static void slots(void) {
     check("note 1", tells(pagestore_note_at(v, size, 1, f, 8), f, (uint32_t[]){0, 0, 0, 0, 0, 0, 0, 0}, 8));
 }
 
+static void backups(void) {
+    laid(1);
+    uint32_t f[9] = {9, 9, 9, 9, 9, 9, 9, 9, 9};
+    uint8_t *v = b.volume, *slot = v + slot_at(CASES, 1);
+    size_t size = b.volume_len;
+    check("slot, another length: 2", pagestore_slot(v, size, 9, f, 7) == PAGESTORE_BAD_BUFFER && f[0] == 9);
+    check("slot, no volume: 1", pagestore_slot(v, size - 1, 9, f, 7) == PAGESTORE_BAD_VOLUME && f[0] == 9);
+    check("slot 2: 5", pagestore_slot(v, size, 2, f, 8) == PAGESTORE_NO_SUCH_SLOT && f[0] == 9);
+    memset(slot, 0, PAGESTORE_IMAGE_SIZE);
+    check("slot 1, zeros", tells(pagestore_slot(v, size, 1, f, 8), f, (uint32_t[]){0, 0, 0, 0, 0, 0, 0, 0}, 8));
+    chain_image(slot, CASES, 1);
+    check("slot 1, page 1 at 4", tells(pagestore_slot(v, size, 1, f, 8), f, (uint32_t[]){1, 1, 4, 0, 0, 0, 0, 0}, 8));
+    slot[100] ^= 1;
+    check("slot 1, fails", tells(pagestore_slot(v, size, 1, f, 8), f, (uint32_t[]){2, 1, 4, 0, 0, 0, 0, 0}, 8));
+    uint32_t with = pagestore_failing(v, size, b.state, PAGESTORE_STATE_SIZE);
+    slot[100] ^= 1;
+    uint32_t without = pagestore_failing(v, size, b.state, PAGESTORE_STATE_SIZE);
+    check("failing, one more", with == without + 1 && without <= 2);
+    check("failing, a wrong length", pagestore_failing(v, size, b.state, PAGESTORE_STATE_SIZE - 1) == 0);
+    check("failing, no volume", pagestore_failing(v, size - 1, b.state, PAGESTORE_STATE_SIZE) == 0);
+}
+
 /* The room left, by place. */
 static int left(uint32_t records, uint32_t page, uint32_t notes, uint32_t note_page) {
     uint32_t f[4] = {9, 9, 9, 9};
@@ -164,6 +186,7 @@ int main(void) {
         heading = headings[i];
         cases();
         slots();
+        backups();
     }
     return verdict();
 }

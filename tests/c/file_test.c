@@ -212,6 +212,7 @@ static void *all_calls(void *unused) {
     int answer = pagestore_file_create(path, 64, 128, 1024, 1024);
     struct pagestore_file *file = open_file(16, &answer);
     answer = scenario(file, &kept);
+    if (answer == 0) answer = pagestore_file_upkeep(file, 16);
     check("the calls on the painted stack", answer == 0 && kept == 3 && pagestore_file_close(file) == 0);
     return unused;
 }
@@ -252,6 +253,7 @@ int main(int argc, char **argv) {
     test_lock();
     test_close_on_exec();
     test_calls();
+    test_upkeep();
     test_faults();
     test_killed_unsynced();
     test_stack();

@@ -20,4 +20,7 @@ int scenario(struct pagestore_file *file, uint32_t *kept);
 void test_faults(void);
 void test_killed_unsynced(void);
 
+/* Upkeep: its answers and what it reports. */
+void test_upkeep(void);
+
 #endif

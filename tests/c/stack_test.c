@@ -29,12 +29,12 @@ static uint8_t volume[PAGESTORE_VOLUME_MAX], buffer[PAGESTORE_IMAGE_SIZE], expec
 /* Every function of the header that takes no state; all but inspection are tried on the largest volume. */
 enum function {
     INSPECT, EXAMINE, FORECAST, LENGTH, WRITER, READER, PAGES, COMPARE, COUNTS, RECORD, NOTE_AT, MAKE, MAKE_FIRST,
-    ROOM, FUNCTIONS,
+    ROOM, SLOT, FUNCTIONS,
 };
 static const char *const CALLED[FUNCTIONS] = {
     "inspect",       "examine", "forecast", "archive_length", "archive_write", "archive_read",
     "archive_pages", "compare", "counts",   "record",         "note_at",       "make",
-    "make_first",    "room",
+    "make_first",    "room",    "slot",
 };
 static uint8_t archive[PAGESTORE_ARCHIVE_MAX], area[PAGESTORE_AREA_MAX];
 static uint32_t numbers[PAGESTORE_FORECAST_SIZE];
@@ -76,6 +76,7 @@ static __attribute__((noinline)) uint32_t called(const struct call *c) {
         case COUNTS: return pagestore_counts(volume, c->size, numbers, PAGESTORE_COUNTS_SIZE);
         case RECORD: return pagestore_record(volume, c->size, 1024, numbers, PAGESTORE_FIELDS_SIZE);
         case NOTE_AT: return pagestore_note_at(volume, c->size, 1024, numbers, PAGESTORE_FIELDS_SIZE);
+        case SLOT: return pagestore_slot(volume, c->size, 128, numbers, PAGESTORE_FIELDS_SIZE);
         case ROOM: return pagestore_room(volume, c->size, numbers, PAGESTORE_ROOM_SIZE);
         case MAKE: return pagestore_make(volume, c->size, 64, 128, 1024, 1024);
         case MAKE_FIRST: return pagestore_make_first(volume, c->size, 64, 128, 1024, 1024);
@@ -169,6 +170,20 @@ static int check_state(const char *name, const struct asked *a, uint32_t wanted)
     return well;
 }
 
+static __attribute__((noinline)) void on_images(void *given) {
+    const struct box *x = given;
+    answer = pagestore_failing(x->volume, x->volume_len, x->state, x->state_len);
+}
+
+/* No image of a volume that was just made passes: a line as above. */
+static int check_failing(void) {
+    size_t bytes = touched(on_images, &box);
+    int well = answer == PAGESTORE_PAGES_MAX + PAGESTORE_SLOTS_MAX && bytes <= PAGESTORE_STATE_STACK;
+    printf("%s failing: %u; %zu bytes of stack, at most %u\n", well ? "ok    " : "FAILED", (unsigned)answer, bytes,
+           PAGESTORE_STATE_STACK);
+    return well;
+}
+
 static int check_calls(int first) {
     static const char bytes[44];
     static const struct asked calls[] = {
@@ -184,7 +199,7 @@ static int check_calls(int first) {
     };
     int failures = 0;
     box_made(&box, SIZES[sizeof SIZES / sizeof SIZES[0] - 1], 16, first);
-    failures += !check_state("restart", NULL, PAGESTORE_OK);
+    failures += !check_state("restart", NULL, PAGESTORE_OK) + !check_failing();
     for (size_t i = 0; i < sizeof calls / sizeof calls[0] - (first ? 0 : 4); i++) {
         asked = calls[i];
         failures += !check_state(names[i], &asked, asked.fill == 256 ? PAGESTORE_BAD_CHANGE : PAGESTORE_OK);
@@ -192,8 +207,44 @@ static int check_calls(int first) {
     return failures;
 }
 
+/* Upkeep on a small ring: with nothing to do, with a call to make, with a page to be loaded, whose repair it tries. */
+static uint32_t advice[PAGESTORE_UPKEEP_SIZE];
+
+static __attribute__((noinline)) void advised(void *given) {
+    (void)given;
+    answer = pagestore_upkeep(box.volume, box.volume_len, box.memory, box.memory_len, box.state, box.state_len, 2,
+                              advice, PAGESTORE_UPKEEP_SIZE);
+}
+
+static int check_advice(uint32_t kind, uint32_t number) {
+    size_t bytes = touched(advised, NULL);
+    int right = answer == PAGESTORE_OK && advice[PAGESTORE_UPKEEP_KIND] == kind &&
+                advice[PAGESTORE_UPKEEP_NUMBER] == number;
+    int well = right && bytes <= PAGESTORE_STATE_STACK;
+    printf("%s upkeep, call %u: %zu bytes of stack, at most %u\n", well ? "ok    " : "FAILED", (unsigned)number, bytes,
+           PAGESTORE_STATE_STACK);
+    return well;
+}
+
+static int check_upkeep(void) {
+    static const struct asked calls[] = {
+        {.call = FORCE}, {.call = CHANGE, .page = 1, .kind = PAGESTORE_FORMAT, .fill = 1}, {.call = FORCE},
+        {.call = CHANGE, .page = 1, .kind = PAGESTORE_FORMAT, .fill = 2}, {.call = FORCE},
+    };
+    int failures = 0;
+    box_made(&box, (struct counts){1, 2, 4, 4}, 16, 0);
+    failures += !check_advice(PAGESTORE_UPKEEP_IDLE, 0);
+    failures += box_called(&box, (struct asked){.call = BEGIN, .page = 1, .frame = 1}) != 0;
+    failures += !check_advice(PAGESTORE_UPKEEP_CALL, PAGESTORE_CALL_FORCE);
+    for (size_t i = 0; i < sizeof calls / sizeof calls[0]; i++) failures += box_called(&box, calls[i]) != 0;
+    failures += !check_advice(PAGESTORE_UPKEEP_CALL, PAGESTORE_CALL_BACKUP);
+    failures += box_called(&box, (struct asked){.call = RELEASE, .page = 1}) != 0;
+    failures += !check_advice(PAGESTORE_UPKEEP_CALL, PAGESTORE_CALL_LOAD);
+    return failures;
+}
+
 int main(void) {
-    int failures = check_calls(1) + check_calls(0);
+    int failures = check_calls(1) + check_calls(0) + check_upkeep();
     for (size_t i = 0; i < sizeof SIZES / sizeof SIZES[0]; i++)
         for (int kind = 0; kind < KINDS; kind++) failures += !check(SIZES[i], (enum kind)kind);
     for (int f = EXAMINE; f < FUNCTIONS; f++) failures += !check_other((enum function)f);

@@ -1,9 +1,12 @@
-/* torture ROUNDS SEED DIRECTORY: a store in a file is killed at random moments, its power is cut in the middle of a
- * store, its images are damaged, its calls of the system fail; after each round every page is held against a book.
+/* torture ROUNDS SEED DIRECTORY [upkeep]: a store in a file is killed at random moments, its power is cut in the middle
+ * of a store, its images are damaged, its calls of the system fail; after each round every page is held against a book.
  *
  * A child makes random calls and tells each change before it is made and each stored force behind it; the parent keeps
  * the book. A change whose force was told must be there, in order and once; those that still waited may be there as a
- * beginning. The last line tells how many were lost, and how many pages were wrong otherwise. */
+ * beginning. The last line tells how many were lost, and how many pages were wrong otherwise.
+ *
+ * With the word upkeep the child follows it before every call, on rings as small as docs/UPKEEP.md allows: no call may
+ * be refused for room. Its refreshing puts have numbers of their own: there a page is held against its text alone. */
 #define _GNU_SOURCE
 #include "caller.h"
 #include "disk.h"
@@ -26,6 +29,9 @@ static struct disk *shared;
 static int ring;         /* the volume is or becomes a ring, which counts on its backups */
 static int wanted = 1;   /* a new file is wanted */
 static unsigned long round_number;
+static uint32_t cuts;    /* since upkeep was last at rest */
+static uint32_t stored;  /* log records, when the volume was last looked at */
+enum { CUTS = 8 };       /* that many are provided for */
 
 /* ---- figures */
 
@@ -33,6 +39,7 @@ static struct {
     unsigned long files, turned, locked, kept, undecided, undecided_kept;
     unsigned long killed, planned, failed, interrupted, ended, second_cuts;
     unsigned long repaired[6][4], lost, wrong;
+    unsigned long rests, calls, most_calls, restless;
 } figures;
 
 static void lost(unsigned long many, const char *what) {
@@ -68,6 +75,16 @@ static struct counts any_volume(void) {
     return c;
 }
 
+/* A ring as small as upkeep can do with, where every page may be written. */
+static struct counts small_ring(void) {
+    struct counts c;
+    c.pages = 1 + random_below(4);
+    c.slots = c.pages + 1 + random_below(2);
+    c.records = 2 * (c.pages + CUTS) + random_below(3);
+    c.notes = 2 * c.pages + 2 + random_below(3);
+    return c;
+}
+
 static void make_first(struct counts c) {
     static uint8_t volume[DISK_MAX];
     size_t size = pagestore_size(c.pages, c.slots, c.records, c.notes);
@@ -77,8 +94,8 @@ static void make_first(struct counts c) {
 }
 
 static void new_file(void) {
-    struct counts c = any_volume();
-    uint32_t first = random_below(4);
+    struct counts c = task.upkeep ? small_ring() : any_volume();
+    uint32_t first = task.upkeep ? 1 : random_below(4);
     unlink(path);
     disk = NULL;
     if (first == 0) make_first(c);
@@ -89,6 +106,7 @@ static void new_file(void) {
     task.carry = first == 0 && random_below(2) == 0;
     ring = first != 0 || task.carry;
     memset(&book, 0, sizeof book);
+    cuts = stored = 0;
     harm_begin(path, ring);
     figures.files++;
     wanted = 0;
@@ -104,6 +122,16 @@ static void on_forced(int answer) {
     else if (answer == 0 || waits) wrong("force answered", answer);
 }
 
+/* Upkeep forces before anything else: what waited is kept. */
+static void on_rest(unsigned long calls) {
+    figures.kept += book.waiting;
+    while (book.waiting > 0) book_keeps(&book);
+    figures.rests++;
+    figures.calls += calls;
+    if (calls > figures.most_calls) figures.most_calls = calls;
+    cuts = 0;
+}
+
 static void on_message(const struct message *message) {
     int answer = message->answer;
     if (message->tell == ASKED) asked = message->change;
@@ -115,6 +143,7 @@ static void on_message(const struct message *message) {
         figures.kept += book.waiting;
         while (book.waiting > 0) book_keeps(&book);
     }
+    else if (message->tell == UPKEPT) on_rest((unsigned long)answer);
     else if (message->tell == LOCKED) figures.locked++, wanted = 1;
     else if (message->tell == MISTAKE) wrong("the child's check", answer);
     else if (message->tell == DEAD && shared->happened == 0) wrong("a call failed without a cause", answer);
@@ -163,7 +192,7 @@ static void run_child(void) {
     int ends[2], status;
     enum end end = any_plan();
     uint64_t seed = (uint64_t)random_below(0xFFFFFFFF) << 32 | random_below(0xFFFFFFFF);
-    task.frames = 1 + random_below(4);
+    task.frames = 1 + task.upkeep + random_below(4);
     task.steps = end == KILLED ? 4000 : 40 + random_below(160);
     must(pipe(ends) == 0, "pipe");
     pid_t child = fork();
@@ -185,7 +214,7 @@ static void run_child(void) {
 /* ---- every page against the book */
 
 static int same_page(uint32_t page, const uint8_t *body, uint32_t number) {
-    return number == book.number[page] && memcmp(body, book.body[page], BODY) == 0;
+    return (task.upkeep || number == book.number[page]) && memcmp(body, book.body[page], BODY) == 0;
 }
 
 /* How many changes the volume has kept: the number of the last one. */
@@ -216,20 +245,37 @@ static void check_page(struct pagestore_file *file, uint32_t page) {
     figures.repaired[report[0] % 6][report[1] % 4]++;
 }
 
+/* How many of the changes that waited are kept. Under upkeep at most one waits, and its page tells: one that changed
+ * nothing counts as kept. */
+static uint32_t decided(struct pagestore_file *file) {
+    struct book was = book;
+    uint8_t image[256];
+    if (!task.upkeep) return stored - book.kept;
+    if (book.waiting != 1) return 0;
+    uint32_t page = book.line[0].page;
+    book_keeps(&book);
+    int kept = pagestore_file_inspect(file, page, image, sizeof image) == 0
+               && memcmp(image + 8, book.body[page], BODY) == 0;
+    book = was;
+    return kept ? 1 : 0;
+}
+
 /* Settles what was undecided, then looks at every page. */
 static void check_pages(struct pagestore_file *file) {
-    uint32_t last = last_number(file), waited = book.waiting;
-    if (last < book.kept) {
-        lost(book.kept - last, "acknowledged changes");
+    uint32_t waited = book.waiting, least = task.upkeep ? stored : book.kept;
+    stored = last_number(file);
+    if (stored < least) {
+        lost(least - stored, "acknowledged changes");
         return;
     }
-    if (last > book.kept + waited) {
-        wrong("changes that nobody asked for", (long)last);
+    if (task.upkeep ? waited > 1 : stored > book.kept + waited) {
+        wrong("changes that nobody asked for", (long)stored);
         return;
     }
+    uint32_t kept = decided(file);
     figures.undecided += waited;
-    figures.undecided_kept += last - book.kept;
-    while (book.kept < last) book_keeps(&book);
+    figures.undecided_kept += kept;
+    while (kept-- > 0) book_keeps(&book);
     book_drops(&book);
     for (uint32_t page = 1; page <= task.counts.pages; page++) check_page(file, page);
 }
@@ -252,17 +298,27 @@ static void verify(void) {
 
 /* ---- the rounds */
 
+/* A cut, and the open and close that look at what it left: as many cuts as are provided for may come in a row. */
+static void count_cuts(void) {
+    cuts += 2;
+    if (!task.upkeep || cuts + 2 <= CUTS || wanted) return;
+    wanted = 1;
+    figures.restless++;
+}
+
 static void one_round(void) {
-    uint32_t before = book.kept / task.counts.records;
+    uint32_t before = stored / task.counts.records;
     run_child();
     cut_off(random_below(5) < 3);
     verify();
+    count_cuts();
     if (random_below(4) == 0 && !wanted) {
         cut_off(1);
         figures.second_cuts++;
         verify();
+        count_cuts();
     }
-    if (ring) figures.turned += book.kept / task.counts.records - before;
+    if (ring) figures.turned += stored / task.counts.records - before;
     if (!wanted && random_below(2) == 0) damage();
 }
 
@@ -272,6 +328,9 @@ static void print_figures(unsigned long seed) {
     static const char *starts[] = {"", "own image", "backup", "format"};
     printf("files %lu, turns of a log %lu, files without room in the end %lu\n", figures.files, figures.turned,
            figures.locked);
+    if (task.upkeep)
+        printf("upkeep came to rest %lu times by %lu calls, at most %lu at once; files left after %d cuts without rest "
+               "%lu\n", figures.rests, figures.calls, figures.most_calls, CUTS, figures.restless);
     printf("rounds that ended by SIGKILL at any moment %lu, at a chosen call %lu, by a failed call %lu, "
            "with one interrupted or short %lu, by themselves %lu; cut once more %lu\n", figures.killed,
            figures.planned, figures.failed, figures.interrupted, figures.ended, figures.second_cuts);
@@ -293,11 +352,13 @@ static void print_figures(unsigned long seed) {
 }
 
 int main(int argc, char **argv) {
-    unsigned long rounds = argc == 4 ? strtoul(argv[1], NULL, 10) : 0;
-    unsigned long seed = argc == 4 ? strtoul(argv[2], NULL, 10) : 0;
+    task.upkeep = argc == 5 && strcmp(argv[4], "upkeep") == 0;
+    int right = argc == 4 || task.upkeep;
+    unsigned long rounds = right ? strtoul(argv[1], NULL, 10) : 0;
+    unsigned long seed = right ? strtoul(argv[2], NULL, 10) : 0;
     char directory[256];
     if (rounds == 0) {
-        fprintf(stderr, "usage: torture ROUNDS SEED DIRECTORY\n");
+        fprintf(stderr, "usage: torture ROUNDS SEED DIRECTORY [upkeep]\n");
         return 2;
     }
     snprintf(directory, sizeof directory, "%s/torture.XXXXXX", argv[3]);
@@ -307,7 +368,7 @@ int main(int argc, char **argv) {
     shared = new_disk();
     for (round_number = 1; round_number <= rounds; round_number++) {
         random_seed(seed * 1000003 + round_number);
-        if (wanted || random_below(20) == 0) new_file();
+        if (wanted || random_below(task.upkeep ? 400 : 20) == 0) new_file();
         one_round();
         fflush(stdout);
     }

@@ -2,3 +2,5 @@ pub mod FaceLaws
 pub mod ArgumentLaws
 pub mod SlotLaws
 pub mod SpaceLaws
+pub mod FailingLaws
+pub mod AdviceLaws

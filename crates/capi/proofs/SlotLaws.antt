@@ -1,6 +1,6 @@
 -- What the heading says and what stands in a slot: the refusals' chain, and the numbers that are left.
 use mathlib.Core.Path.{_≡_, refl, sym, ap, _∙_}
-use mathlib.Core.Bool.{Bool, true, false, cond, not}
+use mathlib.Core.Bool.{Bool, true, false, cond, not, _&&_}
 use mathlib.Core.List.{List, [], _∷_}
 use Prim.Native.Nat.{ℕ, _+_, _≤_}
 use native.Mathlib.Omega.{arith}
@@ -8,14 +8,14 @@ use lib.Dec.{eqb}
 use lib.ListN.{length}
 use borrow.Author.Tests.{eq-eqb, ne-eqb, eqb-true}
 use Rattle.laws.proofs.Places.{in-item, place-fits, valid-facts, total}
-use Rattle.model.specs.Tables.{firstOf}
-use Rattle.model.specs.Bytes.{part}
+use Rattle.model.specs.Tables.{firstOf, within}
+use Rattle.model.specs.Bytes.{part, allZero}
 use Rattle.model.specs.Geometry.{Place, itemOf, width, start, item, geometryOf, validVolume}
-use Rattle.model.specs.Item.{recordOf, noteOf}
+use Rattle.model.specs.Item.{imagePage, imageLsn, validImage, validSomewhere, recordOf, noteOf}
 use Rattle.model.specs.declared.geometry.Geometry.{Geometry}
 use Rattle.model.specs.declared.item.LogRecord.{LogRecord}
 use Rattle.model.specs.declared.item.Note.{Note}
-use Rattle.face.specs.Slots.{listed, countsRows, countNumbers, countsOf, standing, recordNumbers, storedNoteNumbers, slotRows, listedAt}
+use Rattle.face.specs.Slots.{listed, countsRows, countNumbers, countsOf, standing, recordNumbers, storedNoteNumbers, slotRows, listedAt, backupNumbers}
 
 -- three rows
 pub chained : (v w r t : Bool) (x y z : ℕ) → w ≡ v → x ≡ cond (not t) 5 0 → y ≡ cond (not r) 2 x → z ≡ cond (not w) 1 y
@@ -38,10 +38,10 @@ passed true false t n e z = absurd (omega (arith, e, z))
 passed false r t n e z = absurd (omega (arith, e, z))
 
 module _ (m n : ℕ) (old new : List ℕ) (e : n ≡ m) where
-  refused : (n ≡ 0 → ⊥) → (n ≡ listed m old new .refusal) × (old ≡ listed m old new .numbers)
+  pub refused : (n ≡ 0 → ⊥) → (n ≡ listed m old new .refusal) × (old ≡ listed m old new .numbers)
   refused ne = let k : eqb m 0 ≡ false = ne-eqb m 0 (λ z. ne (e ∙ z)) in (e, rw k)
 
-  done : n ≡ 0 → (xs : List ℕ) → xs ≡ new → (0 ≡ listed m old new .refusal) × (xs ≡ listed m old new .numbers)
+  pub done : n ≡ 0 → (xs : List ℕ) → xs ≡ new → (0 ≡ listed m old new .refusal) × (xs ≡ listed m old new .numbers)
   done z xs ex =
       let y : m ≡ 0 = sym e ∙ z in
       let k : eqb m 0 ≡ true = eq-eqb m 0 y in
@@ -77,6 +77,16 @@ pub note-told : (x : List ℕ) (e : Note) (s : ℕ) → e ≡ noteOf x → s ≡
     → s ∷ e .number ∷ e .page ∷ e .kind ∷ e .slot ∷ e .lsn ∷ 0 ∷ 0 ∷ [] ≡ storedNoteNumbers x
 note-told x e s ee es =
     rw es (ap (λ (k : Note). standing 12 x ∷ k .number ∷ k .page ∷ k .kind ∷ k .slot ∷ k .lsn ∷ 0 ∷ 0 ∷ []) ee)
+
+pub backup-told : (g : Geometry) (x : List ℕ) (page lsn y z : ℕ) (valid zero : Bool) → page ≡ imagePage x
+    → valid ≡ validImage g page x → zero ≡ allZero x → y ≡ cond (within (g .pages) page && valid) 1 2 → z ≡ cond zero 0 y
+    → lsn ≡ imageLsn x → z ∷ page ∷ lsn ∷ 0 ∷ 0 ∷ 0 ∷ 0 ∷ 0 ∷ [] ≡ backupNumbers g x
+unfolding validSomewhere
+backup-told g x page lsn y z valid zero ep ev ez ey es el = rw (es, ez, ey, ev, ep, el)
+
+pub told-under : (v x ns : List ℕ) (g : Geometry) → g ≡ geometryOf v → ns ≡ backupNumbers g x
+    → ns ≡ backupNumbers (geometryOf v) x
+told-under v x ns g eg en = en ∙ ap (λ (k : Geometry). backupNumbers k x) eg
 
 module _ (v xs : List ℕ) (g : Geometry) (eg : g ≡ geometryOf v) (at : Place) (tell : List ℕ → List ℕ) (n : ℕ)
     (en : n ≡ cond (not (validVolume v)) 1 (cond (not (eqb (length xs) 8)) 2 (cond (not (itemOf g at)) 5 0))) where

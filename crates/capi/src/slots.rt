@@ -1,14 +1,17 @@
-// What a volume's heading says, and what stands in a slot of its log or of its notes, as numbers.
+// What a volume's heading says, and what stands in a slot of its log, its notes or its backups, as numbers.
 // `include/pagestore.h` declares them.
 ghost use mathlib.Core.Path.{_≡_};
 ghost use mathlib.Core.Bool.{cond, not};
 ghost use Prim.Native.Nat.{_+_, _≤_};
 ghost use lib.ListN.{length};
 ghost use Rattle.model.specs.Geometry.{validVolume};
-ghost use Rattle.face.specs.Slots.{standing, recordNumbers, storedNoteNumbers, countsOf, recordSlotOf, noteSlotOf};
+ghost use Rattle.face.specs.Slots.{standing, recordNumbers, storedNoteNumbers, countsOf, recordSlotOf, noteSlotOf, backupNumbers, backupSlotOf};
+use codec::field;
 use codec::part;
+use item::image;
 use item::note;
 use item::record;
+use model::geometry::Geometry;
 use sums::checksum;
 use volume::heading;
 use volume::place;
@@ -111,6 +114,34 @@ pub extern "C" fn pagestore_note_at(volume: &[u8], slot: u32, fields: &mut [u32]
         return no;
     }
     let n = note_numbers(place::part(volume, place::note_at(g, slot), 16));
+    numbers::copy(fields, &n);
+    0
+}
+
+fn backup_numbers(g: Geometry, x: &[u8]) -> [u32; 8]
+    ensures { λ r. ⌜ r ≡ backupNumbers g (now (x .entry)) ⌝ }
+{
+    let page = field::u16_at(x, 0) as u32;
+    let valid = image::valid(g, page, x);
+    let whole = ((1 <= page) & (page <= g.pages)) & valid;
+    let stands = rows::first(part::zero(x), 0, rows::first(whole, 1, 2));
+    [stands, page, field::u32_at(x, 4), 0, 0, 0, 0, 0]
+}
+
+// What stands in a backup slot: 0 or the refusal.
+#[no_mangle]
+pub extern "C" fn pagestore_slot(volume: &[u8], slot: u32, fields: &mut [u32]) -> u32
+    ensures answer { λ r. ⌜ r ≡ backupSlotOf (now (volume .entry)) slot (now (fields .entry)) .refusal ⌝ }
+    ensures fields { λ _. ⌜ now (fields .exit)
+        ≡ backupSlotOf (now (volume .entry)) slot (now (fields .entry)) .numbers ⌝ }
+{
+    let g = heading::geometry(volume);
+    let there = (1 <= slot) & (slot <= g.slots);
+    let no = refusal(volume, fields.len() == 8, there);
+    if no != 0 {
+        return no;
+    }
+    let n = backup_numbers(g, place::part(volume, place::slot_at(g, slot), 256));
     numbers::copy(fields, &n);
     0
 }

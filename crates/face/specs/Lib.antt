@@ -3,4 +3,5 @@ pub mod Face
 pub mod Arguments
 pub mod Slots
 pub mod Room
+pub mod Advice
 pub mod Claim

@@ -1,4 +1,4 @@
--- What a volume's heading says, and what stands in a slot of its log or of its notes, as numbers for C.
+-- What a volume's heading says, and what stands in a slot of its log, its notes or its backups, as numbers for C.
 use Prim.Native.Nat.{ℕ}
 use mathlib.Core.Bool.{Bool, true, false, cond, not}
 use mathlib.Core.List.{List, [], _∷_}
@@ -7,8 +7,8 @@ use lib.ListN.{length}
 use Rattle.model.specs.Tables.{Row, firstOf}
 use Rattle.model.specs.Bytes.{allZero}
 use Rattle.model.specs.Checksum.{sealed}
-use Rattle.model.specs.Geometry.{Place, recordAt, noteAt, itemOf, item, geometryOf, validVolume}
-use Rattle.model.specs.Item.{recordOf, noteOf}
+use Rattle.model.specs.Geometry.{Place, slotAt, recordAt, noteAt, itemOf, item, geometryOf, validVolume}
+use Rattle.model.specs.Item.{imagePage, imageLsn, validSomewhere, recordOf, noteOf}
 use Rattle.model.specs.declared.geometry.Geometry.{Geometry}
 
 -- 0 or the refusal, and the numbers that are left: a refusal leaves them as they were
@@ -62,3 +62,14 @@ recordSlotOf v slot xs = listedAt (recordAt slot) recordNumbers v xs
 
 abbrev pub noteSlotOf : List ℕ → ℕ → List ℕ → Listed
 noteSlotOf v slot xs = listedAt (noteAt slot) storedNoteNumbers v xs
+
+-- ---- a backup slot
+
+-- what stands there, 0 zeros, 1 valid as some page 1 to P, 2 neither; the page, the lsn and five zeros behind it
+abbrev pub backupNumbers : Geometry → List ℕ → List ℕ
+backupNumbers g x =
+    cond (allZero x) 0 (cond (validSomewhere g x) 1 2) ∷ imagePage x ∷ imageLsn x ∷ 0 ∷ 0 ∷ 0 ∷ 0 ∷ 0 ∷ []
+
+-- a backup slot, 1 to B
+abbrev pub backupSlotOf : List ℕ → ℕ → List ℕ → Listed
+backupSlotOf v slot xs = listedAt (slotAt slot) (backupNumbers (geometryOf v)) v xs

@@ -1,0 +1,31 @@
+-- The claim for upkeep's numbers: the call that a C caller makes of the eight numbers is the one that upkeep advises.
+use Prim.Native.Nat.{ℕ}
+use mathlib.Core.Path.{_≡_}
+use mathlib.Core.Bool.{Bool, true, false, cond}
+use mathlib.Core.List.{List, [], _∷_}
+use lib.Dec.{eqb}
+use lib.ListN.{length, getD}
+use Rattle.model.specs.Tables.{firstOf}
+use Rattle.model.specs.Calls.{Call, load, change, force, write, backup, note}
+use Rattle.model.specs.Upkeep.{make, adviseRows, upkeepOf}
+use Rattle.face.specs.Numbers.{stateOf, fits}
+use Rattle.face.specs.Arguments.{changeFrom, payloadFrom}
+use Rattle.face.specs.Advice.{upkeepFace}
+
+-- what lib/pagestore_file.c makes of them: the put has fill 0 and a payload of one byte
+unfoldable pub callFrom : List ℕ → Call
+callFrom xs =
+    let n = getD xs 1 0 in
+    let page = getD xs 2 0 in
+    let put = changeFrom (getD xs 4 0) (getD xs 6 0) (getD xs 5 0) 0 1 in
+    cond (eqb n 4) (load page (getD xs 3 0))
+    (cond (eqb n 5) (change page put (payloadFrom (getD xs 7 0 ∷ [])))
+    (cond (eqb n 6) force (cond (eqb n 7) (write page) (cond (eqb n 8) (backup page (getD xs 3 0)) note))))
+
+-- where upkeep is not refused and advises a call: kind 1, and that call
+abbrev pub AdviceTold : Type 0
+AdviceTold =
+    (v m xs : List ℕ) (r : ℕ) (report : List ℕ) → fits xs ≡ true → length report ≡ 8
+    → firstOf (adviseRows v m (stateOf xs) r) ≡ 0 → (c : Call) → upkeepOf v m (stateOf xs) r ≡ make c
+    → (upkeepFace v m xs r report .refusal ≡ 0) × (getD (upkeepFace v m xs r report .numbers) 0 0 ≡ 1)
+    × (callFrom (upkeepFace v m xs r report .numbers) ≡ c)

@@ -1,0 +1,141 @@
+-- `capi::advice::command_numbers`: a row for each call.
+use borrow.Author.Needs.{needs}
+use Rattle.capi.proofs.advice.command_numbers.Statement.{statement}
+use Rattle.capi.proofs.advice.command_numbers.Tie as tie
+
+enum-known-c : tie.Need-enum-known-c
+enum-known-c c = search needs
+
+plain-requires : tie.Need-plain-requires
+plain-requires c κs = search needs
+
+enum-known-c-2 : tie.Need-enum-known-c-2
+enum-known-c-2 c = search needs
+
+plain-requires-2 : tie.Need-plain-requires-2
+plain-requires-2 c κs = search needs
+
+enum-known-c-3 : tie.Need-enum-known-c-3
+enum-known-c-3 c = search needs
+
+change-numbers-requires : tie.Need-change-numbers-requires
+change-numbers-requires c κs = search needs
+
+enum-told : tie.Need-enum-told
+enum-told c = search needs
+
+plain-requires-3 : tie.Need-plain-requires-3
+plain-requires-3 c κs = search needs
+
+enum-known-c-4 : tie.Need-enum-known-c-4
+enum-known-c-4 c = search needs
+
+plain-requires-4 : tie.Need-plain-requires-4
+plain-requires-4 c κs = search needs
+
+enum-known-c-5 : tie.Need-enum-known-c-5
+enum-known-c-5 c = search needs
+
+plain-requires-5 : tie.Need-plain-requires-5
+plain-requires-5 c κs = search needs
+
+enum-known-c-6 : tie.Need-enum-known-c-6
+enum-known-c-6 c = search needs
+
+plain-requires-6 : tie.Need-plain-requires-6
+plain-requires-6 c κs = search needs
+
+enum-told-2 : tie.Need-enum-told-2
+enum-told-2 c = search needs
+
+plain-requires-7 : tie.Need-plain-requires-7
+plain-requires-7 c κs = search needs
+
+enum-told-3 : tie.Need-enum-told-3
+enum-told-3 c = search needs
+
+plain-requires-8 : tie.Need-plain-requires-8
+plain-requires-8 c κs = search needs
+
+enum-told-4 : tie.Need-enum-told-4
+enum-told-4 c = search needs
+
+plain-requires-9 : tie.Need-plain-requires-9
+plain-requires-9 c κs = search needs
+
+enum-told-5 : tie.Need-enum-told-5
+enum-told-5 c = search needs
+
+plain-requires-10 : tie.Need-plain-requires-10
+plain-requires-10 c κs = search needs
+
+returns : tie.Need-returns
+returns c = rw (c .before .before .c .given .1) (c .plain .ensures)
+
+returns-2 : tie.Need-returns-2
+returns-2 c = rw (c .before .before .c2 .given .1) (c .plain2 .ensures)
+
+returns-3 : tie.Need-returns-3
+returns-3 c = rw (c .before .before .c3 .given .1) (c .change-numbers .ensures)
+
+returns-4 : tie.Need-returns-4
+returns-4 c = rw (c .before .enum-told .given .1) (c .plain3 .ensures)
+
+returns-5 : tie.Need-returns-5
+returns-5 c = rw (c .before .before .c4 .given .1) (c .plain4 .ensures)
+
+returns-6 : tie.Need-returns-6
+returns-6 c = rw (c .before .before .c5 .given .1) (c .plain5 .ensures)
+
+returns-7 : tie.Need-returns-7
+returns-7 c = rw (c .before .before .c6 .given .1) (c .plain6 .ensures)
+
+returns-8 : tie.Need-returns-8
+returns-8 c = rw (c .before .enum-told2 .given .1) (c .plain7 .ensures)
+
+returns-9 : tie.Need-returns-9
+returns-9 c = rw (c .before .enum-told3 .given .1) (c .plain8 .ensures)
+
+returns-10 : tie.Need-returns-10
+returns-10 c = rw (c .before .enum-told4 .given .1) (c .plain9 .ensures)
+
+returns-11 : tie.Need-returns-11
+returns-11 c = rw (c .before .enum-told5 .given .1) (c .plain10 .ensures)
+
+pub command-numbers-spec : {M : Type 1} → statement M
+command-numbers-spec =
+    tie.close
+    (tie.spec
+    enum-known-c
+    plain-requires
+    enum-known-c-2
+    plain-requires-2
+    enum-known-c-3
+    change-numbers-requires
+    enum-told
+    plain-requires-3
+    enum-known-c-4
+    plain-requires-4
+    enum-known-c-5
+    plain-requires-5
+    enum-known-c-6
+    plain-requires-6
+    enum-told-2
+    plain-requires-7
+    enum-told-3
+    plain-requires-8
+    enum-told-4
+    plain-requires-9
+    enum-told-5
+    plain-requires-10
+    returns
+    returns-2
+    returns-3
+    returns-4
+    returns-5
+    returns-6
+    returns-7
+    returns-8
+    returns-9
+    returns-10
+    returns-11)
