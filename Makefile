@@ -83,7 +83,7 @@ demo-check: scan-program
 
 # make library            the store for C: target/libpagestore.a, the proved functions and the plain C of lib/
 # make c-test             the C functions: K6 to K12, every refusal, full, smallest and random volumes, the stack they take
-# make example-check      the program that README quotes, on the sample volume, against what it must print
+# make example-check      the program that docs/C.md quotes, on the sample volume, against what it must print
 # make guide-check        the program of docs/C.md, compiled and run as it stands there
 .PHONY: library c-test c-sanitized example-check guide-check
 CC_TEST = gcc -Wall -Wextra -Werror -std=c11 -O2 -Iinclude
@@ -137,7 +137,7 @@ guide-check: library
 # make torture            the store in a file, killed, cut and damaged, against a plain book; ROUNDS=300, SEED=1,
 #                         MODE=upkeep: small rings, and no call may be refused for room
 # make torture-check      300 rounds of it, failing calls of the system, both sanitized too, faults planted in the layer
-# make ward-check         README's story of examples/ward.c, word by word
+# make ward-check         docs/C.md's story of examples/ward.c, word by word
 .PHONY: torture torture-check torture-program ward-check
 ROUNDS ?= 300
 SEED ?= 1
@@ -246,8 +246,13 @@ bench-sqlite: library
 	    ./target/c/bench_sqlite "$$disk" "$$shm"; status=$$?; rm -rf "$$disk" "$$shm"; exit $$status
 
 # make kit-check          tells which Rattle kit is at hand, and which the proofs were last run with (file rattle-kit)
+# make docs               writes what tools make: the table of what functions ask, the names that the cases open
 # make docs-check         the documents against the sources: refusals, names, the quoted example, columns
-.PHONY: kit-check docs-check
+.PHONY: kit-check docs docs-check
+docs:
+	@python3 tools/requirements.py --write
+	@python3 tools/opened.py
+
 kit-check:
 	@kit="$$(rt version)" || { echo "rt: the Rattle kit is needed (rt on the path)"; exit 1; }; \
 	last="$$(cat rattle-kit)"; \
@@ -258,11 +263,11 @@ docs-check:
 	@python3 tools/documents.py
 	@python3 tools/mutants.py --texts
 
-# make reference-test     the second implementation: its tests, and its own histories against its own plain book
+# make reference-test     the second implementation: its tests, and its own histories against its own abstract log
 .PHONY: reference-test
 reference-test:
 	@cd reference && cargo test -q --release --offline
-	@cd reference && cargo build -q --release --offline && ./target/release/checkbook --seed 1 --count 200
+	@cd reference && cargo build -q --release --offline && ./target/release/check_histories --seed 1 --count 200
 
 # make fuzz               random scripts through both implementations; FUZZ_SECONDS=60, FUZZ_SEED=number (the clock)
 # make against            the C function against the second implementation's inspection, on volumes of every kind
@@ -280,8 +285,8 @@ against: library
 	@$(AGAINST) against_store
 
 bench-program: library
-	@$(STATICLIB) measure
-	@$(CC_TEST) bench/*.c tests/c/volume.c target/staticlib/libmeasure.a $(LIBRARY) -o target/c/bench
+	@$(STATICLIB) bench_calls
+	@$(CC_TEST) bench/*.c tests/c/volume.c target/staticlib/libbench_calls.a $(LIBRARY) -o target/c/bench
 
 bench-check: bench-program
 	@./target/c/bench check

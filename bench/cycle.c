@@ -2,7 +2,7 @@
  * made volume; before that, all are played on volumes of several kinds, and must leave the same bytes. */
 #include "../include/pagestore.h"
 #include "bench.h"
-#include "store.h"
+#include "by_value.h"
 #include "../tests/c/volume.h"
 
 #include <stdio.h>
@@ -16,35 +16,55 @@ typedef uint32_t cycles(uint8_t *, size_t, uint8_t *, size_t, uint32_t);
 
 static uint8_t ours[MOST], theirs[MOST], memory_ours[1024 + 17 * IMAGE], memory_theirs[1024 + 17 * IMAGE];
 
-/* The cycles of crates/measure: page n + 1 is begun in frame 1, changed, forced twice, written and noted, and page n is
- * loaded into frame 2. Gives the last reply, with the number of refusals in `number`. */
-static struct reply played(struct bytes b, uint32_t count) {
+/* The cycles of crates/bench_calls: page n + 1 is begun in frame 1, changed, forced twice, written and noted, and page
+ * n is loaded into frame 2. The number of refusals. */
+static uint32_t by_value_cycles(uint8_t *volume, size_t volume_len, uint8_t *memory, size_t memory_len,
+                                uint32_t count) {
+    struct bytes b = {volume, volume_len, memory, memory_len};
     uint8_t payload[44];
     memset(payload, 9, sizeof payload);
-    struct reply r = peer_restart(b);
-    uint32_t refused = r.kind == REFUSED;
+    struct reply r = by_value_restart(b);
+    uint32_t refused = r.answer.kind == REFUSED;
     for (uint32_t n = 0; n < count; n++) {
-        r = peer_begin(r.state, b, n + 1, 1, 7);
-        refused += r.kind == REFUSED;
-        r = peer_put(r.state, b, n + 1, 100, 44, payload);
-        refused += r.kind == REFUSED;
-        r = peer_force(r.state, b);
-        refused += r.kind == REFUSED;
-        r = peer_force(r.state, b);
-        refused += r.kind == REFUSED;
-        r = peer_write(r.state, b, n + 1);
-        refused += r.kind == REFUSED;
-        r = peer_note(r.state, b);
-        refused += r.kind == REFUSED;
-        r = peer_load(r.state, b, n, 2);
-        refused += r.kind == REFUSED;
+        r = by_value_begin(r.state, b, n + 1, 1, 7);
+        refused += r.answer.kind == REFUSED;
+        r = by_value_put(r.state, b, n + 1, 100, 44, payload);
+        refused += r.answer.kind == REFUSED;
+        r = by_value_force(r.state, b);
+        refused += r.answer.kind == REFUSED;
+        r = by_value_force(r.state, b);
+        refused += r.answer.kind == REFUSED;
+        r = by_value_write(r.state, b, n + 1);
+        refused += r.answer.kind == REFUSED;
+        r = by_value_note(r.state, b);
+        refused += r.answer.kind == REFUSED;
+        r = by_value_load(r.state, b, n, 2);
+        refused += r.answer.kind == REFUSED;
     }
-    r.number = refused;
-    return r;
+    return refused;
 }
 
-static uint32_t peer_cycles(uint8_t *volume, size_t volume_len, uint8_t *memory, size_t memory_len, uint32_t count) {
-    return played((struct bytes){volume, volume_len, memory, memory_len}, count).number;
+/* The same with the state in place, which is left in *s. */
+static uint32_t played(struct state *s, struct bytes b, uint32_t count) {
+    uint8_t payload[44];
+    memset(payload, 9, sizeof payload);
+    uint32_t refused = peer_restart(s, b).kind == REFUSED;
+    for (uint32_t n = 0; n < count; n++) {
+        refused += peer_begin(s, b, n + 1, 1, 7).kind == REFUSED;
+        refused += peer_put(s, b, n + 1, 100, 44, payload).kind == REFUSED;
+        refused += peer_force(s, b).kind == REFUSED;
+        refused += peer_force(s, b).kind == REFUSED;
+        refused += peer_write(s, b, n + 1).kind == REFUSED;
+        refused += peer_note(s, b).kind == REFUSED;
+        refused += peer_load(s, b, n, 2).kind == REFUSED;
+    }
+    return refused;
+}
+
+static uint32_t in_place_cycles(uint8_t *volume, size_t volume_len, uint8_t *memory, size_t memory_len,
+                                uint32_t count) {
+    struct state s;
+    return played(&s, (struct bytes){volume, volume_len, memory, memory_len}, count);
 }
 
 /* The same cycles by the calls for C: the state's numbers go in and out of each. */
@@ -70,17 +90,20 @@ static uint32_t c_cycles(uint8_t *volume, size_t volume_len, uint8_t *memory, si
 
 /* All from the volume in `ours`: the same refusals, volume and memory. */
 static void same(const char *name, size_t size, size_t memory, uint32_t count) {
-    cycles *const others[] = {c_cycles, peer_cycles};
+    static const struct {
+        cycles *made;
+        const char *name;
+    } others[] = {{c_cycles, "for C"}, {by_value_cycles, "peer by value"}, {in_place_cycles, "peer in place"}};
     static uint8_t before[MOST];
     memcpy(before, ours, size);
     memset(memory_ours, 5, sizeof memory_ours);
     uint32_t a = pagestore_cycles(ours, size, memory_ours, memory, count);
-    for (int i = 0; i < 2; i++) {
+    for (int i = 0; i < 3; i++) {
         memcpy(theirs, before, size);
         memset(memory_theirs, 5, sizeof memory_theirs);
-        uint32_t b = others[i](theirs, size, memory_theirs, memory, count);
+        uint32_t b = others[i].made(theirs, size, memory_theirs, memory, count);
         if (a == b && !memcmp(ours, theirs, size) && !memcmp(memory_ours, memory_theirs, sizeof memory_ours)) continue;
-        printf("cycles, %s: proved %u refusals, %s %u: they differ\n", name, a, i ? "peer" : "for C", b);
+        printf("cycles, %s: proved %u refusals, %s %u: they differ\n", name, a, others[i].name, b);
         exit(1);
     }
 }
@@ -119,7 +142,8 @@ static void clauses_tried(void) {
     struct volume v;
     heading = "CHPV";
     make(ours, c);
-    struct state s = played((struct bytes){ours, size_of(c), memory_ours, MEMORY}, 3).state;
+    struct state s;
+    played(&s, (struct bytes){ours, size_of(c), memory_ours, MEMORY}, 3);
     bool right = peer_open(&v, ours, size_of(c)) && peer_well_formed(&v, &s, 2);
     struct state t = s;
     for (int k = 0; broken(&t, k); k++, t = s) {
@@ -169,15 +193,16 @@ static double round_of(cycles *f, const uint8_t *made, size_t size) {
 void cycles_timed(void) {
     static uint8_t made[MOST];
     struct counts c = {CYCLES, 0, 2 * CYCLES, CYCLES};
-    cycles *const sides[] = {pagestore_cycles, peer_cycles, c_cycles};
-    double best[] = {1e18, 1e18, 1e18};
+    cycles *const sides[] = {pagestore_cycles, by_value_cycles, c_cycles, in_place_cycles};
+    double best[] = {1e18, 1e18, 1e18, 1e18};
     make(made, c);
     for (int i = 0; i < 3000; i++)
-        for (int k = 0; k < 3; k++) {
+        for (int k = 0; k < 4; k++) {
             double spent = round_of(sides[k], made, size_of(c));
             if (spent < best[k]) best[k] = spent;
         }
-    row("cycle of seven calls", best[0], best[1]);
-    row("the same by the calls for C", best[2], best[1]);
+    row("cycle of seven calls, C by value", best[0], best[1]);
+    row("the same, C in place", best[0], best[3]);
+    row("by the calls for C, C in place", best[2], best[3]);
     printf("| the calls for C beside those of Rattle | %.0f | %.0f | %.2f |\n", best[2], best[0], best[2] / best[0]);
 }

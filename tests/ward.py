@@ -1,7 +1,7 @@
 #!/usr/bin/env python3
-"""Runs README's story of examples/ward.c word by word, in a folder of its own, and compares all that is printed.
+"""Runs docs/C.md's story of examples/ward.c word by word, in a folder of its own, and compares all that is printed.
 
-A line of the story that starts with '$ ' is a command, the lines below it are what it prints. Where README's text is
+A line of the story that starts with '$ ' is a command, the lines below it are what it prints. Where the text is
 not what the commands do, the difference is shown and the exit status is 1.
 """
 import difflib
@@ -16,11 +16,11 @@ FIRST = "-o ward"
 
 
 def story():
-    """The lines of README's block that builds ward, without their indent."""
-    blocks = (ROOT / "README.md").read_text().split("\n\n")
+    """The lines of the block of docs/C.md that builds ward, without their indent."""
+    blocks = (ROOT / "docs/C.md").read_text().split("\n\n")
     found = [block for block in blocks if block.startswith("    $ ") and FIRST in block.split("\n")[0]]
     if len(found) != 1:
-        sys.exit(f"README.md has {len(found)} stories of ward")
+        sys.exit(f"docs/C.md has {len(found)} stories of ward")
     return [line.removeprefix("    ") for line in found[0].splitlines()]
 
 
@@ -48,9 +48,9 @@ def main():
     told = story()
     came = run([line.removeprefix("$ ") for line in told if line.startswith("$ ")])
     if came == told:
-        print(f"README's story of ward: {sum(line.startswith('$ ') for line in told)} commands, as it says")
+        print(f"docs/C.md's story of ward: {sum(line.startswith('$ ') for line in told)} commands, as it says")
         return 0
-    print(*difflib.unified_diff(told, came, "README.md", "what the commands print", lineterm=""), sep="\n")
+    print(*difflib.unified_diff(told, came, "docs/C.md", "what the commands print", lineterm=""), sep="\n")
     return 1
 
 

@@ -4,6 +4,16 @@ from pathlib import Path
 ROOT = Path(__file__).resolve().parent.parent
 
 
+# the crates of definitions, whose files have names of their own
+DEFINITIONS = ("model", "reports", "planning", "upkeep_policy")
+
+
+def definitions(root=ROOT):
+    """Every file of definitions, by its name."""
+    files = (path for crate in DEFINITIONS for path in (root / "crates" / crate / "specs").glob("*.antt"))
+    return {path.stem: path for path in files if path.stem != "Lib"}
+
+
 def listed():
     """Every crate with its dependencies, in the order of crates.txt."""
     lines = {}

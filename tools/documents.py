@@ -1,21 +1,28 @@
 #!/usr/bin/env python3
 """Holds the documents against the sources; prints each difference, and exits with 1 where there is one.
 
-The refusals stand in docs/FORMAT.md, section 6. README's short table, the constants of include/pagestore.h and the
-order of the rows in crates/model/specs (Reading, Refusals, Health, Forecast, Archive, Mirror, Rehearsal) and
-crates/face/specs (Slots) must be the same.
-README quotes examples/show.c. Every function, definition, must-fail edit and file that the documents name is there.
-No line has more than 120 columns.
+The refusals stand in docs/FORMAT.md, section 6. The constants of include/pagestore.h and the order of the rows in the
+definitions (Reading, Refusals, Examine, Forecast, Archive, Mirror, Rehearsal) and crates/face/specs (Slots) must be the
+same. docs/C.md quotes examples/show.c. crates/README.md has a line for every crate of crates.txt and allows what each
+depends on. Every function, definition, must-fail edit and file that the documents name is there.
+crates/cases/specs/Opened.antt and the table of what functions ask are as their tools write them. README has at most 150
+lines; no line has more than 120 columns, but for rows of the trace and of that table.
 """
 import itertools
 import re
 import sys
 
 import crates
+import opened
+import requirements
 from crates import ROOT
 
 WIDTH = 120
-DOCUMENTS = ["README.md"] + sorted(str(p.relative_to(ROOT)) for p in (ROOT / "docs").glob("*.md"))
+README_LINES = 150
+DOCUMENTS = ["README.md", "CONTRIBUTING.md", "CHANGELOG.md", "crates/README.md"]
+DOCUMENTS += sorted(str(p.relative_to(ROOT)) for p in (ROOT / "docs").glob("*.md"))
+# documents whose tables have one row an entry, however long
+LONG_ROWS = ("docs/TRACE.md", "docs/DECISIONS.md")
 NARROW = ["include/*.h", "lib/*", "examples/*.c", "tests/c/*", "bench/sqlite/*"]
 
 
@@ -64,22 +71,19 @@ CALLED = {
     "slot": "record",
 }
 
-# the crates whose functions are public
-FACES = ("store", "inspect", "estimate", "export", "extract", "compare", "rehearsal")
-
-
 def defined_orders():
-    """What the definitions have for each call: the numbers of its rows, each once."""
-    names = ("Reading", "Refusals", "Health", "Forecast", "Archive", "Mirror", "Rehearsal")
-    files = [f"model/specs/{name}" for name in names]
-    text = re.sub(r"--.*", "", "".join(read(f"crates/{name}.antt") for name in [*files, "face/specs/Slots"]))
-    bodies = {name: body for name, body in re.findall(r"^(\w+)Rows(?! :)(.*(?:\n .*)*)", text, re.M)}
+    """What the definitions have for each call: the numbers of its rows, each once. A tail is part of a list."""
+    names = ("Reading", "Refusals", "Examine", "Forecast", "Archive", "Mirror", "Rehearsal")
+    paths = [*(crates.definitions()[name] for name in names), ROOT / "crates/face/specs/Slots.antt"]
+    text = re.sub(r"--.*", "", "".join(path.read_text() for path in paths))
+    bodies = dict(re.findall(r"^(\w+(?:Rows|Tail))(?! :)(.*(?:\n .*)*)", text, re.M))
 
     def numbers(body):
-        words = re.findall(r"\b(\w+)Rows\b|, (\d+)\)", body)
+        words = re.findall(r"\b(\w+(?:Rows|Tail))\b|, (\d+)\)", body)
         return list(itertools.chain(*(numbers(bodies[other]) if other else [int(n)] for other, n in words)))
 
-    own = {CALLED.get(name, name.lower()): body for name, body in bodies.items() if name not in SHARED}
+    calls = {name.removesuffix("Rows"): body for name, body in bodies.items() if name.endswith("Rows")}
+    own = {CALLED.get(name, name.lower()): body for name, body in calls.items() if name not in SHARED}
     return {name: list(dict.fromkeys(numbers(body))) for name, body in own.items()}
 
 
@@ -92,12 +96,6 @@ def check_refusals():
     for call, rows in order.items():
         if defined.get(call.lower(), rows) != rows:
             yield f"refusals of {call}: docs/FORMAT.md has {rows}, the definitions {defined[call.lower()]}"
-    listed = itertools.chain(*table(read("README.md"), [""] * 4))
-    short = dict(cell.split(" ", 1) for cell in listed if cell)
-    for number, (words, _) in known.items():
-        if short.pop(str(number), None) != words:
-            yield f"README.md, refusal {number}: docs/FORMAT.md has '{words}'"
-    yield from (f"README.md, refusal {number}: not in docs/FORMAT.md" for number in short)
     answers = read("include/pagestore.h").partition("/* ---- answers")[2].partition("/* ---- the volume")[0]
     constants = {int(n): name for name, n in re.findall(r"#define (\w+) (\d+)u", answers)}
     wanted = {0: "PAGESTORE_OK", 256: "PAGESTORE_NOTHING"} | {n: name for n, (_, name) in known.items()}
@@ -127,17 +125,18 @@ def check_functions(document, text):
 
 def check_definitions(document, text):
     """Names such as Item.imagePage, imageLsn in the definitions' column of the trace."""
-    specs = {p.stem: p.read_text() for p in (ROOT / "crates/model/specs").glob("*.antt")}
+    paths = crates.definitions()
+    specs = {name: path.read_text() for name, path in paths.items()}
     for file, names in re.findall(r"\b([A-Z][A-Za-z0-9]+)\.([A-Za-z]\w*(?:, [A-Za-z]\w*)*)", text):
         for name in names.split(", ") if file in specs else []:
             declared = re.compile(rf"^ *(?:(?:abbrev|unfoldable|pub|record|data|enum|struct) )*{name}\b", re.M)
             if name not in specs and not declared.search(specs[file]):
-                yield f"{document}: {file}.{name}: there is no such definition in crates/model/specs/{file}.antt"
+                yield f"{document}: {file}.{name}: there is no such definition in {paths[file].relative_to(ROOT)}"
 
 
 def check_edits(document, text):
     """Must-fail edits are written `crate/label`, or `crate/*`."""
-    for crate, label in re.findall(r"`([a-z]+)/([a-z_0-9]+|\*)`", text):
+    for crate, label in re.findall(r"`([a-z_]+)/([a-z_0-9]+|\*)`", text):
         folders = ROOT / "crates" / crate / "must-fail", ROOT / "tests/edits" / crate
         if folders[0].parent.is_dir() and not any(list(folder.glob(label + ".edit")) for folder in folders):
             yield f"{document}: there is no must-fail edit {crate}/{label}"
@@ -153,21 +152,10 @@ def check_files(document, text):
             yield f"{document}: there is no {name}"
 
 
-def merged(rows):
-    """The rows of a table; one whose first cell is empty continues the one above."""
-    whole = []
-    for first, *rest in rows:
-        if first or not whole:
-            whole.append([first, *rest])
-        else:
-            whole[-1][1:] = [f"{above} {below}".strip() for above, below in zip(whole[-1][1:], rest)]
-    return whole
-
-
 def traced(text):
     """The rows of the trace's two tables."""
     tables = (table(text, ["no.", "obligation", "definition", last]) for last in ("shown by", "what shows it"))
-    return list(itertools.chain(*map(merged, tables)))
+    return list(itertools.chain(*tables))
 
 
 def check_trace():
@@ -182,59 +170,63 @@ def check_trace():
             yield from check_definitions("docs/TRACE.md", row[2])
 
 
-# ---- what functions ask of their callers
-
-
-def asking(crate):
-    """The crate's `pub` functions with a `requires`: path and what they ask, `now x` written x."""
-    source = ROOT / "crates" / crate / "src"
-    for path in sorted(source.rglob("*.rt")):
-        module = [word for word in path.relative_to(source).with_suffix("").parts if word != "lib"]
-        for name, contract in re.findall(r"^pub fn (\w+)(.*?)^\{", path.read_text(), re.M | re.S):
-            asked = re.findall(r"requires(?: \w+)? \{ (.*?) \}\n", contract, re.S)
-            if asked:
-                words = re.sub(r"[⌜⌝]|\s+", " ", "; ".join(asked))
-                yield "::".join([crate, *module, name]), re.sub(r"\(now (\w+)\)", r"\1", " ".join(words.split()))
-
-
-def check_requirements():
-    listed = {row[0].strip("`"): row[1] for row in merged(table(read("docs/DECISIONS.md"), ["function", "asks"]))}
-    found = {path: asked for face in FACES for crate in crates.needed(face) for path, asked in asking(crate)}
-    for path in sorted(set(found) | set(listed)):
-        asked = found.get(path, "nothing").replace(" ;", ";")
-        if listed.get(path) != asked:
-            yield f"docs/DECISIONS.md: {path} asks: {asked}"
-        crate = path.split("::")[0]
-        if path in found and (crate in ("store", "inspect") or (crate in FACES and path.count("::") == 1)):
-            yield f"{path}: a public function that asks something"
-
-
 # ---- all
 
 
-def check_layers():
-    """In README's layers a name of a crate has two spaces before and after it."""
-    layers = read("README.md").partition("## The layers")[2].partition("\nA volume:")[0]
-    names = re.findall(r"(?<=  )\w+(?=  )", layers)
-    yield from (f"README.md, the layers: there is no {crate}" for crate in crates.listed() if crate not in names)
+def crate_map():
+    """What crates/README.md says: what a wing and a layer may depend on, and of every crate its wing and layer."""
+    text = read("crates/README.md")
+    rules = [table(text, [kind, "may depend on"]) for kind in ("wing", "layer")]
+    rules = [{name: may.split(", ") for name, may in rows} for rows in rules]
+    places = {}
+    for wing in rules[0]:
+        part = text.partition(f"\n## {wing}\n")[2].partition("\n## ")[0]
+        places |= {row[0].strip("`"): (wing, row[1]) for row in table(part, ["crate", "layer", "what it is"])}
+    return rules, places
+
+
+def check_map():
+    rules, places = crate_map()
+    listed = crates.listed()
+    yield from (f"crates/README.md: there is no line for {crate}" for crate in listed if crate not in places)
+    yield from (f"crates/README.md: there is no crate {crate}" for crate in places if crate not in listed)
+    for crate, dep in ((crate, dep) for crate in listed for dep in listed[crate] if {crate, dep} <= set(places)):
+        for rule, own, other in zip(rules, places[crate], places[dep]):
+            if other not in rule.get(own, []):
+                yield f"crates.txt: {crate} ({own}) depends on {dep} ({other}), which crates/README.md does not allow"
 
 
 def check_example():
-    code = re.findall(r"^```c\n(.*?)^```", read("README.md"), re.M | re.S)
-    if code != [read("examples/show.c")]:
-        yield "README.md does not quote examples/show.c as it is"
+    code = re.findall(r"^```c\n(.*?)^```", read("docs/C.md"), re.M | re.S)
+    if read("examples/show.c") not in code:
+        yield "docs/C.md does not quote examples/show.c as it is"
 
 
 def check_width():
     for path in [ROOT / d for d in DOCUMENTS] + [p for glob in NARROW for p in sorted(ROOT.glob(glob))]:
         for number, line in enumerate(path.read_text().splitlines(), 1):
-            if len(line) > WIDTH:
+            row = line.startswith("|") and str(path.relative_to(ROOT)) in LONG_ROWS
+            if len(line) > WIDTH and not row:
                 yield f"{path.relative_to(ROOT)}:{number}: {len(line)} columns"
 
 
+def check_edit_lines():
+    """An edit replaces whole lines one by one: what stood below `old:` or `new:` would be passed over."""
+    for path in sorted([*ROOT.glob("crates/*/must-fail/*.edit"), *ROOT.glob("tests/edits/*/*.edit")]):
+        words = [line.split(":")[0] for line in path.read_text().splitlines() if not line.startswith("#")]
+        if words != ["file", *["old", "new"] * (len(words) // 2)] or len(words) < 3:
+            yield f"{path.relative_to(ROOT)}: not a file, then an old line and a new one for each change"
+
+
+def check_readme():
+    lines = len(read("README.md").splitlines())
+    if lines > README_LINES:
+        yield f"README.md has {lines} lines, at most {README_LINES}"
+
+
 def main():
-    found = [*check_refusals(), *check_requirements(), *check_trace()]
-    found += [*check_layers(), *check_example(), *check_width()]
+    found = [*check_refusals(), *requirements.differences(), *opened.faults(), *check_trace()]
+    found += [*check_map(), *check_example(), *check_width(), *check_readme(), *check_edit_lines()]
     for document in DOCUMENTS:
         text = read(document)
         found += [*check_functions(document, text), *check_edits(document, text), *check_files(document, text)]

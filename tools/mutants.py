@@ -2,13 +2,15 @@
 """Tries wrong edits of the definitions (tools/mutants.txt): each must make a computed case or a proof fail.
 
 An edit is applied to a copy of the crates that it needs, in a temporary folder. For `cases` the one theorem about all
-rows is replaced by one declaration for each row or history that the edit names, so that a failure says which caught
-it; the check must fail there, by a computed test that is now false, and nowhere else. For `history` the check must fail
-in a proof of `laws` or `history`, for `instances` (a claim that says less, which its proofs still give) also in one of
-its own, and not for a name that is missing or a text that is not read.
+rows is replaced by one declaration for each row or history that the edit names, so that a failure says which caught it;
+the check must fail there, by a computed test that is now false, and nowhere else. For `history`, `reports_theory` and
+`planning_theory` the check must fail in a proof of theirs or of the laws below, for `instances` and `bounds` (a claim
+that says less, which its proofs still give) also in one of their own, and not for a name that is missing or a text that
+is not read. The definitions for C (`file face/NAME`, `file called/NAME`) are tried against `numbers`, `capi` or
+`called`, whose proofs must fail, over what target/ has proved of the crates below.
 
     python3 tools/mutants.py [--only WORD] [--file NAME] [--part WORD] [--search] [--jobs N] [--texts]
-                             [--crate cases|upkeep_cases|history|instances]
+                             [--crate NAME]
 
 --only tries the edits whose name holds WORD, --file those of one definition file, --part those under the headings of
 the list that hold WORD; each may be given more than once, and an edit is tried if it meets one of each option given.
@@ -26,9 +28,8 @@ import tempfile
 from concurrent.futures import ThreadPoolExecutor
 from pathlib import Path
 
-from crates import ROOT, needed
+from crates import ROOT, definitions, needed
 
-SPECS = Path("crates/model/specs")
 PROBE = """-- One declaration for each row or history asked for: made by tools/mutants.py.
 use Prim.Native.String.{String}
 use mathlib.Core.Bool.{Bool, true, false, cond}
@@ -37,7 +38,8 @@ use lib.Dec.{T}
 use lib.Text.{eqt}
 use Rattle.cases.specs.Opened.{opened}
 use Rattle.cases.specs.Rows.{Row, same}
-use Rattle.cases.specs.All.{rows, diskRows, callRows, turnedRows, laterRows, playedRows, allHistories}
+use Rattle.cases.specs.All.{rows, diskRows, callRows, turnedRows, reportRows, planningRows, carryRows}
+use Rattle.cases.specs.All.{allHistories}
 use Rattle.cases.specs.Rings.{ringRows, ringEvents}
 use Rattle.cases.specs.RingEdges.{ringEdges}
 use Rattle.cases.specs.Examined.{examinedRows}
@@ -70,24 +72,30 @@ use lib.Text.{eqt}
 use Rattle.cases.specs.Opened.{opened}
 use Rattle.cases.specs.Rows.{Row, same}
 use Rattle.upkeep_cases.specs.Upkeeps.{upkeepRows}
-use Rattle.upkeep_cases.specs.Turns.{turnRows, lockRows}
+use Rattle.upkeep_cases.specs.Turns.{turnRows, laterTurns, lockRows}
 
 row : String → List Row → Bool
 row n [] = true
 row n (r ∷ rs) = let rest = row n rs in let here = cond (same (r .found) (r .says)) rest false in cond (eqt (r .name) n) here rest
 
 unfoldable rows : List Row
-rows = upkeepRows ++ (turnRows ++ lockRows)
+rows = upkeepRows ++ (turnRows ++ (laterTurns ++ lockRows))
 """
 ROW_CRATES = ("cases", "upkeep_cases")
+PROOF_CRATES = ("history", "reports_theory", "planning_theory", "instances", "bounds")
+# what a wrong definition for C is tried against
+C_CRATES = ("numbers", "capi", "called")
 # what a row's test unfolds: the table's parts, and all that they compute with
 OPENED = (
-    "opened rows diskRows callRows turnedRows ringRows ringEvents ringEdges laterRows examinedRows forecastRows "
-    "archiveRows mirrorRows neighbourRows rehearsalCases rehearsalRuns playedRows carriedRows carriedEvents histories "
-    "allHistories"
+    "opened rows diskRows callRows turnedRows ringRows ringEvents ringEdges reportRows examinedRows forecastRows "
+    "archiveRows mirrorRows neighbourRows planningRows rehearsalCases rehearsalRuns carryRows carriedRows carriedEvents "
+    "histories allHistories"
 )
+UPKEEP_OPENED = "opened rows upkeepRows turnRows laterTurns lockRows"
 # the error of a test that computes to false; a long name puts the types on a line of their own
 FALSE = r"`caught-(\d+)`: (?:expected type|.*type mismatch|.*the two types are `Prim\.⊥` \(expected\))"
+# the proofs that an edit may break
+BROKEN = re.compile(rf"/crates/(laws|reports_laws|{'|'.join(PROOF_CRATES + C_CRATES)})/proofs/")
 # errors that say that an edit is no definition, and nothing of what it means
 NOT_READ = re.compile(
     r"Parse|cannot be named|not in scope|unknown name|was not admitted|cannot be unfolded|has no `|components"
@@ -129,8 +137,19 @@ def table():
     return rows, histories
 
 
+def definition(folder, edit):
+    """The file that the edit changes: one of the crates of definitions, or of the crate that it names."""
+    crate, _, name = edit["file"].rpartition("/")
+    named = folder / "crates" / crate / "specs" / name
+    return named if crate else definitions(folder).get(name.removesuffix(".antt"), folder / name)
+
+
 def copy(crate, to):
     lines = needed(crate)
+    if crate in C_CRATES:
+        for proved in ("rlib", "stamp", "log"):
+            if (ROOT / "target" / proved).is_dir():
+                shutil.copytree(ROOT / "target" / proved, to / "target" / proved)
     for name in lines:
         shutil.copytree(ROOT / "crates" / name, to / "crates" / name)
     (to / "crates.txt").write_text("".join(f"{name}: {' '.join(deps)}\n" for name, deps in lines.items()))
@@ -142,7 +161,7 @@ def copy(crate, to):
 
 
 def write_probe(crate, to, rows, names):
-    text, opened = (PROBE, OPENED) if crate == "cases" else (UPKEEP_PROBE, "opened rows upkeepRows turnRows lockRows")
+    text, opened = (PROBE, OPENED) if crate == "cases" else (UPKEEP_PROBE, UPKEEP_OPENED)
     for i, name in enumerate(names):
         kind, of = ("row", "rows") if name in rows else ("history", "allHistories")
         text += f'\ncaught-{i} : T ({kind} "{name}" {of})\nunfolding {opened} {kind}\ncaught-{i} = tt\n'
@@ -183,7 +202,7 @@ def try_proofs(crate, to):
     if status == 0:
         return [], ""
     for path, text in errors:
-        if re.search(r"/crates/(laws|history|instances)/proofs/", path) and not NOT_READ.search(text):
+        if BROKEN.search(path) and not NOT_READ.search(text):
             proof = Path(path)
             return [f"{proof.parts[proof.parts.index('proofs') - 1]}: {proof.stem} {text.split(':')[0]}"], ""
         return None, f"{path}: {text}"
@@ -192,13 +211,13 @@ def try_proofs(crate, to):
 
 def times(folder, edit):
     """How often the text that the edit replaces stands in its file; 0 where there is no such file."""
-    path = folder / SPECS / edit["file"]
+    path = definition(folder, edit)
     return path.read_text().count("\n".join(edit["old"])) if path.is_file() else 0
 
 
 def apply(to, edit):
     """Writes the edit; gives back what undoes it."""
-    path = to / SPECS / edit["file"]
+    path = definition(to, edit)
     if times(to, edit) != 1:
         sys.exit(f"mutants.txt: {edit['name']}: the old text stands {times(to, edit)} times in {edit['file']}")
     before = path.read_text()
@@ -278,7 +297,7 @@ def main():
     words.add_argument("--only", action="append")
     words.add_argument("--file", action="append")
     words.add_argument("--part", action="append")
-    words.add_argument("--crate", choices=[*ROW_CRATES, "history", "instances"])
+    words.add_argument("--crate", choices=[*ROW_CRATES, *PROOF_CRATES, *C_CRATES])
     words.add_argument("--search", action="store_true")
     words.add_argument("--jobs", type=int, default=1)
     words.add_argument("--texts", action="store_true")
@@ -291,7 +310,7 @@ def main():
         print("\n".join(found or [f"the {len(edits)} edits of mutants.txt find their texts"]))
         return 1 if found else 0
     failed = 0
-    for crate in [given.crate] if given.crate else [*ROW_CRATES, "history", "instances"]:
+    for crate in [given.crate] if given.crate else [*ROW_CRATES, *PROOF_CRATES, *C_CRATES]:
         mine = [e for e in edits if crate in e["crates"]]
         if not needed(crate):
             print(f"{crate}: there is no such crate yet; {len(mine)} edits wait for it")

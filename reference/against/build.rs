@@ -1,12 +1,12 @@
-//! Links the libraries for C, each into the programs that call it: the store (`make library`), and `measure`, which has
-//! functions for the benchmark (`rt staticlib measure`).
+//! Links the libraries for C, each into the programs that call it: the store (`make library`), and `bench_calls`, which
+//! has functions for the benchmark (`rt staticlib bench_calls`).
 
 use std::path::Path;
 
 const LIBRARIES: [(&str, &str); 4] = [
     ("against_inspect", "libpagestore.a"),
     ("against_store", "libpagestore.a"),
-    ("bench", "staticlib/libmeasure.a"),
+    ("bench", "staticlib/libbench_calls.a"),
     ("bench", "libpagestore.a"),
 ];
 

@@ -1,15 +1,15 @@
 //! What upkeep adds: 10,000 changes spread over all pages, one Write for four changes, as
 //! backups, writes and refreshing puts of upkeep's for each geometry.
 
-use reference::answer::Answer;
-use reference::calls::{make, restart};
-use reference::cell::Call;
-use reference::geometry::{memory_len_for, Geometry};
-use reference::heading::Heading;
-use reference::record::Change;
-use reference::rng::Rng;
-use reference::state::State;
-use reference::upkeep::Advice;
+use reference::generators::rng::Rng;
+use reference::script::cell::Call;
+use reference::store::answer::Answer;
+use reference::store::calls::{make, restart};
+use reference::store::geometry::{memory_len_for, Geometry};
+use reference::store::heading::Heading;
+use reference::store::record::Change;
+use reference::store::state::State;
+use reference::store::upkeep::Advice;
 
 const FRAMES: usize = 4;
 const RESERVED: u16 = 4;

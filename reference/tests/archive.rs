@@ -3,16 +3,16 @@
 mod common;
 
 use common::*;
-use reference::answer::{Answer, Refusal};
-use reference::arbitrary::arbitrary_script;
-use reference::archive::{archive_length, archive_pages, read_archive, write_archive};
-use reference::bytes::{put_u16, put_u32, seal};
-use reference::calls::inspect;
-use reference::cell::decode;
-use reference::driver::Driver;
-use reference::geometry::Geometry;
-use reference::heading::Heading;
-use reference::rng::Rng;
+use reference::generators::arbitrary::arbitrary_script;
+use reference::generators::rng::Rng;
+use reference::script::cell::decode;
+use reference::script::driver::Driver;
+use reference::store::answer::{Answer, Refusal};
+use reference::store::archive::{archive_length, archive_pages, read_archive, write_archive};
+use reference::store::bytes::{put_u16, put_u32, seal};
+use reference::store::calls::inspect;
+use reference::store::geometry::Geometry;
+use reference::store::heading::Heading;
 
 const BROKEN: Answer = Answer::Refused(Refusal::ArchiveBroken);
 
@@ -70,7 +70,7 @@ fn a_blank_page_is_zeros() {
 fn refusals_of_the_writer() {
     let mut volume = with_log(Heading::Second);
     assert_eq!(archive_length(&volume[1..]), Err(Refusal::Volume));
-    set_note(&mut volume, reference::note::NoteKind::Written, 2);
+    set_note(&mut volume, reference::store::note::NoteKind::Written, 2);
     assert_eq!(archive_length(&volume), Err(Refusal::NotesBroken));
     set_record(&mut volume, 1, &record(2));
     assert_eq!(archive_length(&volume), Err(Refusal::LogBroken));

@@ -3,13 +3,13 @@
 mod common;
 
 use common::*;
-use reference::carry_episodes::image_of_both_sums;
-use reference::cell::{decode, Call, Cell, Op};
-use reference::driver::Driver;
-use reference::geometry::Geometry;
-use reference::heading::{sealed_by_bytes, sealed_by_words, Heading};
-use reference::note::{Note, NoteKind};
-use reference::record::Change;
+use reference::generators::carry_episodes::image_of_both_sums;
+use reference::script::cell::{decode, Call, Cell, Op};
+use reference::script::driver::Driver;
+use reference::store::geometry::Geometry;
+use reference::store::heading::{sealed_by_bytes, sealed_by_words, Heading};
+use reference::store::note::{Note, NoteKind};
+use reference::store::record::Change;
 
 /// P 2, B 3, L 4, N 4, with the cases' log under the first heading, two frames.
 struct Store {

@@ -1,14 +1,14 @@
-//! Histories whose volume is carried over, each step held against the book.
+//! Histories whose volume is carried over, each step held against the abstract log.
 
-use reference::answer::Answer;
-use reference::cell::Call;
-use reference::check::Checker;
-use reference::geometry::{Geometry, IMAGE_LEN};
-use reference::heading::{sealed_by_bytes, sealed_by_words, Heading};
-use reference::image::{blank_image, set_image_lsn};
-use reference::record::Change;
-use reference::script::Script;
-use reference::world::{Event, Left, Place, World};
+use reference::checks::histories::Checker;
+use reference::generators::world::{Event, Left, Place, World};
+use reference::script::cell::Call;
+use reference::script::recorder::Script;
+use reference::store::answer::Answer;
+use reference::store::geometry::{Geometry, IMAGE_LEN};
+use reference::store::heading::{sealed_by_bytes, sealed_by_words, Heading};
+use reference::store::image::{blank_image, set_image_lsn};
+use reference::store::record::Change;
 
 struct History(Checker);
 

@@ -3,13 +3,13 @@
 mod common;
 
 use common::*;
-use reference::answer::{Answer, Class, Rebuild, Refusal, Start};
-use reference::bytes::{byte_checksum, checksum};
-use reference::calls::{inspect, make, restart};
-use reference::heading::Heading;
-use reference::note::NoteKind;
-use reference::record::{Change, Record};
-use reference::scan::scan;
+use reference::store::answer::{Answer, Class, Rebuild, Refusal, Start};
+use reference::store::bytes::{byte_checksum, checksum};
+use reference::store::calls::{inspect, make, restart};
+use reference::store::heading::Heading;
+use reference::store::note::NoteKind;
+use reference::store::record::{Change, Record};
+use reference::store::scan::scan;
 
 /// Inspects page 1 and, where it is rebuilt, checks the image against `lsn`'s.
 fn inspect_first(volume: &[u8], lsn: u32) -> Answer {
@@ -209,7 +209,7 @@ fn k12_bytes_after_a_torn_record() {
         let mut memory = vec![7; 1_280];
         let (state, answer) = restart(&volume, &mut memory);
         assert_eq!(answer, Answer::Refused(Refusal::LogBroken));
-        assert_eq!(state, reference::state::State::zero());
+        assert_eq!(state, reference::store::state::State::zero());
         assert_eq!(memory, vec![7; 1_280]);
     }
 }

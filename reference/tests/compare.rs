@@ -3,16 +3,16 @@
 mod common;
 
 use common::*;
-use reference::answer::Refusal;
-use reference::bytes::{put_u32, seal};
-use reference::calls::{inspect, make};
-use reference::cell::{decode, Call, Op};
-use reference::compare::{compare, Compared, Comparison};
-use reference::driver::{hash, Driver};
-use reference::geometry::Geometry;
-use reference::heading::Heading;
-use reference::note::NoteKind;
-use reference::record::{Change, Record};
+use reference::script::cell::{decode, Call, Op};
+use reference::script::driver::{hash, Driver};
+use reference::store::answer::Refusal;
+use reference::store::bytes::{put_u32, seal};
+use reference::store::calls::{inspect, make};
+use reference::store::compare::{compare, Compared, Comparison};
+use reference::store::geometry::Geometry;
+use reference::store::heading::Heading;
+use reference::store::note::NoteKind;
+use reference::store::record::{Change, Record};
 
 /// The answer and the pages listed.
 fn listed(first: &[u8], second: &[u8]) -> (Comparison, Vec<usize>) {

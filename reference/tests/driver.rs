@@ -1,9 +1,9 @@
 //! The script driver: lines, hashes, skipped cells, buffers.
 
-use reference::cell::{decode, encode, Call, Cell, Op, Second};
-use reference::driver::{drive, Driver};
-use reference::heading::Heading;
-use reference::record::Change;
+use reference::script::cell::{decode, encode, Call, Cell, Op, Second};
+use reference::script::driver::{drive, Driver};
+use reference::store::heading::Heading;
+use reference::store::record::Change;
 
 fn output(cells: &[Cell]) -> String {
     let mut out = Vec::new();

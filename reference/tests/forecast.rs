@@ -3,19 +3,19 @@
 mod common;
 
 use common::*;
-use reference::answer::{Answer, Refusal};
-use reference::arbitrary::arbitrary_script;
-use reference::calls::inspect;
-use reference::cell::{decode, Call, Op};
-use reference::driver::{hash, Driver};
-use reference::forecast::forecast;
-use reference::geometry::Geometry;
-use reference::heading::Heading;
-use reference::image::set_image_lsn;
-use reference::note::{Note, NoteKind};
-use reference::reading::reading_script;
-use reference::record::{Change, Record};
-use reference::rng::Rng;
+use reference::generators::arbitrary::arbitrary_script;
+use reference::generators::reading::reading_script;
+use reference::generators::rng::Rng;
+use reference::script::cell::{decode, Call, Op};
+use reference::script::driver::{hash, Driver};
+use reference::store::answer::{Answer, Refusal};
+use reference::store::calls::inspect;
+use reference::store::forecast::forecast;
+use reference::store::geometry::Geometry;
+use reference::store::heading::Heading;
+use reference::store::image::set_image_lsn;
+use reference::store::note::{Note, NoteKind};
+use reference::store::record::{Change, Record};
 
 #[test]
 fn own_image_and_backup_are_tested() {

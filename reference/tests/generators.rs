@@ -1,14 +1,16 @@
-//! Generators and the book, briefly: determinism, cell limits, no contradiction, no panic.
+//! Generators and the abstract log, briefly: determinism, cell limits, no contradiction, no panic.
 
-use reference::arbitrary::arbitrary_script;
-use reference::cell::Cell;
-use reference::check::check_history;
-use reference::coverage::{hits, sought};
-use reference::driver::drive;
-use reference::history::{history_script, ring_script};
-use reference::reading::{carrying_script, mirror_script, reading_script, rehearse_script};
-use reference::rng::Rng;
-use reference::upkeep_episodes::upkeep_script;
+use reference::checks::coverage::{hits, sought};
+use reference::checks::histories::check_history;
+use reference::generators::arbitrary::arbitrary_script;
+use reference::generators::history::{history_script, ring_script};
+use reference::generators::reading::{
+    carrying_script, mirror_script, reading_script, rehearse_script,
+};
+use reference::generators::rng::Rng;
+use reference::generators::upkeep_episodes::upkeep_script;
+use reference::script::cell::Cell;
+use reference::script::driver::drive;
 use std::collections::BTreeSet;
 
 #[test]

@@ -3,10 +3,10 @@
 mod common;
 
 use common::*;
-use reference::answer::{Answer, Refusal};
-use reference::bytes::{byte_checksum, checksum, is_sealed, seal};
-use reference::calls::{inspect, make, restart};
-use reference::heading::Heading;
+use reference::store::answer::{Answer, Refusal};
+use reference::store::bytes::{byte_checksum, checksum, is_sealed, seal};
+use reference::store::calls::{inspect, make, restart};
+use reference::store::heading::Heading;
 
 #[test]
 fn make_writes_the_heading_it_is_asked_for() {

@@ -1,12 +1,12 @@
 //! Lists of reads and changes played on the model, and against real calls.
 
-use reference::answer::Refusal;
-use reference::cell::{decode, encode, Call, Op};
-use reference::check_rehearse::check_rehearsal;
-use reference::driver::{hash, Driver};
-use reference::rehearse::{rehearse, Figures, Settings, Victim};
-use reference::rehearse_lists::{change, read, rereads, stays};
-use reference::rng::Rng;
+use reference::checks::rehearse::check_rehearsal;
+use reference::generators::rehearse_lists::{change, read, rereads, stays};
+use reference::generators::rng::Rng;
+use reference::script::cell::{decode, encode, Call, Op};
+use reference::script::driver::{hash, Driver};
+use reference::store::answer::Refusal;
+use reference::store::rehearse::{rehearse, Figures, Settings, Victim};
 
 fn settings(frames: u16, interval: u32, victim: Victim) -> Settings {
     Settings { frames, interval, victim }

@@ -3,14 +3,14 @@
 mod common;
 
 use common::*;
-use reference::answer::Answer;
-use reference::arbitrary::arbitrary_script;
-use reference::cell::{decode, Call, Op};
-use reference::driver::Driver;
-use reference::geometry::{frame_count, Geometry};
-use reference::heading::Heading;
-use reference::record::Change;
-use reference::rng::Rng;
+use reference::generators::arbitrary::arbitrary_script;
+use reference::generators::rng::Rng;
+use reference::script::cell::{decode, Call, Op};
+use reference::script::driver::Driver;
+use reference::store::answer::Answer;
+use reference::store::geometry::{frame_count, Geometry};
+use reference::store::heading::Heading;
+use reference::store::record::Change;
 
 /// After a Restart of the cases' volume with two frames: page 1 failed, page 2 good.
 fn driver(heading: Heading) -> Driver {

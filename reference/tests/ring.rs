@@ -3,15 +3,15 @@
 mod common;
 
 use common::*;
-use reference::answer::Answer;
-use reference::calls::{inspect, make, restart};
-use reference::cell::Call;
-use reference::driver::Driver;
-use reference::geometry::Geometry;
-use reference::heading::Heading;
-use reference::record::{Change, Record};
-use reference::scan::scan;
-use reference::section::Section;
+use reference::script::cell::Call;
+use reference::script::driver::Driver;
+use reference::store::answer::Answer;
+use reference::store::calls::{inspect, make, restart};
+use reference::store::geometry::Geometry;
+use reference::store::heading::Heading;
+use reference::store::record::{Change, Record};
+use reference::store::scan::scan;
+use reference::store::section::Section;
 
 /// What a slot holds: a number, torn bytes or zeros.
 enum Slot {
@@ -326,7 +326,7 @@ fn numbers_run_out() {
         store.0.volume[place].copy_from_slice(&numbered(number));
     }
     let mut own = image(Heading::Second, 1, 3);
-    reference::image::set_image_lsn(&mut own, last);
+    reference::store::image::set_image_lsn(&mut own, last);
     Heading::Second.seal_image(&mut own);
     store.0.volume[geometry.page(1)].copy_from_slice(&own);
     assert_eq!(store.restart(), "OK");

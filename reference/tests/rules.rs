@@ -3,14 +3,14 @@
 mod common;
 
 use common::*;
-use reference::answer::Answer;
-use reference::calls::{inspect, restart};
-use reference::cell::Call;
-use reference::driver::Driver;
-use reference::heading::Heading;
-use reference::note::NoteKind;
-use reference::record::Change;
-use reference::state::State;
+use reference::script::cell::Call;
+use reference::script::driver::Driver;
+use reference::store::answer::Answer;
+use reference::store::calls::{inspect, restart};
+use reference::store::heading::Heading;
+use reference::store::note::NoteKind;
+use reference::store::record::Change;
+use reference::store::state::State;
 
 const INDEX: usize = 40;
 
@@ -49,15 +49,16 @@ fn sound_with(changes: &[(usize, u32)]) -> bool {
 
 #[test]
 fn sound_states() {
-    let owed = |kind, own, page, slot, lsn| [(3, kind), (4, own), (5, page), (6, slot), (7, lsn)];
+    let pending_note =
+        |kind, own, page, slot, lsn| [(3, kind), (4, own), (5, page), (6, slot), (7, lsn)];
     let full = [(2, 3), (3, 1), (4, 4), (5, 1), (6, 0), (7, 3)];
     for changes in [
         &[][..],
         &[(1, 1)],
         &[(2, 4)],
         &full,
-        &owed(1, 1, 2, 0, 3),
-        &owed(2, 1, 2, 1, 0),
+        &pending_note(1, 1, 2, 0, 3),
+        &pending_note(2, 1, 2, 1, 0),
         &[(8, 1), (9, 1), (10, 2)],
         &[(1, 1), (8, 1), (INDEX, 4)],
         &[(INDEX + 2, 3), (INDEX + 3, 1), (INDEX + 4, 3)],
@@ -70,7 +71,8 @@ fn sound_states() {
 
 #[test]
 fn unsound_states() {
-    let owed = |kind, own, page, slot, lsn| [(3, kind), (4, own), (5, page), (6, slot), (7, lsn)];
+    let pending_note =
+        |kind, own, page, slot, lsn| [(3, kind), (4, own), (5, page), (6, slot), (7, lsn)];
     let full = [(2, 4), (3, 1), (4, 5), (5, 1), (6, 0), (7, 3)];
     for changes in [
         &[(1, 2)][..],
@@ -78,13 +80,13 @@ fn unsound_states() {
         &[(0, 0), (INDEX, 0), (INDEX + 1, 0)],
         &[(2, 5)],
         &full,
-        &owed(1, 2, 1, 0, 3),
-        &owed(1, 1, 0, 0, 3),
-        &owed(1, 1, 3, 0, 3),
-        &owed(1, 1, 1, 1, 3),
-        &owed(2, 1, 1, 0, 3),
-        &owed(2, 1, 1, 2, 3),
-        &owed(1, 1, 1, 0, 4),
+        &pending_note(1, 2, 1, 0, 3),
+        &pending_note(1, 1, 0, 0, 3),
+        &pending_note(1, 1, 3, 0, 3),
+        &pending_note(1, 1, 1, 1, 3),
+        &pending_note(2, 1, 1, 0, 3),
+        &pending_note(2, 1, 1, 2, 3),
+        &pending_note(1, 1, 1, 0, 4),
         &[(8, 3)],
         &[(8, 1), (10, 1)],
         &[(9, 1)],
@@ -108,7 +110,8 @@ fn unsound_states() {
 #[test]
 fn at_most_sixteen_pending() {
     let state = |pending| State { pending, ..State::zero() };
-    let geometry = reference::geometry::Geometry::new(Heading::First, [1, 0, 64, 0]).unwrap();
+    let geometry =
+        reference::store::geometry::Geometry::new(Heading::First, [1, 0, 64, 0]).unwrap();
     assert!(state(16).is_sound(&geometry, 1));
     assert!(!state(17).is_sound(&geometry, 1));
 }
@@ -189,7 +192,7 @@ fn load_refuses_a_broken_chain() {
         let mut driver = driver();
         let place = geometry().record(3);
         driver.volume[place.start + at] = byte;
-        reference::bytes::seal(&mut driver.volume[place]);
+        reference::store::bytes::seal(&mut driver.volume[place]);
         let before = driver.memory.clone();
         assert_eq!(number(driver.call(&Call::Load { page: 1, frame: 1 })), 19, "{at}");
         assert_eq!(driver.memory, before);
@@ -201,8 +204,14 @@ fn restart_takes_a_full_log_and_full_notes() {
     let mut volume = with_log(Heading::First);
     set_record(&mut volume, 4, &{
         let change = Change::Format { fill: 5 };
-        reference::record::Record { number: 4, previous: 3, page: 1, change, payload: [0; 44] }
-            .encode()
+        reference::store::record::Record {
+            number: 4,
+            previous: 3,
+            page: 1,
+            change,
+            payload: [0; 44],
+        }
+        .encode()
     });
     let mut memory = vec![1; 5_120];
     let (state, answer) = restart(&volume, &mut memory);

@@ -11,12 +11,11 @@ use Rattle.laws.proofs.Tables.{or-neither, none-at, within-bounds}
 use Rattle.laws.proofs.Places.{valid-facts}
 use Rattle.laws.proofs.WellFormed.{Ready, ready, holder-low, holder-within, frame-within}
 use Rattle.state.proofs.Slots.{most-high}
-use Rattle.append.specs.Rows.{beginTail, changeTail}
 use Rattle.model.specs.Tables.{Row, firstOf, within}
 use Rattle.model.specs.Geometry.{most, geometryOf}
 use Rattle.model.specs.Change.{fits}
 use Rattle.model.specs.State.{frameCount, frameAt, lastNumber, logFull, holder, held}
-use Rattle.model.specs.Refusals.{beginRows, changeRows}
+use Rattle.model.specs.Refusals.{beginRows, changeRows, beginTail, changeTail}
 use Rattle.model.specs.declared.change.Change.{Change}
 use Rattle.model.specs.declared.state.State.{State}
 

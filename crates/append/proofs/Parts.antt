@@ -16,16 +16,12 @@ use Rattle.model.specs.Change.{kindOf, lengthOf, offsetOf, fillOf, changeFits, 
 use Rattle.model.specs.Item.{imageBody, frameImage, recordFor, padded, encodeChange}
 use Rattle.model.specs.Index.{entryOf}
 use Rattle.model.specs.State.{pendingAt, frameAt, frameBytes, lastNumber}
-use Rattle.model.specs.Calls.{changedImage, appendedMemory}
+use Rattle.model.specs.Effects.{changedImage, appendedMemory}
 use Rattle.model.specs.declared.change.Change.{Change}
 use Rattle.model.specs.declared.change.Change.the-variants.{Format}
 use Rattle.model.specs.declared.state.State.{State}
 
 -- ---- a frame's 256 bytes
-
--- a part that was lent, as the borrow checker states it, has its length
-pub lent-length : (m : List ℕ) (at n : ℕ) → at + n ≤ length m → length (take (at + n - at) (drop at m)) ≡ n
-lent-length m at n h = ap length (part-lent m at n (at + n) refl) ∙ part-length m at n h
 
 pub format-fits : (fill : ℕ) → fits (Format fill) ≡ true
 unfolding changeFits

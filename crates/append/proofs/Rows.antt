@@ -5,12 +5,11 @@ use mathlib.Core.List.{List, []}
 use Prim.Native.Nat.{ℕ}
 use lib.ListN.{length}
 use Rattle.state.proofs.Fits.{refusal-first, refusal-last}
-use Rattle.append.specs.Rows.{appendTail, beginTail, changeTail}
 use Rattle.model.specs.Tables.{firstOf, within}
 use Rattle.model.specs.Geometry.{geometryOf}
 use Rattle.model.specs.Change.{fits}
 use Rattle.model.specs.State.{frameCount, held, blank}
-use Rattle.model.specs.Refusals.{frameBlocked, stateRows, beginRows, changeRows}
+use Rattle.model.specs.Refusals.{frameBlocked, stateRows, beginRows, changeRows, appendTail, beginTail, changeTail}
 use Rattle.model.specs.declared.geometry.Geometry.{Geometry}
 use Rattle.model.specs.declared.change.Change.{Change}
 use Rattle.model.specs.declared.state.State.{State}

@@ -4,12 +4,12 @@ ghost use mathlib.Core.Bool.{true};
 ghost use mathlib.Core.List.{List};
 ghost use Prim.Native.Nat.{ℕ, _<_};
 ghost use lib.ListN.{length, replicate};
-ghost use Rattle.append.specs.Rows.{beginTail};
 ghost use Rattle.model.specs.Tables.{firstOf};
 ghost use Rattle.model.specs.Geometry.{geometryOf, validVolume};
 ghost use Rattle.model.specs.Item.{frameImage};
-ghost use Rattle.model.specs.Refusals.{beginRows};
-ghost use Rattle.model.specs.Calls.{replyOf, beginOf};
+ghost use Rattle.model.specs.Refusals.{beginRows, beginTail};
+ghost use Rattle.model.specs.Outcome.{replyOf};
+ghost use Rattle.model.specs.Calls.{beginOf};
 use crate::limits;
 use crate::pending;
 use codec::part;
@@ -44,7 +44,7 @@ fn own(s: State, volume: &[u8], g: Geometry, count: usize, page: u32, frame: u32
 fn refusal(s: State, volume: &[u8], size: usize, page: u32, frame: u32) -> u32
     ensures { λ r. ⌜ ((m : List ℕ) → length m ≡ size → r ≡ firstOf (beginRows (now (volume .entry)) m s page frame)) ⌝ }
 {
-    let no = state::rows::refusal(s, volume, size);
+    let no = state::refusal::refusal(s, volume, size);
     if no != 0 {
         return no;
     }

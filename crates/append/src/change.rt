@@ -4,13 +4,14 @@ ghost use mathlib.Core.Bool.{true};
 ghost use mathlib.Core.List.{List};
 ghost use Prim.Native.Nat.{ℕ};
 ghost use lib.ListN.{length};
-ghost use Rattle.append.specs.Rows.{changeTail};
 ghost use Rattle.model.specs.Tables.{firstOf};
 ghost use Rattle.model.specs.Change.{fits, applyChange};
 ghost use Rattle.model.specs.Geometry.{geometryOf, validVolume};
 ghost use Rattle.model.specs.Item.{imageBody};
-ghost use Rattle.model.specs.Refusals.{changeRows};
-ghost use Rattle.model.specs.Calls.{replyOf, changedImage, changeCall};
+ghost use Rattle.model.specs.Refusals.{changeRows, changeTail};
+ghost use Rattle.model.specs.Outcome.{replyOf};
+ghost use Rattle.model.specs.Effects.{changedImage};
+ghost use Rattle.model.specs.Calls.{changeCall};
 use crate::limits;
 use crate::pending;
 use codec::field;
@@ -45,7 +46,7 @@ fn own(s: State, volume: &[u8], g: Geometry, page: u32, c: Change) -> u32
 fn refusal(s: State, volume: &[u8], size: usize, page: u32, c: Change) -> u32
     ensures { λ r. ⌜ ((m : List ℕ) → length m ≡ size → r ≡ firstOf (changeRows (now (volume .entry)) m s page c)) ⌝ }
 {
-    let no = state::rows::refusal(s, volume, size);
+    let no = state::refusal::refusal(s, volume, size);
     if no != 0 {
         return no;
     }

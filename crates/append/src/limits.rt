@@ -1,7 +1,7 @@
 // The limits of a call that appends to the log: 11 and 12.
 ghost use mathlib.Core.Path.{_≡_};
 ghost use mathlib.Core.Bool.{true};
-ghost use Rattle.append.specs.Rows.{appendTail};
+ghost use Rattle.model.specs.Refusals.{appendTail};
 ghost use Rattle.model.specs.Tables.{firstOf};
 ghost use Rattle.model.specs.Geometry.{geometryOf, validVolume};
 use model::geometry::Geometry;

@@ -4,16 +4,19 @@ use Prim.Native.Nat.{ℕ}
 use mathlib.Core.Path.{_≡_, refl, sym, _∙_}
 use mathlib.Core.Logic.{_≢_}
 use mathlib.Core.Bool.{true}
-use mathlib.Core.List.{List, [], _∷_}
+use mathlib.Core.List.{List, [], _∷_, _++_}
 use native.Mathlib.Omega.{arith}
-use lib.Dec.{T, eqb→eq}
+use lib.Dec.{eqb→eq}
 use lib.ListN.{replicate}
 use Rattle.model.specs.Tables.{firstOf}
 use Rattle.model.specs.Geometry.{lengthFor, slotAt, geometryOf}
 use Rattle.model.specs.Passes.{isImage, imageCount}
 use Rattle.model.specs.Refusals.{restampRows}
-use Rattle.model.specs.Calls.{begin, force, write, backup, note, startCarry, restamp, volumeAfter, startCarryOf, restampOf, finishCarryOf, refusalOf, outcomeOf, makeOf, inspectOf}
-use Rattle.model.specs.History.{on, restart, perform, allowed, allAllowed}
+use Rattle.model.specs.Outcome.{volumeAfter, refusalOf}
+use Rattle.model.specs.Calls.{startCarryOf, restampOf, finishCarryOf, outcomeOf}
+use Rattle.model.specs.Restart.{makeOf, inspectOf}
+use Rattle.cases.specs.Calls.{force, backup, note, startCarry, restamp}
+use Rattle.model.specs.History.{on, perform, allowed, allAllowed}
 use Rattle.model.specs.Claim.{History, Legal, fresh, reached}
 use Rattle.model.specs.Health.{Same}
 use Rattle.model.specs.Carry.{oldCount, passesOn, OnlyHeading}
@@ -21,7 +24,7 @@ use Rattle.model.specs.declared.geometry.Heading.the-variants.{First}
 use Rattle.model.specs.declared.state.State.{State}
 use Rattle.model.specs.declared.answer.Answer.the-variants.{Nothing, Done}
 use Rattle.cases.specs.Opened.{opened}
-use Rattle.cases.specs.Build.{memory}
+use Rattle.cases.specs.Prologues.{pageWritten}
 use Rattle.cases.specs.Carried.{does}
 use Rattle.laws.proofs.Progress.{progress, drops-none}
 use Rattle.history.proofs.CarryClaims.{carry-history}
@@ -38,7 +41,7 @@ carrying =
       records = 4;
       notes = 4;
       events =
-          restart (memory 1) ∷ does (begin 1 1 7 ∷ force ∷ write 1 ∷ note ∷ backup 1 1 ∷ note ∷ startCarry ∷ []);
+          pageWritten 1 ++ does (backup 1 1 ∷ note ∷ startCarry ∷ []);
     }
 
 abbrev v : List ℕ

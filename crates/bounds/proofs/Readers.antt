@@ -12,19 +12,20 @@ use Rattle.model.specs.Tables.{firstOf, within}
 use Rattle.model.specs.Geometry.{geometryOf, recordAt}
 use Rattle.model.specs.Item.{encodeChange}
 use Rattle.model.specs.Scan.{logRecord}
-use Rattle.model.specs.Reading.{scanRows}
-use Rattle.model.specs.Calls.{oneItem, inspectOf}
-use Rattle.model.specs.Forecast.{counted, forecastRow, figureIn, Asked}
-use Rattle.model.specs.Archive.{validFrom, archivePages}
-use Rattle.model.specs.Mirror.{recordIn, durableIn, sameChange, commonOf, mirrorOf, mirrorRefusal, listed, CommonRecords, numbersOf}
+use Rattle.reports.specs.Reading.{scanRows}
+use Rattle.model.specs.Outcome.{oneItem}
+use Rattle.model.specs.Restart.{inspectOf}
+use Rattle.reports.specs.Forecast.{counted, forecastRow, figureIn, Asked}
+use Rattle.reports.specs.Archive.{validFrom, archivePages}
+use Rattle.reports.specs.Mirror.{recordIn, durableIn, sameChange, commonOf, mirrorOf, mirrorRefusal, listed, CommonRecords, numbersOf}
 use Rattle.model.specs.declared.change.Change.the-variants.{Put}
 use Rattle.cases.specs.Opened.{opened}
 use Rattle.cases.specs.Build.{buffer, smallVolume}
 use Rattle.cases.specs.Table.{record1, record2, record3, whole}
-use Rattle.laws.proofs.Forecast.{forecast}
-use Rattle.laws.proofs.Archive.{archive}
-use Rattle.laws.proofs.Mirror.{mirror}
-use Rattle.laws.proofs.Compare.{compares}
+use Rattle.reports_laws.proofs.Forecast.{forecast}
+use Rattle.reports_laws.proofs.Archive.{archive}
+use Rattle.reports_laws.proofs.Mirror.{mirror}
+use Rattle.reports_laws.proofs.Compare.{compares}
 use Rattle.bounds.proofs.Tests.{holds, fails}
 
 -- K6's log, P 2; and the same with another byte in record 3

@@ -10,7 +10,10 @@ use lib.ListN.{length, replicate, length-replicate}
 use Rattle.model.specs.Geometry.{lengthFor, slotAt}
 use Rattle.model.specs.Item.{frameImage}
 use Rattle.model.specs.State.{frameBytes}
-use Rattle.model.specs.Calls.{makeOf, loadOf, release, refusalOf}
+use Rattle.model.specs.Outcome.{refusalOf}
+use Rattle.model.specs.Calls.{loadOf}
+use Rattle.model.specs.Restart.{makeOf}
+use Rattle.cases.specs.Calls.{release}
 use Rattle.model.specs.AbstractLog.{lastPlace, replay}
 use Rattle.model.specs.History.{on, Event, perform, damage, allAllowed}
 use Rattle.model.specs.Claim.{History, Legal, Gone, Proviso, fresh, reached, durableOf, inspection}

@@ -9,19 +9,20 @@ use lib.Dec.{T, eqb→eq}
 use lib.ListN.{length, getD, replicate, length-replicate}
 use Rattle.model.specs.Tables.{firstOf}
 use Rattle.model.specs.Change.{fits}
-use Rattle.model.specs.Calls.{makeOf, refusalOf}
-use Rattle.model.specs.Rehearsal.{noFigures, pageRow, settings, rehearsalRows, rehearsalOf, totalOf}
-use Rattle.model.specs.RehearsalRun.{Choices, Site, realRun, Tried, freeSlot, backedUp, Roomy}
+use Rattle.model.specs.Outcome.{refusalOf}
+use Rattle.model.specs.Restart.{makeOf}
+use Rattle.planning.specs.Rehearsal.{noFigures, pageRow, settings, rehearsalRows, rehearsalOf, totalOf}
+use Rattle.planning.specs.RehearsalRun.{Choices, Site, realRun, Tried, freeSlot, backedUp, Roomy}
 use Rattle.model.specs.declared.change.Change.the-variants.{Put}
 use Rattle.model.specs.declared.geometry.Heading.the-variants.{First}
-use Rattle.model.specs.declared.rehearsal.Victim.the-variants.{Written}
-use Rattle.model.specs.declared.rehearsal.Settings.{Settings}
-use Rattle.model.specs.declared.rehearsal.Figures.{Figures}
+use Rattle.planning.specs.declared.rehearsal.Victim.the-variants.{Written}
+use Rattle.planning.specs.declared.rehearsal.Settings.{Settings}
+use Rattle.planning.specs.declared.rehearsal.Figures.{Figures}
 use Rattle.cases.specs.Opened.{opened}
 use Rattle.cases.specs.Rehearsals.{site, short}
 use Rattle.laws.proofs.Tabulated.{replicate-at}
-use Rattle.rehearsed.proofs.Theorem.{same-figures}
-use Rattle.rehearsed.proofs.Room.{enough-room}
+use Rattle.planning_theory.proofs.Theorem.{same-figures}
+use Rattle.planning_theory.proofs.Room.{enough-room}
 use Rattle.bounds.proofs.Tests.{holds}
 
 -- two pages, two slots, four records, three notes, one frame

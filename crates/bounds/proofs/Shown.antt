@@ -8,11 +8,11 @@ use native.Mathlib.Omega.{arith}
 use lib.Dec.{T, eqb→eq}
 use lib.ListN.{length, replicate, length-replicate}
 use Rattle.model.specs.Bytes.{part}
-use Rattle.model.specs.Calls.{inspectOf, refusalOf, makeOf}
+use Rattle.model.specs.Restart.{inspectOf}
 use Rattle.model.specs.History.{allAllowed}
 use Rattle.model.specs.Claim.{History, Legal, fresh, reached, inspection, Agree}
 use Rattle.model.specs.Health.{Same}
-use Rattle.model.specs.Archive.{archiveOf, readOf, imageAt, Rebuilds}
+use Rattle.reports.specs.Archive.{archiveOf, readOf, imageAt, Rebuilds}
 use Rattle.model.specs.declared.geometry.Heading.{Heading}
 use Rattle.model.specs.declared.geometry.Heading.the-variants.{First, Second}
 use Rattle.model.specs.declared.answer.Class.the-variants.{Good, Ahead}
@@ -25,7 +25,7 @@ use Rattle.cases.specs.Worked.{historyOf, makes}
 use Rattle.cases.specs.Repairs.{healthy}
 use Rattle.cases.proofs.Cases.{equal}
 use Rattle.history.proofs.Health.{never-ahead, same-agrees}
-use Rattle.history.proofs.Archive.{archive}
+use Rattle.reports_theory.proofs.Archive.{archive}
 use Rattle.bounds.proofs.Tests.{holds}
 
 -- page 1 written and noted, P 1, under the first heading and under the second

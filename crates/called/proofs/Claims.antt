@@ -9,7 +9,7 @@ use native.Mathlib.Omega.{arith}
 use lib.Dec.{eqb, leb, ltb}
 use lib.ListN.{length, getD}
 use borrow.Author.Tests.{eq-eqb, ne-eqb, eqb-true, leb-true}
-use Rattle.laws.proofs.Tables.{byCases, all-at, and-left, and-right, or-cases, within-bounds}
+use Rattle.laws.proofs.Tables.{byCases, all-at, and-left, and-right, or-cases, true-not-false, within-bounds}
 use Rattle.laws.proofs.Places.{valid-facts, place-fits, in-item}
 use Rattle.laws.proofs.WellFormed.{formed, formed-note}
 use Rattle.laws.proofs.Parts.{splice-before, splice-after}
@@ -20,8 +20,9 @@ use Rattle.model.specs.Geometry.{Place, start, magicOf, geometryOf, validVolume
 use Rattle.model.specs.Item.{isWritten, noteLayout}
 use Rattle.model.specs.Index.{emptyEntry, entryRow}
 use Rattle.model.specs.State.{emptyFrame, frameRow, frameFits, entryFits, pageFits, pendingNoteFits, wellFormed, lastNumber, held}
-use Rattle.model.specs.Calls.{StoredItem, nothing, oneItem, newHeading, Outcome, volumeAfter, outcomeOf, refusalOf}
-use Rattle.model.specs.Calls.{Call, begin, load, change, force, write, backup, release, note, startCarry, restamp, finishCarry}
+use Rattle.model.specs.Outcome.{StoredItem, nothing, oneItem, newHeading, Outcome, volumeAfter, refusalOf}
+use Rattle.model.specs.Calls.{outcomeOf, Call}
+use Rattle.model.specs.declared.command.Command.the-variants.{Begin, Load, Change, Force, Write, Backup, Release, Note, StartCarry, Restamp, FinishCarry}
 use Rattle.model.specs.Demand1.{StoresItem, Arrays}
 use Rattle.model.specs.declared.state.State.{State}
 use Rattle.model.specs.declared.state.PendingNote.{PendingNote}
@@ -29,7 +30,7 @@ use Rattle.model.specs.declared.state.PendingNote.the-variants.{Absent, Present
 use Rattle.model.specs.declared.answer.Answer.{Answer}
 use Rattle.model.specs.declared.answer.Answer.the-variants.{Refused, Nothing, Done, Repaired}
 use Rattle.face.specs.Numbers.{stateOf, numbersOf, fits}
-use Rattle.called.specs.Kept.{memoryConst, volumeConst, RefusalsLeave, OutsideKept, ConstKept}
+use Rattle.called.specs.Unchanged.{memoryConst, volumeConst, RefusalsLeave, OutsideUnchanged, ConstUnchanged}
 use Rattle.face.specs.Face.{answerNumber, toldRange, reportAfter, faced, faceOf}
 use Rattle.numbers.proofs.NumberLaws.{Stated, NoteTold, state-back, arrays}
 use Rattle.numbers.proofs.FitLaws.{numbers-back, stated-fits}
@@ -150,39 +151,39 @@ outside v (newHeading tag) i st (inr h) = splice-after v 0 (magicOf tag) (headin
 -- ---- what is const in the header
 
 pub memory-const : (c : Call) (v m : List ℕ) (s : State) → memoryConst c ≡ true → m ≡ outcomeOf c v m s .memory
-memory-const (begin page frame fill) v m s e = let z : _≡_ {A = ℕ} 0 1 = cc in absurd (omega arith)
-memory-const (load page frame) v m s e = let z : _≡_ {A = ℕ} 0 1 = cc in absurd (omega arith)
-memory-const (change page c payload) v m s e = let z : _≡_ {A = ℕ} 0 1 = cc in absurd (omega arith)
-memory-const force v m s e = steps.force-memory v m s
-memory-const (write page) v m s e = steps.write-memory v m s page
-memory-const (backup page slot) v m s e = steps.backup-memory v m s page slot
-memory-const (release page) v m s e = steps.release-memory v m s page
-memory-const note v m s e = steps.note-memory v m s
-memory-const startCarry v m s e = steps.start-carry-memory v m s
-memory-const restamp v m s e = steps.restamp-memory v m s
-memory-const finishCarry v m s e = steps.finish-carry-memory v m s
+memory-const (Begin page frame fill, _) v m s e = absurd (true-not-false e refl)
+memory-const (Load page frame, _) v m s e = absurd (true-not-false e refl)
+memory-const (Change page c, payload) v m s e = absurd (true-not-false e refl)
+memory-const (Force, _) v m s e = steps.force-memory v m s
+memory-const (Write page, _) v m s e = steps.write-memory v m s page
+memory-const (Backup page slot, _) v m s e = steps.backup-memory v m s page slot
+memory-const (Release page, _) v m s e = steps.release-memory v m s page
+memory-const (Note, _) v m s e = steps.note-memory v m s
+memory-const (StartCarry, _) v m s e = steps.start-carry-memory v m s
+memory-const (Restamp, _) v m s e = steps.restamp-memory v m s
+memory-const (FinishCarry, _) v m s e = steps.finish-carry-memory v m s
 
 pub volume-const : (c : Call) (v m : List ℕ) (s : State) → volumeConst c ≡ true → v ≡ volumeAfter v (outcomeOf c v m s .stored)
-volume-const (begin page frame fill) v m s e = steps.begin-volume v m s page frame fill
-volume-const (load page frame) v m s e = steps.load-volume v m s page frame
-volume-const (change page c payload) v m s e = steps.change-volume v m s page c payload
-volume-const force v m s e = let z : _≡_ {A = ℕ} 0 1 = cc in absurd (omega arith)
-volume-const (write page) v m s e = let z : _≡_ {A = ℕ} 0 1 = cc in absurd (omega arith)
-volume-const (backup page slot) v m s e = let z : _≡_ {A = ℕ} 0 1 = cc in absurd (omega arith)
-volume-const (release page) v m s e = steps.release-volume v m s page
-volume-const note v m s e = let z : _≡_ {A = ℕ} 0 1 = cc in absurd (omega arith)
-volume-const startCarry v m s e = let z : _≡_ {A = ℕ} 0 1 = cc in absurd (omega arith)
-volume-const restamp v m s e = let z : _≡_ {A = ℕ} 0 1 = cc in absurd (omega arith)
-volume-const finishCarry v m s e = let z : _≡_ {A = ℕ} 0 1 = cc in absurd (omega arith)
+volume-const (Begin page frame fill, _) v m s e = steps.begin-volume v m s page frame fill
+volume-const (Load page frame, _) v m s e = steps.load-volume v m s page frame
+volume-const (Change page c, payload) v m s e = steps.change-volume v m s page c payload
+volume-const (Force, _) v m s e = absurd (true-not-false e refl)
+volume-const (Write page, _) v m s e = absurd (true-not-false e refl)
+volume-const (Backup page slot, _) v m s e = absurd (true-not-false e refl)
+volume-const (Release page, _) v m s e = steps.release-volume v m s page
+volume-const (Note, _) v m s e = absurd (true-not-false e refl)
+volume-const (StartCarry, _) v m s e = absurd (true-not-false e refl)
+volume-const (Restamp, _) v m s e = absurd (true-not-false e refl)
+volume-const (FinishCarry, _) v m s e = absurd (true-not-false e refl)
 
 -- ---- the claims
 
 pub refusals-leave : RefusalsLeave
 refusals-leave = refusal-leaves
 
-pub outside-kept : OutsideKept
+pub outside-unchanged : OutsideUnchanged
 unfolding faceOf
-outside-kept c v m xs report i h =
+outside-unchanged c v m xs report i h =
     let o = outcomeOf c v m (stateOf xs) in
     byCases (fits xs && eqb (length report) 5)
     (λ t. rw t (outside v (o .stored) i (demand1 .calls c v m (stateOf xs) (arrays xs) .stored) h))
@@ -197,8 +198,8 @@ module _ (c : Call) (v m xs report : List ℕ) where
   unfolding faceOf
   unchanged-volume e = byCases (fits xs && eqb (length report) 5) (λ t. rw t (sym e)) (λ t. rw t)
 
-pub const-kept : ConstKept
-const-kept =
+pub const-unchanged : ConstUnchanged
+const-unchanged =
     record {
       memory = λ c v m xs report e. unchanged-memory c v m xs report (memory-const c v m (stateOf xs) e);
       volume = λ c v m xs report e. unchanged-volume c v m xs report (volume-const c v m (stateOf xs) e);

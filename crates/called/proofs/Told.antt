@@ -7,18 +7,18 @@ use native.Mathlib.Omega.{arith}
 use lib.Dec.{eqb, leb, ltb}
 use lib.ListN.{length, getD, replicate}
 use borrow.Author.Tests.{eq-eqb}
-use Rattle.model.specs.Tables.{firstOf}
+use Rattle.model.specs.Tables.{firstOf, tabulate}
 use Rattle.model.specs.Bytes.{byteAt}
 use Rattle.model.specs.Geometry.{ring, geometryOf}
-use Rattle.model.specs.Reading.{tabulate}
 use Rattle.model.specs.Scan.{logRecord, noteRecord}
 use Rattle.model.specs.Item.{isWritten}
 use Rattle.model.specs.State.{frameBytes, logFull, notesFull, notePending, holder, held}
 use Rattle.model.specs.Refusals.{pageDirty, loadRows}
-use Rattle.model.specs.Calls.{Call, load, change, force, write, backup, note}
-use Rattle.model.specs.Upkeep.{Advice, idle, stuck, make, refresh, bringIn, backUp, writeOut, renew, renewNote, renewLog}
-use Rattle.model.specs.Upkeep.{noSlot, freeSlot, reserve, firstNeededNote, firstNeededLog, notePosition, logPosition}
-use Rattle.model.specs.Upkeep.{advisedBy, commandOf, payloadOf, adviseRows, upkeepOf, adviseOf}
+use Rattle.model.specs.Calls.{Call, noPayload}
+use Rattle.model.specs.declared.command.Command.the-variants.{Load, Change, Force, Write, Backup, Note}
+use Rattle.upkeep_policy.specs.Upkeep.{Advice, idle, stuck, make, refresh, bringIn, backUp, writeOut, renew, renewNote, renewLog}
+use Rattle.upkeep_policy.specs.Upkeep.{noSlot, freeSlot, reserve, firstNeededNote, firstNeededLog, notePosition}
+use Rattle.upkeep_policy.specs.Upkeep.{logPosition, advisedBy, adviseRows, upkeepOf, adviseOf}
 use Rattle.model.specs.declared.state.State.{State}
 use Rattle.model.specs.declared.change.Change.the-variants.{Put}
 use Rattle.face.specs.Numbers.{stateOf, fits}
@@ -28,33 +28,33 @@ use Rattle.called.specs.Told.{callFrom, AdviceTold}
 
 -- the numbers of a call are of kind 1, and tell it
 abbrev numbersFor : Call → List ℕ
-numbersFor c = commandNumbers (commandOf c) (getD (payloadOf c) 0 0)
+numbersFor c = commandNumbers (c .0) (getD (c .1) 0 0)
 
 record Tells (c : Call) : Type 0 where
   kind : getD (numbersFor c) 0 0 ≡ 1
   call : callFrom (numbersFor c) ≡ c
 
-told-load : (p r : ℕ) → Tells (load p r)
+told-load : (p r : ℕ) → Tells (Load p r, noPayload)
 unfolding callFrom
 told-load p r = record { kind = refl; call = refl }
 
-told-force : Tells force
+told-force : Tells (Force, noPayload)
 unfolding callFrom
 told-force = record { kind = refl; call = refl }
 
-told-write : (p : ℕ) → Tells (write p)
+told-write : (p : ℕ) → Tells (Write p, noPayload)
 unfolding callFrom
 told-write p = record { kind = refl; call = refl }
 
-told-backup : (p b : ℕ) → Tells (backup p b)
+told-backup : (p b : ℕ) → Tells (Backup p b, noPayload)
 unfolding callFrom
 told-backup p b = record { kind = refl; call = refl }
 
-told-note : Tells note
+told-note : Tells (Note, noPayload)
 unfolding callFrom
 told-note = record { kind = refl; call = refl }
 
-told-put : (p b : ℕ) → Tells (change p (Put 0 1) (b ∷ replicate 43 0))
+told-put : (p b : ℕ) → Tells (Change p (Put 0 1), b ∷ replicate 43 0)
 unfolding callFrom changeFrom payloadFrom tabulate
 told-put p b = record { kind = refl; call = refl }
 
@@ -64,8 +64,8 @@ abbrev Told : Advice → Type 0
 Told a = (c : Call) → a ≡ make c → Tells c
 
 abbrev made : Advice → Call
-made idle = note
-made (stuck p) = note
+made idle = (Note, noPayload)
+made (stuck p) = (Note, noPayload)
 made (make c) = c
 
 of-make : (c : Call) → Tells c → Told (make c)

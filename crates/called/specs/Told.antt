@@ -6,8 +6,9 @@ use mathlib.Core.List.{List, [], _∷_}
 use lib.Dec.{eqb}
 use lib.ListN.{length, getD}
 use Rattle.model.specs.Tables.{firstOf}
-use Rattle.model.specs.Calls.{Call, load, change, force, write, backup, note}
-use Rattle.model.specs.Upkeep.{make, adviseRows, upkeepOf}
+use Rattle.model.specs.Calls.{Call, noPayload}
+use Rattle.model.specs.declared.command.Command.the-variants.{Load, Change, Force, Write, Backup, Note}
+use Rattle.upkeep_policy.specs.Upkeep.{make, adviseRows, upkeepOf}
 use Rattle.face.specs.Numbers.{stateOf, fits}
 use Rattle.face.specs.Arguments.{changeFrom, payloadFrom}
 use Rattle.face.specs.Advice.{upkeepFace}
@@ -18,9 +19,10 @@ callFrom xs =
     let n = getD xs 1 0 in
     let page = getD xs 2 0 in
     let put = changeFrom (getD xs 4 0) (getD xs 6 0) (getD xs 5 0) 0 1 in
-    cond (eqb n 4) (load page (getD xs 3 0))
-    (cond (eqb n 5) (change page put (payloadFrom (getD xs 7 0 ∷ [])))
-    (cond (eqb n 6) force (cond (eqb n 7) (write page) (cond (eqb n 8) (backup page (getD xs 3 0)) note))))
+    cond (eqb n 4) (Load page (getD xs 3 0), noPayload)
+    (cond (eqb n 5) (Change page put, payloadFrom (getD xs 7 0 ∷ []))
+    (cond (eqb n 6) (Force, noPayload) (cond (eqb n 7) (Write page, noPayload)
+    (cond (eqb n 8) (Backup page (getD xs 3 0), noPayload) (Note, noPayload)))))
 
 -- where upkeep is not refused and advises a call: kind 1, and that call
 abbrev pub AdviceTold : Type 0

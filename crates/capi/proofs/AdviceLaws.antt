@@ -9,9 +9,9 @@ use borrow.Author.Tests.{eqb-true}
 use Rattle.laws.proofs.Tables.{and-left, and-right}
 use Rattle.numbers.proofs.FitLaws.{long}
 use Rattle.model.specs.Geometry.{validVolume}
-use Rattle.model.specs.Upkeep.{adviseOf}
+use Rattle.upkeep_policy.specs.Upkeep.{adviseOf}
 use Rattle.model.specs.declared.state.State.{State}
-use Rattle.model.specs.declared.upkeep.Advised.{Advised}
+use Rattle.upkeep_policy.specs.declared.upkeep.Advised.{Advised}
 use Rattle.face.specs.Numbers.{stateOf, fits}
 use Rattle.face.specs.Advice.{refusalIn, upkeepNumbers, upkeepFace}
 use Rattle.capi.proofs.FaceLaws.{both, not-both}

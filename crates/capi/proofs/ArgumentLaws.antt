@@ -15,7 +15,8 @@ use Rattle.model.specs.State.{frameCount, validMemory, wellFormed}
 use Rattle.model.specs.Refusals.{stateRows}
 use Rattle.model.specs.Change.{changeFits}
 use Rattle.model.specs.Change as rule
-use Rattle.model.specs.Calls.{begin, change}
+use Rattle.model.specs.Calls.{noPayload}
+use Rattle.model.specs.declared.command.Command.the-variants.{Begin, Change as ChangeCall}
 use Rattle.model.specs.declared.geometry.Geometry.{Geometry}
 use Rattle.model.specs.declared.state.State.{State}
 use Rattle.model.specs.declared.change.Change.{Change}
@@ -117,7 +118,7 @@ module _ (page frame : ℕ) (v m xs report : List ℕ) (k : ℕ) (ek : length re
 
 module _ (page frame fill : ℕ) (v m xs report : List ℕ) where
   pub begin-few : fill ≤ 255 → (n : ℕ) (xs′ report′ m′ v′ : List ℕ)
-      → faced n xs′ report′ m′ v′ ≡ faceOf (begin page frame fill) v m xs report
+      → faced n xs′ report′ m′ v′ ≡ faceOf (Begin page frame fill, noPayload) v m xs report
       → faced n xs′ report′ m′ v′ ≡ beginFace page frame fill v m xs report
   unfolding beginFace
   begin-few h n xs′ report′ m′ v′ e = rw (le-leb fill 255 h) e
@@ -128,7 +129,7 @@ module _ (page frame fill : ℕ) (v m xs report : List ℕ) where
   begin-many h n e = rw (lt-leb fill 255 h, e)
 
 pub change-named : (page : ℕ) (c d : Change) (p q v m xs report : List ℕ) (x : Face) → c ≡ d → p ≡ q
-    → x ≡ faceOf (change page c p) v m xs report → x ≡ faceOf (change page d q) v m xs report
+    → x ≡ faceOf (ChangeCall page c, p) v m xs report → x ≡ faceOf (ChangeCall page d, q) v m xs report
 change-named page c d p q v m xs report x ec ep e = e ∙ rw (ec, ep)
 
 -- ---- when Change answers 6: exactly where the numbers break document 01's rule, or the bytes beside them are too few or too many

@@ -15,9 +15,11 @@ use Rattle.model.specs.Tables.{Row, firstOf}
 use Rattle.model.specs.Geometry.{logSlot, noteSlot, width, start, geometryOf, validVolume}
 use Rattle.model.specs.Passes.{imageCount, imagePlace, firstOld}
 use Rattle.model.specs.Refusals.{beginRows, loadRows, changeRows, forceRows, writeRows, backupRows, releaseRows, noteRows, startCarryRows, restampRows, finishCarryRows, pageDirty}
-use Rattle.model.specs.Calls.{StoredItem, nothing, oneItem, newHeading, Outcome, volumeAfter, unchanged, decided, noteStored, outcomeOf, restartOf}
-use Rattle.model.specs.Calls.{Call, begin, load, change, force, write, backup, release, note, startCarry, restamp, finishCarry}
-use Rattle.model.specs.Calls.{beginOf, loadOf, changeCall, forceOf, writeOf, backupOf, releaseOf, noteCall, startCarryOf, restampOf, finishCarryOf}
+use Rattle.model.specs.Outcome.{StoredItem, nothing, oneItem, newHeading, Outcome, volumeAfter, unchanged, decided}
+use Rattle.model.specs.Effects.{noteStored, backupDone, beginDone, changeDone, forceDone, loadDone, releaseDone, restampDone, writeDone}
+use Rattle.model.specs.Calls.{Call, outcomeOf, restampOf, isCall, noPayload}
+use Rattle.model.specs.Restart.{restartOf}
+use Rattle.model.specs.declared.command.Command.the-variants.{Begin, Load, Change, Force, Write, Backup, Release, Note, StartCarry, Restamp, FinishCarry}
 use Rattle.model.specs.Demand1.{StoresItem, Arrays}
 use Rattle.model.specs.declared.geometry.Geometry.{Geometry}
 use Rattle.model.specs.declared.state.State.{State}
@@ -76,17 +78,8 @@ module _ (g : Geometry) (v : List ℕ) (e : g ≡ geometryOf v) where
 -- ---- the heading
 
 misheaded-is : (c : Call) (v : List ℕ) → misheadedBy (ownMagic c) v ≡ misheaded c v
-misheaded-is (begin page frame fill) v = refl
-misheaded-is (load page frame) v = refl
-misheaded-is (change page c payload) v = refl
-misheaded-is force v = refl
-misheaded-is (write page) v = refl
-misheaded-is (backup page slot) v = refl
-misheaded-is (release page) v = refl
-misheaded-is note v = refl
-misheaded-is startCarry v = refl
-misheaded-is restamp v = refl
-misheaded-is finishCarry v = refl
+misheaded-is c v = byCases (isCall 18 c) (λ t. rw t)
+    (λ t. rw t (byCases (isCall 19 c || isCall 20 c) (λ u. rw u) (λ u. rw u)))
 
 -- ---- what a call stores, by what it answers
 
@@ -104,30 +97,31 @@ either t b x y p q = byCases b (λ e. rw e p) (λ e. rw e q)
 
 module _ (v m : List ℕ) (s : State) where
   by-rows : (t : Target) (rows : List Row) (done : Outcome) → Aimed t done → Aimed t (decided rows m s done)
+  unfolding decided
   by-rows t rows done h = either t (eqb (firstOf rows) 0) done (unchanged (Refused (firstOf rows)) m s) h refl
 
-  noted : (p : PendingNote) → Aimed (target note v s) (noteStored v m s p)
+  noted : (p : PendingNote) → Aimed (target (Note, noPayload) v s) (noteStored v m s p)
   noted Absent = refl
   noted (Present n) = refl
 
   aimed : (c : Call) → Arrays s → Aimed (target c v s) (outcomeOf c v m s)
-  unfolding beginOf loadOf changeCall forceOf writeOf backupOf releaseOf noteCall startCarryOf restampOf finishCarryOf
-  aimed (begin page frame fill) a = by-rows none (beginRows v m s page frame) _ refl
-  aimed (load page frame) a = by-rows none (loadRows v m s page frame) _ refl
-  aimed (change page c payload) a = by-rows none (changeRows v m s page c) _ refl
-  aimed force a = by-rows (target force v s) (forceRows v m s) _ (either (target force v s) (eqb (s .pending) 0) _ _ refl refl)
-  aimed (write page) a = by-rows (target (write page) v s) (writeRows v m s page) _ (either (target (write page) v s) (pageDirty s page) _ _ refl refl)
-  aimed (backup page slot) a = by-rows (target (backup page slot) v s) (backupRows v m s page slot) _ refl
-  aimed (release page) a = by-rows none (releaseRows v m s page) _ refl
-  aimed note a = by-rows (target note v s) (noteRows v m s) _ (noted (s .note))
-  aimed startCarry a = by-rows front (startCarryRows v m s) _ refl
-  aimed restamp a =
-      let st : StoresItem v (restampOf v m s .stored) = demand1 .calls restamp v m s a .stored in
+  unfolding decided beginDone loadDone changeDone forceDone writeDone backupDone releaseDone restampDone
+  aimed (Begin page frame fill, _) a = by-rows none (beginRows v m s page frame) _ refl
+  aimed (Load page frame, _) a = by-rows none (loadRows v m s page frame) _ refl
+  aimed (Change page c, payload) a = by-rows none (changeRows v m s page c) _ refl
+  aimed (Force, _) a = by-rows (target (Force, noPayload) v s) (forceRows v m s) _ (either (target (Force, noPayload) v s) (eqb (s .pending) 0) _ _ refl refl)
+  aimed (Write page, _) a = by-rows (target (Write page, noPayload) v s) (writeRows v m s page) _ (either (target (Write page, noPayload) v s) (pageDirty s page) _ _ refl refl)
+  aimed (Backup page slot, _) a = by-rows (target (Backup page slot, noPayload) v s) (backupRows v m s page slot) _ refl
+  aimed (Release page, _) a = by-rows none (releaseRows v m s page) _ refl
+  aimed (Note, _) a = by-rows (target (Note, noPayload) v s) (noteRows v m s) _ (noted (s .note))
+  aimed (StartCarry, _) a = by-rows front (startCarryRows v m s) _ refl
+  aimed (Restamp, _) a =
+      let st : StoresItem v (restampOf v m s .stored) = demand1 .calls (Restamp, noPayload) v m s a .stored in
       let i = ltb (firstOld (geometryOf v) v (s .index)) (imageCount (geometryOf v)) in
       byCases (eqb (firstOf (restampRows v m s)) 0)
       (λ r. byCases i (λ t. rw (r, t) (let val = (rw (r, t) at st) .0 in rw val)) (λ t. rw (r, t)))
       (λ r. rw r)
-  aimed finishCarry a = by-rows front (finishCarryRows v m s) _ refl
+  aimed (FinishCarry, _) a = by-rows front (finishCarryRows v m s) _ refl
 
 -- ---- and the numbers of what it stores
 

@@ -4,3 +4,4 @@ pub mod SlotLaws
 pub mod SpaceLaws
 pub mod FailingLaws
 pub mod AdviceLaws
+pub mod RowLaws

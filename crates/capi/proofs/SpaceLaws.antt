@@ -7,8 +7,8 @@ use lib.Dec.{eqb}
 use lib.ListN.{length}
 use borrow.Author.Tests.{eq-eqb, ne-eqb}
 use Rattle.model.specs.Geometry.{validVolume}
-use Rattle.model.specs.Room.{roomOf}
-use Rattle.model.specs.declared.reading.Room.{Room}
+use Rattle.reports.specs.Room.{roomOf}
+use Rattle.reports.specs.declared.reading.Room.{Room}
 use Rattle.face.specs.Room.{roomNumbers, tellRoom}
 
 module _ (v xs : List ℕ) where

@@ -1,19 +1,23 @@
--- Where a call stores if it stores: what the code finds before it makes the call.
+-- Where a call stores if it stores, and the page whose row of the index it may change: what the code finds before it makes
+-- the call.
 use Prim.Native.Nat.{ℕ, _+_, _%_}
 use mathlib.Core.Bool.{Bool, true, false, cond, _||_, not}
 use mathlib.Core.List.{List, [], _∷_}
 use lib.Dec.{eqb, ltb}
 use lib.ListN.{getD}
-use Rattle.model.specs.Bytes.{startsWith}
+use Rattle.model.specs.Bytes.{field, startsWith}
 use Rattle.model.specs.Geometry.{tagOf, magicOf, carryTag, geometryOf, validVolume}
 use Rattle.model.specs.Geometry.{Place, pageAt, slotAt, logSlot, noteSlot, width, start}
+use Rattle.model.specs.State.{pendingBytes}
 use Rattle.model.specs.Passes.{imageCount, imagePlace, firstOld}
-use Rattle.model.specs.Calls.{StoredItem, nothing, oneItem, newHeading}
-use Rattle.model.specs.Calls.{Call, begin, load, change, force, write, backup, release, note}
-use Rattle.model.specs.Calls.{startCarry, restamp, finishCarry}
-use Rattle.model.specs.Health.{classNumber, startNumber}
+use Rattle.model.specs.Outcome.{StoredItem, nothing, oneItem, newHeading}
+use Rattle.model.specs.Calls.{Call, isCall}
+use Rattle.model.specs.declared.command.Command.the-variants.{Begin, Load, Change, Force, Write, Backup, Release, Note, StartCarry, Restamp, FinishCarry}
+use Rattle.reports.specs.Examine.{classNumber, startNumber}
 use Rattle.model.specs.declared.geometry.Geometry.{Geometry}
 use Rattle.model.specs.declared.geometry.Heading.the-variants.{First}
+use Rattle.model.specs.declared.state.PendingNote.{PendingNote}
+use Rattle.model.specs.declared.state.PendingNote.the-variants.{Absent, Present}
 use Rattle.model.specs.declared.state.State.{State}
 use Rattle.model.specs.declared.answer.Answer.{Answer}
 use Rattle.model.specs.declared.answer.Answer.the-variants.{Refused, Nothing, Done, Repaired}
@@ -36,23 +40,41 @@ oldTarget v s =
     cond (validVolume v) (cond (ltb i (imageCount g)) (place (imagePlace g i)) none) none
 
 abbrev pub target : Call → List ℕ → State → Target
-target (begin page frame fill) v s = none
-target (load page frame) v s = none
-target (change page c payload) v s = none
-target force v s = place (logSlot (geometryOf v) (s .durable + 1))
-target (write page) v s = place (pageAt page)
-target (backup page slot) v s = place (slotAt slot)
-target (release page) v s = none
-target note v s = place (noteSlot (geometryOf v) (s .notes + 1))
-target startCarry v s = front
-target restamp v s = oldTarget v s
-target finishCarry v s = front
+target (Begin page frame fill, _) v s = none
+target (Load page frame, _) v s = none
+target (Change page c, payload) v s = none
+target (Force, _) v s = place (logSlot (geometryOf v) (s .durable + 1))
+target (Write page, _) v s = place (pageAt page)
+target (Backup page slot, _) v s = place (slotAt slot)
+target (Release page, _) v s = none
+target (Note, _) v s = place (noteSlot (geometryOf v) (s .notes + 1))
+target (StartCarry, _) v s = front
+target (Restamp, _) v s = oldTarget v s
+target (FinishCarry, _) v s = front
 
 -- as the code has it: cut down to 32 bits
 abbrev pub rangeOf : Geometry → Target → Range
 rangeOf g none = record { at = 0; size = 0 }
 rangeOf g (place p) = record { at = start g p % 4294967296; size = width p }
 rangeOf g front = record { at = 0; size = 4 }
+
+abbrev pub notePage : PendingNote → ℕ
+notePage Absent = 0
+notePage (Present n) = n .page
+
+-- the page whose entry a call may change, by the memory, the durable count and the pending note; 0 where it changes none
+abbrev pub touched : Call → List ℕ → ℕ → PendingNote → ℕ
+touched (Begin page frame fill, _) m n p = page
+touched (Load page frame, _) m n p = 0
+touched (Change page c, _) m n p = page
+touched (Force, _) m n p = field 2 8 (pendingBytes m (n + 1))
+touched (Write page, _) m n p = 0
+touched (Backup page slot, _) m n p = 0
+touched (Release page, _) m n p = 0
+touched (Note, _) m n p = notePage p
+touched (StartCarry, _) m n p = 0
+touched (Restamp, _) m n p = 0
+touched (FinishCarry, _) m n p = 0
 
 abbrev pub isRefused : Answer → Bool
 isRefused (Refused n) = true
@@ -75,17 +97,8 @@ abbrev pub anyMagic : List ℕ
 anyMagic = 0 ∷ 0 ∷ 0 ∷ 0 ∷ []
 
 abbrev pub ownMagic : Call → List ℕ
-ownMagic (begin page frame fill) = anyMagic
-ownMagic (load page frame) = anyMagic
-ownMagic (change page c payload) = anyMagic
-ownMagic force = anyMagic
-ownMagic (write page) = anyMagic
-ownMagic (backup page slot) = anyMagic
-ownMagic (release page) = anyMagic
-ownMagic note = anyMagic
-ownMagic startCarry = magicOf (tagOf First)
-ownMagic restamp = magicOf carryTag
-ownMagic finishCarry = magicOf carryTag
+ownMagic c =
+    cond (isCall 18 c) (magicOf (tagOf First)) (cond (isCall 19 c || isCall 20 c) (magicOf carryTag) anyMagic)
 
 abbrev pub misheadedBy : List ℕ → List ℕ → Bool
 misheadedBy own v = not (eqb (getD own 0 0) 0 || startsWith own v) || not (validVolume v)

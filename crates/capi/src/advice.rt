@@ -4,7 +4,7 @@ ghost use Rattle.face.specs.Advice.{plain, commandNumbers, refusalIn, upkeepNum
 ghost use Rattle.model.specs.declared.command.Command.the-variants as commands;
 use model::change::Change;
 use model::command::Command;
-use model::upkeep::Upkeep;
+use upkeep_policy::upkeep::Upkeep;
 use volume::heading;
 use volume::rows;
 

@@ -28,7 +28,7 @@ fn misfilled(
         return rows::first(!valid, 1, 2);
     }
     let s = numbers::decode(state);
-    let no = state::rows::refusal(s, volume, size);
+    let no = state::refusal::refusal(s, volume, size);
     let g = heading::geometry(volume);
     let count = memory::frames(size);
     let inside = (1 <= page) & (page <= g.pages);

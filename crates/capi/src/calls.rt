@@ -1,6 +1,8 @@
 // The calls on the state whose arguments go straight on. `include/pagestore.h` declares them.
 ghost use mathlib.Core.Path.{_≡_};
-ghost use Rattle.model.specs.Calls.{load, force, write, backup, release, note, startCarry, restamp, finishCarry};
+ghost use Rattle.model.specs.Calls.{noPayload};
+ghost use Rattle.model.specs.declared.command.Command.the-variants.{Load, Force, Write, Backup, Release, Note};
+ghost use Rattle.model.specs.declared.command.Command.the-variants.{StartCarry, Restamp, FinishCarry};
 ghost use Rattle.face.specs.Face.{faced, faceOf};
 use crate::step;
 use model::command::Command;
@@ -17,7 +19,7 @@ pub extern "C" fn pagestore_load(
 ) -> u32
     ensures { λ r.
         ⌜ faced r (now (state .exit)) (now (report .exit)) (now (memory .exit)) (now (volume .exit))
-        ≡ faceOf (load page frame) (now (volume .entry)) (now (memory .entry)) (now (state .entry))
+        ≡ faceOf (Load page frame, noPayload) (now (volume .entry)) (now (memory .entry)) (now (state .entry))
         (now (report .entry)) ⌝ }
 {
     step::step(
@@ -40,7 +42,8 @@ pub extern "C" fn pagestore_force(
 ) -> u32
     ensures { λ r.
         ⌜ faced r (now (state .exit)) (now (report .exit)) (now (memory .exit)) (now (volume .exit))
-        ≡ faceOf force (now (volume .entry)) (now (memory .entry)) (now (state .entry)) (now (report .entry)) ⌝ }
+        ≡ faceOf (Force, noPayload) (now (volume .entry)) (now (memory .entry)) (now (state .entry))
+        (now (report .entry)) ⌝ }
 {
     step::step(
         volume,
@@ -63,7 +66,8 @@ pub extern "C" fn pagestore_write(
 ) -> u32
     ensures { λ r.
         ⌜ faced r (now (state .exit)) (now (report .exit)) (now (memory .exit)) (now (volume .exit))
-        ≡ faceOf (write page) (now (volume .entry)) (now (memory .entry)) (now (state .entry)) (now (report .entry)) ⌝ }
+        ≡ faceOf (Write page, noPayload) (now (volume .entry)) (now (memory .entry)) (now (state .entry))
+        (now (report .entry)) ⌝ }
 {
     step::step(
         volume,
@@ -87,7 +91,7 @@ pub extern "C" fn pagestore_backup(
 ) -> u32
     ensures { λ r.
         ⌜ faced r (now (state .exit)) (now (report .exit)) (now (memory .exit)) (now (volume .exit))
-        ≡ faceOf (backup page slot) (now (volume .entry)) (now (memory .entry)) (now (state .entry))
+        ≡ faceOf (Backup page slot, noPayload) (now (volume .entry)) (now (memory .entry)) (now (state .entry))
         (now (report .entry)) ⌝ }
 {
     step::step(
@@ -111,7 +115,7 @@ pub extern "C" fn pagestore_release(
 ) -> u32
     ensures { λ r.
         ⌜ faced r (now (state .exit)) (now (report .exit)) (now (memory .exit)) (now (volume .exit))
-        ≡ faceOf (release page) (now (volume .entry)) (now (memory .entry)) (now (state .entry))
+        ≡ faceOf (Release page, noPayload) (now (volume .entry)) (now (memory .entry)) (now (state .entry))
         (now (report .entry)) ⌝ }
 {
     step::step(
@@ -134,7 +138,8 @@ pub extern "C" fn pagestore_note(
 ) -> u32
     ensures { λ r.
         ⌜ faced r (now (state .exit)) (now (report .exit)) (now (memory .exit)) (now (volume .exit))
-        ≡ faceOf note (now (volume .entry)) (now (memory .entry)) (now (state .entry)) (now (report .entry)) ⌝ }
+        ≡ faceOf (Note, noPayload) (now (volume .entry)) (now (memory .entry)) (now (state .entry))
+        (now (report .entry)) ⌝ }
 {
     step::step(
         volume,
@@ -156,7 +161,8 @@ pub extern "C" fn pagestore_start_carry(
 ) -> u32
     ensures { λ r.
         ⌜ faced r (now (state .exit)) (now (report .exit)) (now (memory .exit)) (now (volume .exit))
-        ≡ faceOf startCarry (now (volume .entry)) (now (memory .entry)) (now (state .entry)) (now (report .entry)) ⌝ }
+        ≡ faceOf (StartCarry, noPayload) (now (volume .entry)) (now (memory .entry)) (now (state .entry))
+        (now (report .entry)) ⌝ }
 {
     step::step(
         volume,
@@ -178,7 +184,8 @@ pub extern "C" fn pagestore_restamp(
 ) -> u32
     ensures { λ r.
         ⌜ faced r (now (state .exit)) (now (report .exit)) (now (memory .exit)) (now (volume .exit))
-        ≡ faceOf restamp (now (volume .entry)) (now (memory .entry)) (now (state .entry)) (now (report .entry)) ⌝ }
+        ≡ faceOf (Restamp, noPayload) (now (volume .entry)) (now (memory .entry)) (now (state .entry))
+        (now (report .entry)) ⌝ }
 {
     step::step(
         volume,
@@ -200,7 +207,8 @@ pub extern "C" fn pagestore_finish_carry(
 ) -> u32
     ensures { λ r.
         ⌜ faced r (now (state .exit)) (now (report .exit)) (now (memory .exit)) (now (volume .exit))
-        ≡ faceOf finishCarry (now (volume .entry)) (now (memory .entry)) (now (state .entry)) (now (report .entry)) ⌝ }
+        ≡ faceOf (FinishCarry, noPayload) (now (volume .entry)) (now (memory .entry)) (now (state .entry))
+        (now (report .entry)) ⌝ }
 {
     step::step(
         volume,

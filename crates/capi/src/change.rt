@@ -1,7 +1,7 @@
 // Change for C: numbers that no record holds make a change that Change refuses.
 ghost use mathlib.Core.Path.{_≡_};
 ghost use lib.ListN as lists;
-ghost use Rattle.model.specs.Calls.{change};
+ghost use Rattle.model.specs.declared.command.Command.the-variants as commands;
 ghost use Rattle.face.specs.Face.{faced, faceOf};
 ghost use Rattle.face.specs.Arguments.{changeFrom, payloadFrom};
 use crate::step;
@@ -70,8 +70,10 @@ pub extern "C" fn pagestore_change(
 ) -> u32
     ensures { λ r.
         ⌜ faced r (now (state .exit)) (now (report .exit)) (now (memory .exit)) (now (volume .exit))
-        ≡ faceOf (change page (changeFrom kind offset length fill (lists.length (now (payload .entry))))
-        (payloadFrom (now (payload .entry)))) (now (volume .entry)) (now (memory .entry)) (now (state .entry))
+        ≡ faceOf (
+          commands.Change page (changeFrom kind offset length fill (lists.length (now (payload .entry)))),
+          payloadFrom (now (payload .entry)),
+        ) (now (volume .entry)) (now (memory .entry)) (now (state .entry))
         (now (report .entry)) ⌝ }
 {
     let change = change_from(kind, offset, length, fill, payload.len());

@@ -11,4 +11,5 @@ mod report;
 mod slots;
 mod space;
 mod step;
+mod touched;
 mod volumes;

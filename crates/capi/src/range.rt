@@ -2,7 +2,6 @@
 ghost use mathlib.Core.Path.{_≡_};
 ghost use mathlib.Core.List.{List};
 ghost use Prim.Native.Nat.{ℕ, _%_, _≤_};
-ghost use Rattle.model.specs.Commands.{callOf};
 ghost use Rattle.model.specs.Geometry.{geometryOf};
 ghost use Rattle.capi.specs.Targets.{target, oldTarget, rangeOf};
 use convert::images;
@@ -56,7 +55,7 @@ fn old_range(volume: &[u8], g: Geometry, s: State) -> Range
 // Where the call stores, if it does.
 pub fn aim(volume: &[u8], s: State, command: Command) -> Range
     ensures { λ r. ⌜ ((p : List ℕ)
-        → r ≡ rangeOf (geometryOf (now (volume .entry))) (target (callOf command p) (now (volume .entry)) s)) ⌝ }
+        → r ≡ rangeOf (geometryOf (now (volume .entry))) (target (command, p) (now (volume .entry)) s)) ⌝ }
 {
     let none = Range { at: 0, size: 0 };
     let g = heading::geometry(volume);

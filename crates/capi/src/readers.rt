@@ -1,14 +1,15 @@
 // The calls that only read a volume or an archive. `include/pagestore.h` declares them; the crates below have their
 // proofs and say what is ruled out.
 ghost use mathlib.Core.Path.{_≡_};
-ghost use Rattle.model.specs.Archive.{sizeOf, archiveOf, archivePages, readOf};
-ghost use Rattle.model.specs.Calls.{inspectOf, refusalOf};
-ghost use Rattle.model.specs.Forecast.{tellForecast};
-ghost use Rattle.model.specs.Health.{examineOf};
-ghost use Rattle.model.specs.Mirror as mirrors;
-ghost use Rattle.export.specs.Extent.{sizeNumber};
+ghost use Rattle.reports.specs.Archive.{sizeOf, archiveOf, archivePages, readOf};
+ghost use Rattle.model.specs.Outcome.{refusalOf};
+ghost use Rattle.model.specs.Restart.{inspectOf};
+ghost use Rattle.reports.specs.Forecast.{tellForecast};
+ghost use Rattle.reports.specs.Examine.{examineOf};
+ghost use Rattle.reports.specs.Mirror as mirrors;
+ghost use Rattle.archive_write.specs.Extent.{sizeNumber};
 use compare::report;
-use inspect::examine;
+use inspect_report::examine;
 
 // Inspection: 0 or the refusal.
 #[no_mangle]
@@ -44,7 +45,7 @@ pub extern "C" fn pagestore_forecast(volume: &[u8], figures: &mut [u32]) -> u32
     ensures figures { λ _. ⌜ now (figures .exit)
         ≡ tellForecast (now (volume .entry)) (now (figures .entry)) .figures ⌝ }
 {
-    estimate::face::tell_forecast(volume, figures)
+    forecast::face::tell_forecast(volume, figures)
 }
 
 // The length of a volume's archive: 0 where it is refused.
@@ -52,7 +53,7 @@ pub extern "C" fn pagestore_forecast(volume: &[u8], figures: &mut [u32]) -> u32
 pub extern "C" fn pagestore_archive_length(volume: &[u8]) -> u32
     ensures { λ r. ⌜ r ≡ sizeNumber (sizeOf (now (volume .entry))) ⌝ }
 {
-    export::length_number(volume)
+    archive_write::length_number(volume)
 }
 
 // The archive's writer.
@@ -61,7 +62,7 @@ pub extern "C" fn pagestore_archive_write(volume: &[u8], buffer: &mut [u8]) -> u
     ensures answer { λ r. ⌜ r ≡ refusalOf (archiveOf (now (volume .entry)) (now (buffer .entry)) .answer) ⌝ }
     ensures buffer { λ _. ⌜ now (buffer .exit) ≡ archiveOf (now (volume .entry)) (now (buffer .entry)) .buffer ⌝ }
 {
-    export::write_number(volume, buffer)
+    archive_write::write_number(volume, buffer)
 }
 
 // The number of an archive's pages.
@@ -69,7 +70,7 @@ pub extern "C" fn pagestore_archive_write(volume: &[u8], buffer: &mut [u8]) -> u
 pub extern "C" fn pagestore_archive_pages(archive: &[u8]) -> u32
     ensures { λ r. ⌜ r ≡ archivePages (now (archive .entry)) ⌝ }
 {
-    extract::pages(archive)
+    archive_read::pages(archive)
 }
 
 // The archive's reader.
@@ -78,7 +79,7 @@ pub extern "C" fn pagestore_archive_read(archive: &[u8], area: &mut [u8]) -> u32
     ensures answer { λ r. ⌜ r ≡ refusalOf (readOf (now (archive .entry)) (now (area .entry)) .answer) ⌝ }
     ensures area { λ _. ⌜ now (area .exit) ≡ readOf (now (archive .entry)) (now (area .entry)) .buffer ⌝ }
 {
-    extract::read_number(archive, area)
+    archive_read::read_number(archive, area)
 }
 
 // Two volumes' logs held against each other.

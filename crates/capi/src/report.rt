@@ -4,7 +4,7 @@ ghost use lib.ListN.{length};
 ghost use Rattle.capi.specs.Targets.{isRefused, told, toldNumbers};
 ghost use Rattle.face.specs.Face.{answerNumber};
 use crate::range::Range;
-use inspect::examine;
+use inspect_report::examine;
 use model::answer::Answer;
 
 // The number that stands for an answer.

@@ -15,7 +15,7 @@ pub extern "C" fn pagestore_room(volume: &[u8], report: &mut [u32]) -> u32
         let valid = heading::valid(volume);
         return rows::first(!valid, 1, 2);
     }
-    let r = room::left(volume);
+    let r = room_report::left(volume);
     let no = r.refusal;
     if no != 0 {
         return no;

@@ -1,11 +1,11 @@
-// The step that every call on the state makes: the state out of its numbers, the call that a command names, the next
-// state into the numbers, and the report.
+// The step that every call on the state makes: the state out of its numbers, the call that a command names, what it
+// changed into the numbers, and the report.
 ghost use mathlib.Core.Path.{_≡_};
-ghost use Rattle.model.specs.Commands.{callOf};
 ghost use Rattle.capi.specs.Targets.{ownMagic, misheadedBy};
 ghost use Rattle.face.specs.Face.{faced, faceOf};
 use crate::range;
 use crate::report;
+use crate::touched;
 use model::command::Command;
 use store::Store;
 use volume::heading;
@@ -33,10 +33,10 @@ pub fn step(
     own: [u8; 4],
     report: &mut [u32],
 ) -> u32
-    requires { ⌜ own ≡ ownMagic (callOf command payload) ⌝ }
+    requires { ⌜ own ≡ ownMagic (command, payload) ⌝ }
     ensures { λ r.
         ⌜ faced r (now (state .exit)) (now (report .exit)) (now (memory .exit)) (now (volume .exit))
-        ≡ faceOf (callOf command payload) (now (volume .entry)) (now (memory .entry)) (now (state .entry))
+        ≡ faceOf (command, payload) (now (volume .entry)) (now (memory .entry)) (now (state .entry))
         (now (report .entry)) ⌝ }
 {
     if !numbers::fits(state) | (report.len() != 5) {
@@ -44,12 +44,14 @@ pub fn step(
     }
     let before = numbers::decode(state);
     let x = range::aim(volume, before, command);
+    let note = before.note;
+    let row = touched::row(memory, before.durable, note, command);
     let store = Store { state: before };
     let o = store.perform(volume, memory, command, payload);
     let a = o.answer;
     let next = o.store;
     let after = next.state;
-    numbers::encode(after, state);
+    numbers::update(after, row, state);
     report::tell(a, x, report);
     report::number(a)
 }

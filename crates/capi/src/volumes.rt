@@ -1,7 +1,7 @@
 // Make under either heading, the length that it takes, and Restart. `include/pagestore.h` declares them.
 ghost use mathlib.Core.Path.{_≡_};
 ghost use mathlib.Core.Bool.{cond};
-ghost use Rattle.model.specs.Calls.{makeOf};
+ghost use Rattle.model.specs.Restart.{makeOf};
 ghost use Rattle.model.specs.declared.geometry.Heading.the-variants.{First, Second};
 ghost use Rattle.model.specs.Geometry.{validCounts, lengthFor};
 ghost use Rattle.face.specs.Face.{answerNumber, restarted, restartedOf};

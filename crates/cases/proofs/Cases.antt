@@ -1,14 +1,11 @@
--- The rows of the table hold: one test, which the checker computes, and one law that turns it into each row's equation. Here those of the
--- base and of rings; crates `played` and `later` have the others, and `later` the table as a whole.
+-- The rows of a table hold where a test does, which the checker computes: one law turns it into each row's equation.
+-- The crates above compute the tests, each of its own subject; `cases_table` has the table as a whole.
 use Prim.Native.Nat.{ℕ}
 use mathlib.Core.Path.{_≡_, refl, ap₂}
 use mathlib.Core.Bool.{Bool, true, false, _&&_}
 use mathlib.Core.List.{List, [], _∷_, _++_}
 use lib.Dec.{T, eqb, eqb→eq}
 use Rattle.cases.specs.Rows.{Row, same, every, Hold}
-use Rattle.cases.specs.All.{diskRows, callRows, turnedRows}
-use Rattle.cases.specs.Rings.{ringRows, ringEvents}
-use Rattle.cases.specs.RingEdges.{ringEdges}
 
 pub left : (a b : Bool) → T (a && b) → T a
 left true b t = tt
@@ -33,27 +30,3 @@ all (r ∷ rs) t =
 pub joined : (rs qs : List Row) → Hold rs → Hold qs → Hold (rs ++ qs)
 joined [] qs h k = k
 joined (r ∷ rs) qs h k = (h .0, joined rs qs (h .1) k)
-
-pub disk-cases : Hold diskRows
-unfolding diskRows
-disk-cases = all diskRows tt
-
-pub call-cases : Hold callRows
-unfolding callRows
-call-cases = all callRows tt
-
-ring-cases : Hold ringRows
-unfolding ringRows
-ring-cases = all ringRows tt
-
-ring-events : Hold ringEvents
-unfolding ringEvents
-ring-events = all ringEvents tt
-
-ring-edges : Hold ringEdges
-unfolding ringEdges
-ring-edges = all ringEdges tt
-
-pub turned-cases : Hold turnedRows
-unfolding turnedRows
-turned-cases = joined ringRows (ringEvents ++ ringEdges) ring-cases (joined ringEvents ringEdges ring-events ring-edges)

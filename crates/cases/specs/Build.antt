@@ -1,59 +1,20 @@
--- What the worked cases are made of: answers as numbers, volumes built by `model`'s own encoders, machines reached by
--- events.
+-- What the worked cases are made of: volumes built by `model`'s own encoders, machines reached by events.
 use Prim.Native.Nat.{ℕ, _+_, _*_}
-use mathlib.Core.Bool.{Bool, true, false}
-use mathlib.Core.List.{List, [], _∷_, _++_, map}
+use mathlib.Core.List.{List, [], _∷_, _++_}
 use lib.ListN.{replicate, set}
 use Rattle.model.specs.Bytes.{part}
 use Rattle.model.specs.Checksum.{sealImage}
 use Rattle.model.specs.Geometry.{tagOf, emptyVolume, lengthFor}
 use Rattle.model.specs.Item.{frameImage, noteBytes}
-use Rattle.model.specs.Calls.{StoredItem, volumeAfter, inspectOf, Call, outcomeOf}
+use Rattle.model.specs.Outcome.{StoredItem, volumeAfter}
+use Rattle.model.specs.Calls.{Call, outcomeOf}
+use Rattle.model.specs.Restart.{inspectOf}
 use Rattle.model.specs.History.{Power, off, on, Machine, Event, freshMachine, run}
-use Rattle.model.specs.Health.{reportOf}
 use Rattle.model.specs.declared.geometry.Geometry.{Geometry}
 use Rattle.model.specs.declared.geometry.Heading.{Heading}
 use Rattle.model.specs.declared.geometry.Heading.the-variants.{Second}
 use Rattle.model.specs.declared.state.Entry.{Entry}
-use Rattle.model.specs.declared.answer.Class.{Class}
-use Rattle.model.specs.declared.answer.Start.the-variants.{Own, Backup, Format}
-use Rattle.model.specs.declared.answer.Answer.{Answer}
-use Rattle.model.specs.declared.answer.Answer.the-variants.{Refused, Nothing, Done, Repaired}
-
--- ---- answers as numbers
-
-abbrev pub bit : Bool → ℕ
-bit false = 0
-bit true = 1
-
-abbrev pub bits : List Bool → List ℕ
-bits bs = map bit bs
-
--- no two answers have the same numbers
-abbrev pub numbers : Answer → List ℕ
-numbers (Refused n) = 100 ∷ n ∷ []
-numbers Nothing = 101 ∷ []
-numbers Done = 102 ∷ []
-numbers (Repaired r) = 103 ∷ reportOf r
-
--- a page of this class, repaired from its own image, its backup or a format, and how many records were replayed
-abbrev pub fromOwn : Class → ℕ → List ℕ
-fromOwn c n = numbers (Repaired (record { class = c; start = Own; count = n }))
-
-abbrev pub fromBackup : Class → ℕ → List ℕ
-fromBackup c n = numbers (Repaired (record { class = c; start = Backup; count = n }))
-
-abbrev pub fromFormat : Class → ℕ → List ℕ
-fromFormat c n = numbers (Repaired (record { class = c; start = Format; count = n }))
-
-abbrev pub refused : ℕ → List ℕ
-refused n = numbers (Refused n)
-
-abbrev pub done : List ℕ
-done = numbers Done
-
-abbrev pub idle : List ℕ
-idle = numbers Nothing
+use Rattle.cases.specs.Words.{numbers}
 
 abbrev pub entryNumbers : Entry → List ℕ
 entryNumbers e = e .last ∷ e .durable ∷ e .written ∷ e .slot ∷ e .backup ∷ []

@@ -8,7 +8,9 @@ use Rattle.model.specs.Geometry.{tagOf, carryTag, Place, pageAt, slotAt, geomet
 use Rattle.model.specs.Item.{validImage}
 use Rattle.model.specs.Passes.{byWords, byBytes}
 use Rattle.model.specs.State.{zeroState}
-use Rattle.model.specs.Calls.{newHeading, startCarryOf, restampOf, finishCarryOf, Call, begin, change, force, write, backup, note, startCarry, restamp, finishCarry}
+use Rattle.model.specs.Outcome.{newHeading}
+use Rattle.model.specs.Calls.{startCarryOf, restampOf, finishCarryOf, Call}
+use Rattle.cases.specs.Calls.{begin, change, force, write, backup, note, startCarry, restamp, finishCarry}
 use Rattle.model.specs.History.{Power, off, on, Machine, Event, restart, perform, damage, run}
 use Rattle.model.specs.Carry.{oldCount}
 use Rattle.model.specs.declared.geometry.Heading.{Heading}
@@ -19,7 +21,9 @@ use Rattle.model.specs.declared.state.Frame.{Frame}
 use Rattle.model.specs.declared.answer.Class.the-variants.{Good, Failed}
 use Rattle.cases.specs.Opened.{opened}
 use Rattle.cases.specs.Rows.{Row, row, same}
-use Rattle.cases.specs.Build.{bit, bits, numbers, entryNumbers, fromOwn, fromFormat, refused, done, idle, imageUnder, broken, storedIn, inspected, memory, reachUnder, asked}
+use Rattle.cases.specs.Words.{bit, bits, numbers, fromOwn, fromFormat, refused, done, idle, yes, no}
+use Rattle.cases.specs.Build.{entryNumbers, imageUnder, broken, storedIn, inspected, memory, reachUnder, asked}
+use Rattle.cases.specs.Prologues.{pagesForced, pageBegun}
 use Rattle.cases.specs.Table.{wholeUnder, ownUnder, body3, at3}
 
 abbrev pub does : List Call → List Event
@@ -29,7 +33,7 @@ does cs = map perform cs
 -- first heading, then carried over step by step.
 abbrev pub oldVolume : Machine
 oldVolume = reachUnder First 2 2 8 8
-    (restart (memory 2) ∷ does (begin 1 1 7 ∷ begin 2 2 9 ∷ force ∷ force ∷ write 1 ∷ note ∷ backup 1 1 ∷ note ∷ []))
+    (pagesForced 2 ++ does (write 1 ∷ note ∷ backup 1 1 ∷ note ∷ []))
 
 -- images of a page by words and by bytes; the bodies that were stored, and one that never was
 abbrev pub wordImage : ℕ → ℕ → ℕ → List ℕ
@@ -38,11 +42,24 @@ wordImage p lsn fill = imageUnder First p lsn (replicate 244 fill)
 abbrev pub byteImage : ℕ → ℕ → ℕ → List ℕ
 byteImage p lsn fill = imageUnder Second p lsn (replicate 244 fill)
 
--- whether the image in a place is valid as page p's, by words and by bytes
+-- whether the image in a place is valid as page p's, by words and by bytes; in words: by one sum alone, or by both
 abbrev pub sums : Machine → Place → ℕ → List ℕ
 sums w at p =
     let g = geometryOf (w .volume) in
     bits (validImage (byWords g) p (item g (w .volume) at) ∷ validImage (byBytes g) p (item g (w .volume) at) ∷ [])
+
+abbrev pub inWords : List ℕ
+inWords = yes ∷ no ∷ []
+
+abbrev pub inBytes : List ℕ
+inBytes = no ∷ yes ∷ []
+
+abbrev pub inBoth : List ℕ
+inBoth = yes ∷ yes ∷ []
+
+-- the first four bytes of a volume with this tag
+abbrev headed : ℕ → List ℕ
+headed tag = 0x43 ∷ 0x48 ∷ 0x50 ∷ tag ∷ []
 
 abbrev imageIn : Machine → Place → List ℕ
 imageIn w at = item (geometryOf (w .volume)) (w .volume) at
@@ -88,8 +105,8 @@ bothSums = run bothWritten (does (startCarry ∷ []))
 abbrev fullLog : Machine
 fullLog =
     reachUnder First 1 1 2 4
-    (restart (memory 1) ∷ does
-    (begin 1 1 7 ∷ change 1 (Put 0 1) (5 ∷ replicate 43 0) ∷ force ∷ force ∷ backup 1 1 ∷ note ∷ startCarry ∷ []))
+    (pageBegun 1 ++ does (change 1 (Put 0 1) (5 ∷ replicate 43 0) ∷ force ∷ force ∷ backup 1 1 ∷ note ∷ startCarry
+    ∷ []))
 
 abbrev put : Call
 put = change 1 (Put 0 1) (6 ∷ replicate 43 0)
@@ -112,26 +129,26 @@ carriedRows =
     (done ++ (refused 20 ++ (done ++ (refused 20 ++ (idle ++ done)))))
     ∷ row "carry: the headings"
     (take 4 (oldVolume .volume) ++ (take 4 (carrying .volume) ++ take 4 (over .volume)))
-    (0x43 ∷ 0x48 ∷ 0x50 ∷ 0x56 ∷ 0x43 ∷ 0x48 ∷ 0x50 ∷ 0x43 ∷ 0x43 ∷ 0x48 ∷ 0x50 ∷ 0x32 ∷ [])
+    (headed 0x56 ++ (headed 0x43 ++ headed 0x32))
     ∷ row "carry: pages before slots"
     (sums carrying (pageAt 1) 1 ++ (sums carrying (slotAt 1) 1 ++ (sums once (pageAt 1) 1 ++ (sums once (slotAt 1) 1
     ++ (sums twice (pageAt 1) 1 ++ sums twice (slotAt 1) 1)))))
-    (1 ∷ 0 ∷ 1 ∷ 0 ∷ 0 ∷ 1 ∷ 1 ∷ 0 ∷ 0 ∷ 1 ∷ 0 ∷ 1 ∷ [])
+    (inWords ++ (inWords ++ (inBytes ++ (inWords ++ (inBytes ++ inBytes)))))
     ∷ row "carry: bytes 0 to 251 as they lie, the byte sum set"
     (bit (same (take 252 (imageIn once (pageAt 1))) (take 252 (imageIn carrying (pageAt 1))))
     ∷ bit (same (imageIn once (pageAt 1)) (byteImage 1 1 7)) ∷ [])
-    (1 ∷ 1 ∷ [])
+    (yes ∷ yes ∷ [])
     ∷ row "carry: how many are left" (left carrying ∷ left once ∷ left twice ∷ left over ∷ []) (2 ∷ 1 ∷ 0 ∷ 0 ∷ [])
     ∷ row "carry: memory and state stay"
     (sameLive oldVolume carrying ∷ sameLive carrying once ∷ sameLive once twice ∷ sameLive twice over ∷ [])
-    (1 ∷ 1 ∷ 1 ∷ 1 ∷ [])
+    (yes ∷ yes ∷ yes ∷ yes ∷ [])
     ∷ row "carry: a failing image is passed over"
     (let failed = run oldVolume (damage (pageAt 1) (broken (wordImage 1 1 7)) ∷ does (startCarry ∷ [])) in
     let stamped = run failed (does (restamp ∷ [])) in
     left failed ∷ (asked failed restamp
     ++ (asked stamped restamp ++ (bit (same (imageIn stamped (pageAt 1)) (broken (wordImage 1 1 7)))
     ∷ bit (allZero (imageIn stamped (pageAt 2))) ∷ sums stamped (slotAt 1) 1))))
-    (1 ∷ (done ++ (idle ++ (1 ∷ 1 ∷ 0 ∷ 1 ∷ []))))
+    (1 ∷ (done ++ (idle ++ (yes ∷ yes ∷ inBytes))))
     ∷ row "carry: a slot in the index, another page's image"
     (let other = run oldVolume (damage (slotAt 1) (wordImage 2 2 0xEE) ∷ does (startCarry ∷ restamp ∷ [])) in
     left other ∷ (asked other restamp ++ asked other finishCarry))
@@ -142,14 +159,14 @@ carriedRows =
     let strange = run oldVolume (damage (slotAt 2) (wordImage 3 1 1) ∷ does (startCarry ∷ restamp ∷ restamp ∷ [])) in
     left moved ∷ (asked moved finishCarry
     ++ (sums next (slotAt 1) 1 ++ (sums next (slotAt 2) 1 ++ (left strange ∷ asked strange finishCarry)))))
-    (2 ∷ (refused 20 ++ (0 ∷ 1 ∷ 1 ∷ 0 ∷ 0 ∷ done)))
+    (2 ∷ (refused 20 ++ (inBytes ++ (inWords ++ (0 ∷ done)))))
     ∷ row "carry: an image that passes both sums is not restamped"
     (left bothSums ∷ (sums bothSums (pageAt 1) 1 ++ (asked bothSums restamp ++ asked bothSums finishCarry)))
-    (0 ∷ 1 ∷ 1 ∷ (idle ++ done))
+    (0 ∷ (inBoth ++ (idle ++ done)))
     ∷ row "carry: new images get the byte sum"
     (sums (run oldVolume (does (write 2 ∷ []))) (pageAt 2) 2 ++ (sums (run carrying (does (write 2 ∷ []))) (pageAt 2) 2
     ++ sums (run carrying (does (backup 2 2 ∷ []))) (slotAt 2) 2))
-    (1 ∷ 0 ∷ 0 ∷ 1 ∷ 0 ∷ 1 ∷ [])
+    (inWords ++ (inBytes ++ inBytes))
     ∷ row "carry: 1 before 2, 2 before 20, and the ordinary 1"
     (numbers (startCarryOf (over .volume) [] zeroState .answer)
     ++ (numbers (startCarryOf (oldVolume .volume) [] zeroState .answer)
@@ -171,5 +188,5 @@ carriedRows =
     (refused 12 ++ (done ++ done))
     ∷ row "carry: the headings that are known"
     (bits (validVolume (carrying .volume) ∷ validVolume (storedIn (carrying .volume) (newHeading 0x44 ∷ [])) ∷ []))
-    (1 ∷ 0 ∷ [])
+    (yes ∷ no ∷ [])
     ∷ []

@@ -4,14 +4,15 @@ use Prim.Native.Nat.{ℕ}
 use mathlib.Core.List.{List, [], _∷_, _++_, map}
 use lib.ListN.{replicate}
 use Rattle.model.specs.Geometry.{Place, pageAt, slotAt}
-use Rattle.model.specs.Calls.{write, backup, note, startCarry, restamp, finishCarry}
+use Rattle.cases.specs.Calls.{write, backup, note, startCarry, restamp, finishCarry}
 use Rattle.model.specs.AbstractLog.{old, new, torn}
 use Rattle.model.specs.History.{Machine, Event, restart, perform, crashIn, damage, allowed, run}
 use Rattle.model.specs.declared.answer.Class.the-variants.{Good}
 use Rattle.cases.specs.Opened.{opened}
 use Rattle.cases.specs.Rows.{Row, row}
-use Rattle.cases.specs.Build.{bits, broken, fromOwn, inspected, memory}
-use Rattle.cases.specs.Carried.{does, oldVolume, bothWritten, wordImage, byteImage, sums}
+use Rattle.cases.specs.Words.{bits, fromOwn, yes, no, atLsn}
+use Rattle.cases.specs.Build.{broken, inspected, memory}
+use Rattle.cases.specs.Carried.{does, oldVolume, bothWritten, wordImage, byteImage, sums, inBytes, inBoth}
 
 abbrev may : Machine → List Event → List ℕ
 may w es = bits (map (allowed w) es)
@@ -58,51 +59,51 @@ carriedEvents =
     ∷ crashIn startCarry (torn (replicate 4 1)) ∷ [])
     ++ (may carrying (crashIn startCarry (torn []) ∷ [])
     ++ may twice (crashIn finishCarry old ∷ crashIn finishCarry new ∷ crashIn finishCarry (torn []) ∷ [])))
-    (1 ∷ 1 ∷ 0 ∷ 0 ∷ 1 ∷ 1 ∷ 1 ∷ 0 ∷ [])
+    (yes ∷ yes ∷ no ∷ no ∷ yes ∷ yes ∷ yes ∷ no ∷ [])
     ∷ row "carry: a torn image fails both sums"
     (may carrying (crashIn restamp old ∷ crashIn restamp new ∷ map (λ xs. crashIn restamp (torn xs))
     (broken (byteImage 1 1 7) ∷ wordImage 1 1 0xEE ∷ byteImage 1 1 0xEE ∷ [])
     ++ map (λ xs. crashIn (write 2) (torn xs)) (wordImage 2 2 0xEE ∷ byteImage 2 2 0xEE ∷ [])))
-    (1 ∷ 1 ∷ 1 ∷ 0 ∷ 0 ∷ 0 ∷ 0 ∷ [])
+    (yes ∷ yes ∷ yes ∷ no ∷ no ∷ no ∷ no ∷ [])
     ∷ row "carry: before and after, the sum of the heading"
     (may oldVolume (map (λ xs. crashIn (write 2) (torn xs)) (wordImage 2 2 0xEE ∷ byteImage 2 2 0xEE ∷ []))
     ++ may over (map (λ xs. crashIn (write 2) (torn xs)) (wordImage 2 2 0xEE ∷ byteImage 2 2 0xEE ∷ [])))
-    (0 ∷ 1 ∷ 1 ∷ 0 ∷ [])
+    (no ∷ yes ∷ yes ∷ no ∷ [])
     ∷ row "carry: damage passes under neither sum, or was stored"
     (may carrying (hits (pageAt 1)
     (wordImage 1 1 0xEE ∷ byteImage 1 1 0xEE ∷ broken (wordImage 1 1 7) ∷ wordImage 1 1 7 ∷ byteImage 1 1 7 ∷ []))
     ++ may over (hits (pageAt 1) (wordImage 1 1 0xEE ∷ byteImage 1 1 0xEE ∷ wordImage 1 1 7 ∷ byteImage 1 1 7 ∷ [])))
-    (0 ∷ 0 ∷ 1 ∷ 1 ∷ 0 ∷ 1 ∷ 0 ∷ 1 ∷ 1 ∷ [])
+    (no ∷ no ∷ yes ∷ yes ∷ no ∷ yes ∷ no ∷ yes ∷ yes ∷ [])
     ∷ row "carry: a Start may not meet an own image by bytes alone"
     (may tornWrite (perform startCarry ∷ crashIn startCarry new ∷ crashIn startCarry old ∷ []))
-    (0 ∷ 0 ∷ 1 ∷ [])
+    (no ∷ no ∷ yes ∷ [])
     ∷ row "carry: nor a noted backup by bytes alone"
     (may tornBackup (perform startCarry ∷ crashIn startCarry new ∷ crashIn startCarry old ∷ []))
-    (0 ∷ 0 ∷ 1 ∷ [])
+    (no ∷ no ∷ yes ∷ [])
     ∷ row "carry: nor the backup of a pending note"
     (may tornPending (perform startCarry ∷ crashIn startCarry new ∷ crashIn startCarry old ∷ []))
-    (0 ∷ 0 ∷ 1 ∷ [])
+    (no ∷ no ∷ yes ∷ [])
     ∷ row "carry: a Start may meet an image that passes both sums"
     (sums bothWritten (pageAt 1) 1 ++ may bothWritten (perform startCarry ∷ crashIn startCarry new ∷ []))
-    (1 ∷ 1 ∷ 1 ∷ 1 ∷ [])
+    (inBoth ++ (yes ∷ yes ∷ []))
     ∷ row "carry: slots that nothing relies on, and a Start that is refused, are not asked"
     (may tornOutside (perform startCarry ∷ []) ++ may over (perform startCarry ∷ crashIn startCarry new ∷ []))
-    (1 ∷ 1 ∷ 1 ∷ [])
+    (yes ∷ yes ∷ yes ∷ [])
     ∷ row "carry: why: a torn write would read good"
     (inspected (run tornWrite (does (startCarry ∷ [])) .volume) 2)
-    (fromOwn Good 0 ++ (2 ∷ 0 ∷ 0 ∷ 0 ∷ replicate 6 0xEE))
+    (fromOwn Good 0 ++ atLsn 2 (replicate 6 0xEE))
     ∷ row "carry: a restamped forgery does not count as stored"
     (may forged (hits (slotAt 1)
     (byteImage 2 2 0xEE ∷ wordImage 2 2 0xEE ∷ byteImage 2 2 9 ∷ broken (byteImage 2 2 9) ∷ [])))
-    (0 ∷ 0 ∷ 1 ∷ 1 ∷ [])
+    (no ∷ no ∷ yes ∷ yes ∷ [])
     ∷ row "carry: nor where its restamp was cut and left new"
     (may (run oldVolume forgedCut) (hits (slotAt 1) (byteImage 2 2 0xEE ∷ wordImage 2 2 0xEE ∷ []))
     ++ sums (run oldVolume forgedCut) (slotAt 1) 2)
-    (0 ∷ 0 ∷ 0 ∷ 1 ∷ [])
+    (no ∷ no ∷ inBytes)
     ∷ row "carry: a restamped image counts as stored where the old one did"
     (may twice (hits (pageAt 1) (byteImage 1 1 7 ∷ wordImage 1 1 7 ∷ [])
     ++ hits (slotAt 1) (byteImage 1 1 7 ∷ wordImage 1 1 7 ∷ []))
     ++ may (run carrying (crashIn restamp new ∷ [])) (hits (pageAt 1) (byteImage 1 1 7 ∷ []))
     ++ may (run carrying (crashIn restamp old ∷ [])) (hits (pageAt 1) (byteImage 1 1 7 ∷ [])))
-    (1 ∷ 1 ∷ 1 ∷ 1 ∷ 1 ∷ 0 ∷ [])
+    (yes ∷ yes ∷ yes ∷ yes ∷ yes ∷ no ∷ [])
     ∷ []

@@ -2,15 +2,17 @@
 -- image returned before and after Finish, chat between, and the ring that the log then is.
 use mathlib.Core.List.{List, [], _∷_, _++_}
 use Rattle.model.specs.Geometry.{pageAt, slotAt}
-use Rattle.model.specs.Calls.{begin, load, force, write, backup, note, startCarry, restamp, finishCarry}
+use Rattle.cases.specs.Calls.{begin, load, force, write, backup, note, startCarry, restamp, finishCarry}
 use Rattle.model.specs.AbstractLog.{old, new, torn}
 use Rattle.model.specs.History.{restart, crash, crashIn, damage}
 use Rattle.model.specs.declared.geometry.Heading.the-variants.{First}
 use Rattle.model.specs.declared.change.Change.the-variants.{Format}
 use Rattle.model.specs.declared.answer.Class.the-variants.{Good, Behind, Failed}
-use Rattle.cases.specs.Build.{fromOwn, fromBackup, fromFormat, refused, done, idle, broken, memory}
+use Rattle.cases.specs.Words.{fromOwn, fromBackup, fromFormat, refused, done, idle, shown}
+use Rattle.cases.specs.Build.{broken, memory}
+use Rattle.cases.specs.Prologues.{pagesForced, pageForced}
 use Rattle.cases.specs.Worked.{Worked, told, quiet}
-use Rattle.cases.specs.Slides.{does, logged, slid, slide}
+use Rattle.cases.specs.Slides.{allDone, does, logged, slid, slide}
 use Rattle.cases.specs.Carried.{wordImage, byteImage}
 
 abbrev pub carriedOver : Worked
@@ -23,12 +25,8 @@ carriedOver =
       records = 4;
       notes = 8;
       events =
-          told (restart (memory 2)) done
-          ∷ does (begin 1 1 7) done
-          ∷ does (begin 2 2 9) done
-          ∷ does force done
-          ∷ does force done
-          ∷ does (write 1) done
+          allDone (pagesForced 2)
+          ++ (does (write 1) done
           ∷ does note done
           ∷ does (write 2) done
           ∷ does note done
@@ -67,12 +65,12 @@ carriedOver =
           ∷ quiet (damage (pageAt 1) (wordImage 1 1 7))
           ∷ told (restart (memory 2)) done
           ∷ does (load 1 1) (fromBackup Failed 2)
-          ∷ [];
+          ∷ []);
       durable = logged 1 (Format 7) [] ∷ logged 2 (Format 9) [] ∷ slid 1 (0x41 ∷ []) ∷ slid 2 (0x42 ∷ [])
           ∷ slid 1 (0x43 ∷ []) ∷ [];
       shows =
-          (fromBackup Failed 2 ++ (5 ∷ 0x43 ∷ 0x41 ∷ 7 ∷ 7 ∷ 7 ∷ 7 ∷ []))
-          ∷ (fromFormat Failed 2 ++ (4 ∷ 0x42 ∷ 9 ∷ 9 ∷ 9 ∷ 9 ∷ 9 ∷ [])) ∷ [];
+          shown (fromBackup Failed 2) 5 (0x43 ∷ 0x41 ∷ 7 ∷ 7 ∷ 7 ∷ 7 ∷ [])
+          ∷ shown (fromFormat Failed 2) 4 (0x42 ∷ 9 ∷ 9 ∷ 9 ∷ 9 ∷ 9 ∷ []) ∷ [];
     }
 
 -- The forged slot of `CarriedEvents`, as a legal history: the forgery is carried over with the rest, the backup that is
@@ -87,12 +85,8 @@ forgeryCarried =
       records = 4;
       notes = 8;
       events =
-          told (restart (memory 2)) done
-          ∷ does (begin 1 1 7) done
-          ∷ does (begin 2 2 9) done
-          ∷ does force done
-          ∷ does force done
-          ∷ does (backup 1 1) done
+          allDone (pagesForced 2)
+          ++ (does (backup 1 1) done
           ∷ does note done
           ∷ quiet (damage (slotAt 1) (wordImage 2 2 0xEE))
           ∷ does (backup 1 2) done
@@ -107,11 +101,11 @@ forgeryCarried =
           ∷ quiet (damage (slotAt 1) (byteImage 2 2 9))
           ∷ does finishCarry done
           ∷ quiet crash
-          ∷ [];
+          ∷ []);
       durable = logged 1 (Format 7) [] ∷ logged 2 (Format 9) [] ∷ [];
       shows =
-          (fromBackup Failed 0 ++ (1 ∷ 7 ∷ 7 ∷ 7 ∷ 7 ∷ 7 ∷ 7 ∷ []))
-          ∷ (fromBackup Failed 0 ++ (2 ∷ 9 ∷ 9 ∷ 9 ∷ 9 ∷ 9 ∷ 9 ∷ [])) ∷ [];
+          shown (fromBackup Failed 0) 1 (7 ∷ 7 ∷ 7 ∷ 7 ∷ 7 ∷ 7 ∷ [])
+          ∷ shown (fromBackup Failed 0) 2 (9 ∷ 9 ∷ 9 ∷ 9 ∷ 9 ∷ 9 ∷ []) ∷ [];
     }
 
 -- The same durable changes on a volume that no Start met: demand 3 says that every page is shown the same.
@@ -125,16 +119,14 @@ notCarried =
       records = 2;
       notes = 0;
       events =
-          told (restart (memory 1)) done
-          ∷ does (begin 1 1 7) done
+          allDone (pageForced 1)
+          ++ (does (begin 2 1 9) done
           ∷ does force done
-          ∷ does (begin 2 1 9) done
-          ∷ does force done
-          ∷ [];
+          ∷ []);
       durable = logged 1 (Format 7) [] ∷ logged 2 (Format 9) [] ∷ [];
       shows =
-          (fromFormat Failed 1 ++ (1 ∷ 7 ∷ 7 ∷ 7 ∷ 7 ∷ 7 ∷ 7 ∷ []))
-          ∷ (fromFormat Failed 1 ++ (2 ∷ 9 ∷ 9 ∷ 9 ∷ 9 ∷ 9 ∷ 9 ∷ [])) ∷ [];
+          shown (fromFormat Failed 1) 1 (7 ∷ 7 ∷ 7 ∷ 7 ∷ 7 ∷ 7 ∷ [])
+          ∷ shown (fromFormat Failed 1) 2 (9 ∷ 9 ∷ 9 ∷ 9 ∷ 9 ∷ 9 ∷ []) ∷ [];
     }
 
 abbrev pub carriedHistories : List Worked

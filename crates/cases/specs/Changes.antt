@@ -4,7 +4,7 @@ use lib.ListN.{length, replicate, take, drop}
 use Rattle.model.specs.Change.{changeFits, applyChange}
 use Rattle.model.specs.declared.change.Change.the-variants.{Format, Put, Slide}
 use Rattle.cases.specs.Rows.{Row, row}
-use Rattle.cases.specs.Build.{bits}
+use Rattle.cases.specs.Words.{bits, yes, no}
 
 -- ---- the rule: kind, length, offset, fill
 
@@ -12,37 +12,37 @@ abbrev borderRows : List Row
 borderRows =
     row "rule: a format has length 0, offset 0 and any fill"
     (bits (changeFits 1 0 0 0 ∷ changeFits 1 0 0 255 ∷ changeFits 1 1 0 0 ∷ changeFits 1 0 1 0 ∷ []))
-    (1 ∷ 1 ∷ 0 ∷ 0 ∷ [])
+    (yes ∷ yes ∷ no ∷ no ∷ [])
     ∷ row "rule: a put's length is 1 to 44"
     (bits (changeFits 2 0 0 0 ∷ changeFits 2 1 0 0 ∷ changeFits 2 44 0 0 ∷ changeFits 2 45 0 0
     ∷ changeFits 2 244 0 0 ∷ []))
-    (0 ∷ 1 ∷ 1 ∷ 0 ∷ 0 ∷ [])
+    (no ∷ yes ∷ yes ∷ no ∷ no ∷ [])
     ∷ row "rule: a put's offset leaves room for it"
     (bits
     (changeFits 2 1 243 0 ∷ changeFits 2 1 244 0 ∷ changeFits 2 44 200 0 ∷ changeFits 2 44 201 0
     ∷ changeFits 2 1 65535 0
     ∷ []))
-    (1 ∷ 0 ∷ 1 ∷ 0 ∷ 0 ∷ [])
+    (yes ∷ no ∷ yes ∷ no ∷ no ∷ [])
     ∷ row "rule: a put's fill is 0"
     (bits (changeFits 2 1 0 0 ∷ changeFits 2 1 0 1 ∷ changeFits 2 44 200 255 ∷ []))
-    (1 ∷ 0 ∷ 0 ∷ [])
+    (yes ∷ no ∷ no ∷ [])
     ∷ row "rule: a slide's length is 1 to 44"
     (bits (changeFits 3 0 0 0 ∷ changeFits 3 1 0 0 ∷ changeFits 3 44 0 0 ∷ changeFits 3 45 0 0
     ∷ changeFits 3 244 0 0 ∷ []))
-    (0 ∷ 1 ∷ 1 ∷ 0 ∷ 0 ∷ [])
+    (no ∷ yes ∷ yes ∷ no ∷ no ∷ [])
     ∷ row "rule: a slide's offset leaves room for it"
     (bits
     (changeFits 3 1 243 0 ∷ changeFits 3 1 244 0 ∷ changeFits 3 44 200 0 ∷ changeFits 3 44 201 0
     ∷ changeFits 3 1 65535 0
     ∷ []))
-    (1 ∷ 0 ∷ 1 ∷ 0 ∷ 0 ∷ [])
+    (yes ∷ no ∷ yes ∷ no ∷ no ∷ [])
     ∷ row "rule: a slide's fill is 0"
     (bits (changeFits 3 1 0 0 ∷ changeFits 3 1 0 1 ∷ changeFits 3 44 200 255 ∷ []))
-    (1 ∷ 0 ∷ 0 ∷ [])
+    (yes ∷ no ∷ no ∷ [])
     ∷ row "rule: no other kind"
     (bits (changeFits 0 0 0 0 ∷ changeFits 0 1 0 0 ∷ changeFits 4 0 0 0 ∷ changeFits 4 1 0 0
     ∷ changeFits 255 1 0 0 ∷ []))
-    (0 ∷ 0 ∷ 0 ∷ 0 ∷ 0 ∷ [])
+    (no ∷ no ∷ no ∷ no ∷ no ∷ [])
     ∷ []
 
 -- ---- on a body

@@ -1,21 +1,25 @@
--- Rows on what callers are handed: an inspection that also leaves class, start and count in a lent report, which call a
--- command is, and the room that a volume has.
+-- Rows on what callers are handed: an inspection that also leaves class, start and count in a lent report, the
+-- number of each command, and the room that a volume has.
 use Prim.Native.Nat.{ℕ}
-use mathlib.Core.List.{List, [], _∷_, _++_, map}
+use mathlib.Core.List.{List, [], _∷_, _++_}
 use lib.ListN.{replicate, set}
-use Rattle.model.specs.Change.{kindOf, lengthOf, offsetOf, fillOf}
-use Rattle.model.specs.Calls.{oneItem, inspectOf, Call, begin, load, change, force, write, backup, release, note, startCarry, restamp, finishCarry}
-use Rattle.model.specs.Health.{examineOf}
-use Rattle.model.specs.Commands.{callOf}
+use Rattle.model.specs.Outcome.{oneItem}
+use Rattle.model.specs.Calls.{codeOf}
+use Rattle.model.specs.Restart.{inspectOf}
+use Rattle.reports.specs.Examine.{examineOf}
 use Rattle.model.specs.Geometry.{noteAt}
-use Rattle.model.specs.Room.{roomOf}
+use Rattle.reports.specs.Room.{roomOf}
 use Rattle.model.specs.declared.geometry.Heading.the-variants.{First, Second}
 use Rattle.model.specs.declared.change.Change.the-variants.{Format, Put, Slide}
+use Rattle.model.specs.declared.answer.Class.the-variants.{Failed}
+use Rattle.model.specs.declared.answer.Start.{Start}
 use Rattle.model.specs.declared.command.Command.{Command}
-use Rattle.model.specs.declared.command.Command.the-variants.{Begin, Load, Change, Force, Write, Backup, Release, Note, StartCarry, Restamp, FinishCarry}
+use Rattle.model.specs.declared.command.Command.the-variants.{Begin, Load, Change, Force, Write, Backup, Release, Note}
+use Rattle.model.specs.declared.command.Command.the-variants.{StartCarry, Restamp, FinishCarry}
 use Rattle.cases.specs.Rows.{Row, row, same}
 use Rattle.cases.specs.Opened.{opened}
-use Rattle.cases.specs.Build.{bit, buffer, backupNote, storedIn}
+use Rattle.cases.specs.Words.{bit, yes, no, accepted, refusal, report}
+use Rattle.cases.specs.Build.{buffer, backupNote, storedIn}
 use Rattle.cases.specs.Rings.{logWith}
 use Rattle.cases.specs.Table.{whole, ownFails}
 
@@ -25,33 +29,22 @@ examined v page b n =
     let o = examineOf v page b (replicate n 9) in
     o .refusal ∷ bit (same (o .buffer) b) ∷ o .report
 
--- no two calls have the same numbers
-abbrev callNumbers : Call → List ℕ
-callNumbers (begin page frame fill) = 1 ∷ page ∷ frame ∷ fill ∷ []
-callNumbers (load page frame) = 2 ∷ page ∷ frame ∷ []
-callNumbers (change page c payload) = 3 ∷ page ∷ kindOf c ∷ lengthOf c ∷ offsetOf c ∷ fillOf c ∷ payload
-callNumbers force = 4 ∷ []
-callNumbers (write page) = 5 ∷ page ∷ []
-callNumbers (backup page slot) = 6 ∷ page ∷ slot ∷ []
-callNumbers (release page) = 7 ∷ page ∷ []
-callNumbers note = 8 ∷ []
-callNumbers startCarry = 9 ∷ []
-callNumbers restamp = 10 ∷ []
-callNumbers finishCarry = 11 ∷ []
+-- a refusal that leaves the buffer and a report of n nines
+abbrev leaves : ℕ → ℕ → List ℕ
+leaves refusal n = refusal ∷ yes ∷ replicate n 9
 
-abbrev listed : List Call → List ℕ
-listed [] = []
-listed (c ∷ cs) = callNumbers c ++ listed cs
-
--- the calls of commands with one payload
-abbrev calls : List ℕ → List Command → List ℕ
-calls payload cs = listed (map (λ c. callOf c payload) cs)
+abbrev codes : List Command → List ℕ
+codes [] = []
+codes (c ∷ cs) = codeOf c ++ codes cs
 
 -- the refusal; how many log records and notes there is room for, each with the page that is then in the way
 abbrev roomNumbers : List ℕ → List ℕ
 roomNumbers v =
     let r = roomOf v in
     r .refusal ∷ r .log .count ∷ r .log .page ∷ r .notes .count ∷ r .notes .page ∷ []
+
+abbrev roomFor : ℕ → ℕ → ℕ → ℕ → List ℕ
+roomFor records atPage notes atNotesPage = accepted ∷ records ∷ atPage ∷ notes ∷ atNotesPage ∷ []
 
 -- a log of records 1 to 4 of page 1 in as many slots, and two note slots; where page 1's backup at 2 is noted
 abbrev fullLog : List ℕ
@@ -70,28 +63,26 @@ examinedRows =
     row "examine: class, start and count, and the buffer as Inspect leaves it"
     (let o = examineOf v 1 buffer (replicate 3 9) in
     o .refusal ∷ bit (same (o .buffer) (inspectOf v 1 buffer .buffer)) ∷ (o .report ++ examined v 1 buffer 3))
-    (0 ∷ 1 ∷ 4 ∷ 3 ∷ 2 ∷ 0 ∷ 0 ∷ 4 ∷ 3 ∷ 2 ∷ [])
+    (accepted ∷ yes ∷ (report Failed Start.Format 2 ++ (accepted ∷ no ∷ report Failed Start.Format 2)))
     ∷ row "examine: refused as Inspect is, and buffer and report are left"
     (examined wrong 1 buffer 3 ++ (examined v 1 short 3 ++ examined v 3 buffer 3))
-    (1 ∷ 1 ∷ 9 ∷ 9 ∷ 9 ∷ 2 ∷ 1 ∷ 9 ∷ 9 ∷ 9 ∷ 3 ∷ 1 ∷ 9 ∷ 9 ∷ 9 ∷ [])
+    (leaves (refusal 1) 3 ++ (leaves (refusal 2) 3 ++ leaves (refusal 3) 3))
     ∷ row "examine: 2 for a report of another length, before 3"
     (examined v 1 buffer 2 ++ (examined v 1 buffer 4 ++ (examined v 1 short 2 ++ examined v 3 buffer 0)))
-    (2 ∷ 1 ∷ 9 ∷ 9 ∷ 2 ∷ 1 ∷ 9 ∷ 9 ∷ 9 ∷ 9 ∷ 2 ∷ 1 ∷ 9 ∷ 9 ∷ 2 ∷ 1 ∷ [])
+    (leaves (refusal 2) 2 ++ (leaves (refusal 2) 4 ++ (leaves (refusal 2) 2 ++ leaves (refusal 2) 0)))
     ∷ row "examine: 1 before 2, by the report, by the buffer and by both"
     (examined wrong 1 buffer 2 ++ (examined wrong 1 short 3 ++ examined wrong 1 short 2))
-    (1 ∷ 1 ∷ 9 ∷ 9 ∷ 1 ∷ 1 ∷ 9 ∷ 9 ∷ 9 ∷ 1 ∷ 1 ∷ 9 ∷ 9 ∷ [])
-    ∷ row "commands: each is its call"
-    (calls (5 ∷ 6 ∷ [])
+    (leaves (refusal 1) 2 ++ (leaves (refusal 1) 3 ++ leaves (refusal 1) 2))
+    ∷ row "commands: their numbers and arguments, as in docs/SCRIPT.md"
+    (codes
     (Begin 1 2 3 ∷ Load 4 5 ∷ Change 6 (Format 7) ∷ Change 6 (Put 8 9) ∷ Change 6 (Slide 8 9) ∷ Force ∷ Write 10
     ∷ Backup 11 12 ∷ Release 13 ∷ Note ∷ StartCarry ∷ Restamp ∷ FinishCarry ∷ []))
-    (listed
-    (begin 1 2 3 ∷ load 4 5 ∷ change 6 (Format 7) (5 ∷ 6 ∷ []) ∷ change 6 (Put 8 9) (5 ∷ 6 ∷ [])
-    ∷ change 6 (Slide 8 9) (5 ∷ 6 ∷ []) ∷ force ∷ write 10 ∷ backup 11 12 ∷ release 13 ∷ note ∷ startCarry ∷ restamp
-    ∷ finishCarry ∷ []))
+    (3 ∷ 1 ∷ 2 ∷ 3 ∷ 4 ∷ 4 ∷ 5 ∷ 5 ∷ 6 ∷ 1 ∷ 0 ∷ 0 ∷ 7 ∷ 5 ∷ 6 ∷ 2 ∷ 9 ∷ 8 ∷ 0 ∷ 5 ∷ 6 ∷ 3 ∷ 9 ∷ 8 ∷ 0 ∷ 6 ∷ 7 ∷ 10
+    ∷ 8 ∷ 11 ∷ 12 ∷ 17 ∷ 13 ∷ 9 ∷ 18 ∷ 19 ∷ 20 ∷ [])
     ∷ row "room: a full ring without a backup, and a full log that is no ring"
     (roomNumbers fullLog ++ roomNumbers (logWith First (1 ∷ 2 ∷ 3 ∷ 4 ∷ [])))
-    (0 ∷ 0 ∷ 1 ∷ 2 ∷ 0 ∷ 0 ∷ 0 ∷ 0 ∷ 2 ∷ 0 ∷ [])
+    (roomFor 0 1 2 0 ++ roomFor 0 0 2 0)
     ∷ row "room: up to the first record above the noted backup, and to the note that is needed" (roomNumbers noted)
-    (0 ∷ 2 ∷ 1 ∷ 1 ∷ 1 ∷ [])
-    ∷ row "room: refused as a restart is" (roomNumbers (set noted 0 0)) (1 ∷ 0 ∷ 0 ∷ 0 ∷ 0 ∷ [])
+    (roomFor 2 1 1 1)
+    ∷ row "room: refused as a restart is" (roomNumbers (set noted 0 0)) (refusal 1 ∷ replicate 4 0)
     ∷ []

@@ -1,6 +1,9 @@
 pub mod Opened
 pub mod Rows
+pub mod Calls
+pub mod Words
 pub mod Build
+pub mod Prologues
 pub mod Table
 pub mod Items
 pub mod Changes

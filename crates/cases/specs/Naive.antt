@@ -7,7 +7,8 @@ use Rattle.model.specs.Item.{imageBody, validImage}
 use Rattle.model.specs.Index.{entryOf, setEntry}
 use Rattle.model.specs.Scan.{indexOf}
 use Rattle.model.specs.Repair.{View, viewOf, ownStart, walkFrom, replayChain, startBody, rebuiltBody}
-use Rattle.model.specs.Calls.{Outcome, backupOf}
+use Rattle.model.specs.Outcome.{Outcome}
+use Rattle.model.specs.Calls.{backupOf}
 use Rattle.model.specs.declared.state.State.{State}
 
 abbrev pub viewIn : List ℕ → ℕ → View

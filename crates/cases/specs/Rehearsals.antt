@@ -1,20 +1,21 @@
 -- Rows on the rehearsal (document 02, §10): the model on small lists, 25's four grounds, and the real calls beside it.
-use Prim.Native.Nat.{ℕ, suc, _+_, _*_}
+use Prim.Native.Nat.{ℕ, _+_}
 use mathlib.Core.List.{List, [], _∷_, _++_}
 use lib.ListN.{length, replicate}
 use Rattle.model.specs.Geometry.{lengthFor}
-use Rattle.model.specs.Calls.{refusalOf}
-use Rattle.model.specs.Rehearsal.{pageRow, useRow, settings, playFrom, idle, rehearsalOf, totalOf}
-use Rattle.model.specs.RehearsalRun.{Choices, Played, Site, realRun, freeSlot, backedUp}
+use Rattle.model.specs.Outcome.{refusalOf}
+use Rattle.planning.specs.Rehearsal.{pageRow, useRow, settings, playFrom, idle, rehearsalOf, totalOf}
+use Rattle.planning.specs.RehearsalRun.{Choices, Played, Site, realRun, freeSlot, backedUp}
 use Rattle.model.specs.declared.geometry.Heading.{Heading}
 use Rattle.model.specs.declared.geometry.Heading.the-variants.{First, Second}
-use Rattle.model.specs.declared.rehearsal.Victim.{Victim}
-use Rattle.model.specs.declared.rehearsal.Victim.the-variants.{Written, LetGo}
-use Rattle.model.specs.declared.rehearsal.Figures.{Figures}
-use Rattle.model.specs.declared.rehearsal.Totals.{Totals}
+use Rattle.planning.specs.declared.rehearsal.Victim.{Victim}
+use Rattle.planning.specs.declared.rehearsal.Victim.the-variants.{Written, Released}
+use Rattle.planning.specs.declared.rehearsal.Figures.{Figures}
+use Rattle.planning.specs.declared.rehearsal.Totals.{Totals}
 use Rattle.cases.specs.Rows.{Row, row}
 use Rattle.cases.specs.Opened.{opened}
-use Rattle.cases.specs.Build.{bit, memory}
+use Rattle.cases.specs.Words.{bit, yes, no, accepted, refusal}
+use Rattle.cases.specs.Build.{memory}
 
 -- a read and a change of page p
 abbrev r : ℕ → ℕ
@@ -30,6 +31,11 @@ counts f = f .loads ∷ f .records ∷ f .images ∷ f .backups ∷ f .notes ∷
 abbrev sums : Totals → List ℕ
 sums f = f .loads ∷ f .records ∷ f .images ∷ f .backups ∷ f .notes ∷ f .replayed ∷ []
 
+-- in words, for a page or in total: loads; records, images, backups, notes stored; records replayed
+abbrev page : ℕ → ℕ → ℕ → ℕ → ℕ → ℕ → List ℕ
+page loads records images backups notes replayed =
+    loads ∷ records ∷ images ∷ backups ∷ notes ∷ replayed ∷ []
+
 -- pages 1 and 2 of the model
 abbrev figures : List ℕ → ℕ → ℕ → Victim → List ℕ
 figures events frames every v =
@@ -39,7 +45,11 @@ figures events frames every v =
 abbrev answered : List ℕ → ℕ → ℕ → ℕ
 answered events frames every = refusalOf (rehearsalOf events (settings frames every Written) .answer)
 
--- frames 1 and 2 of the model: page, last use, dirty
+-- a frame: its page, its last use, whether it is dirty
+abbrev used : ℕ → ℕ → ℕ → List ℕ
+used page at dirty = page ∷ at ∷ dirty ∷ []
+
+-- frames 1 and 2 of the model
 abbrev frames : List ℕ → List ℕ
 frames events =
     let m = playFrom (settings 2 4 Written) 0 idle events in
@@ -79,62 +89,62 @@ unfoldable pub rehearsalCases : List Row
 unfolding opened
 rehearsalCases =
     row "rehearsal: 25 for 1,025 events"
-    (answered (replicate 1025 1) 1 1 ∷ answered (replicate 1024 1) 1 1 ∷ []) (25 ∷ 0 ∷ [])
+    (answered (replicate 1025 1) 1 1 ∷ answered (replicate 1024 1) 1 1 ∷ []) (refusal 25 ∷ accepted ∷ [])
     ∷ row "rehearsal: 25 for the frames"
     (answered short 0 2 ∷ answered short 1 2 ∷ answered short 16 2 ∷ answered short 17 2 ∷ [])
-    (25 ∷ 0 ∷ 0 ∷ 25 ∷ [])
+    (refusal 25 ∷ accepted ∷ accepted ∷ refusal 25 ∷ [])
     ∷ row "rehearsal: 25 for k"
     (answered short 1 0 ∷ answered short 1 1 ∷ answered short 1 255 ∷ answered short 1 256 ∷ [])
-    (25 ∷ 0 ∷ 0 ∷ 25 ∷ [])
+    (refusal 25 ∷ accepted ∷ accepted ∷ refusal 25 ∷ [])
     ∷ row "rehearsal: 25 for a page, of a read too"
     (answered (c 1 ∷ r 0 ∷ []) 1 1 ∷ answered (c 0 ∷ []) 1 1 ∷ answered (c 1 ∷ r 64 ∷ c 64 ∷ []) 1 1
     ∷ answered (c 1 ∷ r 65 ∷ []) 1 1 ∷ answered (c 65 ∷ []) 1 1 ∷ [])
-    (25 ∷ 25 ∷ 0 ∷ 25 ∷ 25 ∷ [])
+    (refusal 25 ∷ refusal 25 ∷ accepted ∷ refusal 25 ∷ refusal 25 ∷ [])
     ∷ row "rehearsal: refused, all figures are zero"
     (length (rehearsalOf (c 1 ∷ r 65 ∷ []) (settings 1 1 Written) .pages) ∷ figures (c 1 ∷ r 65 ∷ []) 1 1 Written)
-    (64 ∷ replicate 12 0)
-    ∷ row "rehearsal: let go" (figures short 1 2 LetGo) (1 ∷ 3 ∷ 0 ∷ 1 ∷ 1 ∷ 1 ∷ 0 ∷ 1 ∷ 0 ∷ 0 ∷ 0 ∷ 0 ∷ [])
-    ∷ row "rehearsal: written" (figures short 1 2 Written) (1 ∷ 3 ∷ 1 ∷ 1 ∷ 2 ∷ 0 ∷ 0 ∷ 1 ∷ 1 ∷ 0 ∷ 1 ∷ 0 ∷ [])
-    ∷ row "rehearsal: below k the walk ends at the format" (figures short 1 4 LetGo)
-    (1 ∷ 3 ∷ 0 ∷ 0 ∷ 0 ∷ 3 ∷ 0 ∷ 1 ∷ 0 ∷ 0 ∷ 0 ∷ 0 ∷ [])
+    (64 ∷ (page 0 0 0 0 0 0 ++ page 0 0 0 0 0 0))
+    ∷ row "rehearsal: let go" (figures short 1 2 Released) (page 1 3 0 1 1 1 ++ page 0 1 0 0 0 0)
+    ∷ row "rehearsal: written" (figures short 1 2 Written) (page 1 3 1 1 2 0 ++ page 0 1 1 0 1 0)
+    ∷ row "rehearsal: below k the walk ends at the format" (figures short 1 4 Released)
+    (page 1 3 0 0 0 3 ++ page 0 1 0 0 0 0)
     ∷ row "rehearsal: a clean victim costs nothing" (figures around 1 9 Written)
-    (2 ∷ 2 ∷ 2 ∷ 0 ∷ 2 ∷ 0 ∷ 2 ∷ 1 ∷ 1 ∷ 0 ∷ 1 ∷ 0 ∷ [])
+    (page 2 2 2 0 2 0 ++ page 2 1 1 0 1 0)
     ∷ row "rehearsal: a page that was loaded is dirty where victims are let go"
-    (figures around 1 9 LetGo)
-    (2 ∷ 2 ∷ 0 ∷ 0 ∷ 0 ∷ 2 ∷ 2 ∷ 1 ∷ 0 ∷ 0 ∷ 0 ∷ 2 ∷ [])
+    (figures around 1 9 Released)
+    (page 2 2 0 0 0 2 ++ page 2 1 0 0 0 2)
     ∷ row "rehearsal: a read before the begin does nothing" (figures (r 1 ∷ c 1 ∷ r 2 ∷ r 1 ∷ []) 1 1 Written)
-    (0 ∷ 1 ∷ 0 ∷ 1 ∷ 1 ∷ 0 ∷ replicate 6 0)
-    ∷ row "rehearsal: a hit renews the use" (figures (c 1 ∷ c 2 ∷ r 1 ∷ c 3 ∷ r 1 ∷ r 2 ∷ []) 2 1 LetGo)
-    (0 ∷ 1 ∷ 0 ∷ 1 ∷ 1 ∷ 0 ∷ 1 ∷ 1 ∷ 0 ∷ 1 ∷ 1 ∷ 0 ∷ [])
+    (page 0 1 0 1 1 0 ++ page 0 0 0 0 0 0)
+    ∷ row "rehearsal: a hit renews the use" (figures (c 1 ∷ c 2 ∷ r 1 ∷ c 3 ∷ r 1 ∷ r 2 ∷ []) 2 1 Released)
+    (page 0 1 0 1 1 0 ++ page 1 1 0 1 1 0)
     ∷ row "rehearsal: the first empty frame, the least recently used"
     (frames (c 5 ∷ []) ++ frames (c 5 ∷ c 6 ∷ r 5 ∷ c 7 ∷ []))
-    (5 ∷ 1 ∷ 1 ∷ 0 ∷ 0 ∷ 0 ∷ 5 ∷ 3 ∷ 1 ∷ 7 ∷ 4 ∷ 1 ∷ [])
+    (used 5 1 yes ++ (used 0 0 no ++ (used 5 3 yes ++ used 7 4 yes)))
     ∷ row "rehearsal: in total" (sums (totalOf (rehearsalOf short (settings 1 2 Written) .pages) 64))
-    (1 ∷ 4 ∷ 2 ∷ 1 ∷ 3 ∷ 0 ∷ []) ∷ []
+    (page 1 4 2 1 3 0) ∷ []
 
 unfoldable pub rehearsalRuns : List Row
 unfolding opened
 rehearsalRuns =
     row "rehearsal, real: let go, on a ring that has turned"
-    (real (realRun (site Second 2 1 2 2 1) (settings 1 2 LetGo) choices short))
-    (0 ∷ 1 ∷ 3 ∷ 0 ∷ 1 ∷ 1 ∷ 1 ∷ 0 ∷ 1 ∷ 0 ∷ 0 ∷ 0 ∷ 0 ∷ [])
+    (real (realRun (site Second 2 1 2 2 1) (settings 1 2 Released) choices short))
+    (no ∷ (page 1 3 0 1 1 1 ++ page 0 1 0 0 0 0))
     ∷ row "rehearsal, real: written, the room just enough"
     (real (realRun (site First 2 2 4 3 1) (settings 1 2 Written) choices short))
-    (0 ∷ 1 ∷ 3 ∷ 1 ∷ 1 ∷ 2 ∷ 0 ∷ 0 ∷ 1 ∷ 1 ∷ 0 ∷ 1 ∷ 0 ∷ [])
+    (no ∷ (page 1 3 1 1 2 0 ++ page 0 1 1 0 1 0))
     ∷ row "rehearsal, real: one note too few, one record too few"
     (bit (realRun (site First 2 2 4 2 1) (settings 1 2 Written) choices short .refused)
     ∷ bit (realRun (site First 2 2 3 3 1) (settings 1 2 Written) choices short .refused) ∷ [])
-    (1 ∷ 1 ∷ [])
+    (yes ∷ yes ∷ [])
     ∷ row "rehearsal, real: a clean victim"
     (real (realRun (site Second 2 1 3 4 1) (settings 1 9 Written) choices around))
-    (0 ∷ 2 ∷ 2 ∷ 2 ∷ 0 ∷ 2 ∷ 0 ∷ 2 ∷ 1 ∷ 1 ∷ 0 ∷ 1 ∷ 0 ∷ [])
+    (no ∷ (page 2 2 2 0 2 0 ++ page 2 1 1 0 1 0))
     ∷ row "rehearsal, real: loaded, and dirty"
-    (real (realRun (site Second 2 1 3 4 1) (settings 1 9 LetGo) choices around))
-    (0 ∷ 2 ∷ 2 ∷ 0 ∷ 0 ∷ 0 ∷ 2 ∷ 2 ∷ 1 ∷ 0 ∷ 0 ∷ 0 ∷ 2 ∷ [])
+    (real (realRun (site Second 2 1 3 4 1) (settings 1 9 Released) choices around))
+    (no ∷ (page 2 2 0 0 0 2 ++ page 2 1 0 0 0 2))
     ∷ row "rehearsal, real: a read before the begin; a hit renews the use"
-    (real (realRun (site Second 3 4 3 3 2) (settings 2 1 LetGo) choices (r 2 ∷ c 1 ∷ c 2 ∷ r 1 ∷ c 3 ∷ r 1 ∷ r 2 ∷ [])))
-    (0 ∷ 0 ∷ 1 ∷ 0 ∷ 1 ∷ 1 ∷ 0 ∷ 1 ∷ 1 ∷ 0 ∷ 1 ∷ 1 ∷ 0 ∷ [])
+    (real (realRun (site Second 3 4 3 3 2) (settings 2 1 Released) choices (r 2 ∷ c 1 ∷ c 2 ∷ r 1 ∷ c 3 ∷ r 1 ∷ r 2 ∷ [])))
+    (no ∷ (page 0 1 0 1 1 0 ++ page 1 1 0 1 1 0))
     ∷ row "rehearsal, real: pages with a backup"
-    (backedUp (rehearsalOf short (settings 1 2 LetGo) .pages) 64
-    ∷ backedUp (rehearsalOf short (settings 1 1 LetGo) .pages) 64 ∷ [])
+    (backedUp (rehearsalOf short (settings 1 2 Released) .pages) 64
+    ∷ backedUp (rehearsalOf short (settings 1 1 Released) .pages) 64 ∷ [])
     (1 ∷ 2 ∷ []) ∷ []

@@ -2,7 +2,7 @@
 use mathlib.Core.List.{[], _∷_, _++_}
 use lib.ListN.{replicate}
 use Rattle.model.specs.Geometry.{pageAt, slotAt}
-use Rattle.model.specs.Calls.{begin, load, force, write, backup, release, note}
+use Rattle.cases.specs.Calls.{begin, load, force, write, backup, release, note}
 use Rattle.model.specs.AbstractLog.{old}
 use Rattle.model.specs.Detection.{withWord}
 use Rattle.model.specs.History.{restart, crash, crashIn, damage}
@@ -10,9 +10,11 @@ use Rattle.model.specs.declared.geometry.Heading.{Heading}
 use Rattle.model.specs.declared.geometry.Heading.the-variants.{Second}
 use Rattle.model.specs.declared.change.Change.the-variants.{Format}
 use Rattle.model.specs.declared.answer.Class.the-variants.{Good, Behind, Failed}
-use Rattle.cases.specs.Build.{fromOwn, fromBackup, fromFormat, refused, done, imageUnder, broken, memory}
+use Rattle.cases.specs.Words.{fromOwn, fromBackup, fromFormat, refused, done, shown}
+use Rattle.cases.specs.Build.{imageUnder, broken, memory}
+use Rattle.cases.specs.Prologues.{pageWritten, pageBegun}
 use Rattle.cases.specs.Worked.{Worked, told, quiet}
-use Rattle.cases.specs.Slides.{logged, slide, slid, does, sevensUnder}
+use Rattle.cases.specs.Slides.{allDone, logged, slide, slid, does, sevensUnder}
 
 -- Two stores with one durable change and the same bytes on the page: the one answers it healthy, the other mended after
 -- damage. So `Same` can tell them apart, and demand 3, which compares body and number only, must not ask for it.
@@ -26,15 +28,11 @@ healthy h =
       records = 2;
       notes = 1;
       events =
-          told (restart (memory 1)) done
-          ∷ does (begin 1 1 7) done
-          ∷ does force done
-          ∷ does (write 1) done
-          ∷ does note done
-          ∷ quiet crash
-          ∷ [];
+          allDone (pageWritten 1)
+          ++ (quiet crash
+          ∷ []);
       durable = logged 1 (Format 7) [] ∷ [];
-      shows = (fromOwn Good 0 ++ (1 ∷ 7 ∷ 7 ∷ 7 ∷ 7 ∷ 7 ∷ 7 ∷ [])) ∷ [];
+      shows = shown (fromOwn Good 0) 1 (7 ∷ 7 ∷ 7 ∷ 7 ∷ 7 ∷ 7 ∷ []) ∷ [];
     }
 
 abbrev pub mended : Heading → Worked
@@ -47,21 +45,17 @@ mended h =
       records = 2;
       notes = 1;
       events =
-          told (restart (memory 1)) done
-          ∷ does (begin 1 1 7) done
-          ∷ does force done
-          ∷ does (write 1) done
-          ∷ does note done
-          ∷ quiet (damage (pageAt 1) (broken (sevensUnder h)))
-          ∷ [];
+          allDone (pageWritten 1)
+          ++ (quiet (damage (pageAt 1) (broken (sevensUnder h)))
+          ∷ []);
       durable = logged 1 (Format 7) [] ∷ [];
-      shows = (fromFormat Failed 1 ++ (1 ∷ 7 ∷ 7 ∷ 7 ∷ 7 ∷ 7 ∷ 7 ∷ [])) ∷ [];
+      shows = shown (fromFormat Failed 1) 1 (7 ∷ 7 ∷ 7 ∷ 7 ∷ 7 ∷ 7 ∷ []) ∷ [];
     }
 
 -- A page let go before it was ever written, pushed out by a Begin and by a Load, let go again and cut: each time it
 -- opens with its text.
-abbrev pub letGo : Heading → Worked
-letGo h =
+abbrev pub released : Heading → Worked
+released h =
     record {
       name = "page let go";
       heading = h;
@@ -70,9 +64,8 @@ letGo h =
       records = 8;
       notes = 4;
       events =
-          told (restart (memory 1)) done
-          ∷ does (begin 1 1 7) done
-          ∷ does (release 1) (refused 10)
+          allDone (pageBegun 1)
+          ++ (does (release 1) (refused 10)
           ∷ does (release 2) (refused 8)
           ∷ does force done
           ∷ does (release 1) done
@@ -99,11 +92,11 @@ letGo h =
           ∷ does (load 2 1) (fromFormat Failed 1)
           ∷ does (release 2) done
           ∷ does (release 4) (refused 3)
-          ∷ [];
+          ∷ []);
       durable = logged 1 (Format 7) [] ∷ slid 1 (0x41 ∷ []) ∷ logged 2 (Format 9) [] ∷ slid 1 (0x42 ∷ []) ∷ [];
       shows =
-          (fromOwn Behind 1 ++ (4 ∷ 0x42 ∷ 0x41 ∷ 7 ∷ 7 ∷ 7 ∷ 7 ∷ []))
-          ∷ (fromFormat Failed 1 ++ (3 ∷ 9 ∷ 9 ∷ 9 ∷ 9 ∷ 9 ∷ 9 ∷ [])) ∷ refused 7 ∷ [];
+          shown (fromOwn Behind 1) 4 (0x42 ∷ 0x41 ∷ 7 ∷ 7 ∷ 7 ∷ 7 ∷ [])
+          ∷ shown (fromFormat Failed 1) 3 (9 ∷ 9 ∷ 9 ∷ 9 ∷ 9 ∷ 9 ∷ []) ∷ refused 7 ∷ [];
     }
 
 -- Flash that was erased word by word: a word of a page's own image, then of its backup, reads FFFF where 0000 was
@@ -135,5 +128,5 @@ wordsErased =
           ∷ does (load 1 1) (fromFormat Failed 1)
           ∷ [];
       durable = logged 1 (Format 0) [] ∷ [];
-      shows = (fromFormat Failed 1 ++ (1 ∷ 0 ∷ 0 ∷ 0 ∷ 0 ∷ 0 ∷ 0 ∷ [])) ∷ [];
+      shows = shown (fromFormat Failed 1) 1 (0 ∷ 0 ∷ 0 ∷ 0 ∷ 0 ∷ 0 ∷ []) ∷ [];
     }

@@ -2,12 +2,14 @@
 -- newest, the largest number, no note slots, two refusals at once, an entry with a backup's number and no slot, a record
 -- that names one below the run though its page has one in it. And of the proviso, which start stands.
 use Prim.Native.Nat.{ℕ}
-use mathlib.Core.Bool.{Bool, true, false}
-use mathlib.Core.List.{List, [], _∷_, _++_, map}
+use mathlib.Core.Bool.{true, false}
+use mathlib.Core.List.{List, [], _∷_, _++_}
 use lib.ListN.{replicate}
 use Rattle.model.specs.Geometry.{pageAt, slotAt, recordAt, noteAt, emptyVolume, geometryOf}
 use Rattle.model.specs.Item.{encodeChange}
-use Rattle.model.specs.Calls.{StoredItem, oneItem, begin, write, backup, restartOf}
+use Rattle.model.specs.Outcome.{oneItem}
+use Rattle.model.specs.Restart.{restartOf}
+use Rattle.cases.specs.Calls.{begin, write, backup}
 use Rattle.model.specs.History.{Power, on}
 use Rattle.model.specs.Claim.{startStands}
 use Rattle.model.specs.declared.geometry.Heading.the-variants.{Second}
@@ -17,7 +19,8 @@ use Rattle.model.specs.declared.state.PendingNote.{PendingNote}
 use Rattle.model.specs.declared.state.PendingNote.the-variants.{Absent}
 use Rattle.cases.specs.Rows.{Row, row}
 use Rattle.cases.specs.Opened.{opened}
-use Rattle.cases.specs.Build.{bit, numbers, refused, done, image, broken, writtenNote, backupNote, storedIn, memory}
+use Rattle.cases.specs.Words.{bit, numbers, refused, done, yes, no, accepted, refusal}
+use Rattle.cases.specs.Build.{image, broken, writtenNote, backupNote, storedIn, memory}
 use Rattle.cases.specs.States.{entry, none, frame, pendingNote, stateWith}
 use Rattle.cases.specs.Refused.{numbersIn}
 use Rattle.cases.specs.Rings.{recordNo, logWith, put}
@@ -57,7 +60,8 @@ ringOf n = emptyVolume Second 2 2 2 n
 
 -- page 1's written note and its backup note fill two note slots, and neither is spare
 abbrev notesNeeded : List ℕ
-notesNeeded = storedIn (ringOf 2) (oneItem (noteAt 1) (writtenNote 1 1 1) ∷ oneItem (noteAt 2) (backupNote 2 1 1 1) ∷ [])
+notesNeeded =
+    storedIn (ringOf 2) (oneItem (noteAt 1) (writtenNote 1 1 1) ∷ oneItem (noteAt 2) (backupNote 2 1 1 1) ∷ [])
 
 -- records 1 and 2 of page 1 stand in both slots
 abbrev recordsStand : List ℕ
@@ -89,25 +93,25 @@ ringEdges =
     (appends (ringOf 2) (onlyPage 4294967294 0 0 Absent (entry 1 1 0 0 0))
     ++ (appends (ringOf 2) (onlyPage 4294967295 0 0 Absent (entry 1 1 0 0 0))
     ++ appends (ringOf 2) (onlyPage 4294967294 1 0 Absent (entry 1 1 0 0 0))))
-    (0 ∷ 0 ∷ 12 ∷ 12 ∷ 12 ∷ 12 ∷ [])
+    (accepted ∷ accepted ∷ refusal 12 ∷ refusal 12 ∷ refusal 12 ∷ refusal 12 ∷ [])
     ∷ row "ring: 14 at the largest number"
     (stores (ringOf 2) (onlyPage 1 0 4294967294 Absent (entry 1 1 0 0 0))
     ++ stores (ringOf 2) (onlyPage 1 0 4294967295 Absent (entry 1 1 0 0 0)))
-    (0 ∷ 0 ∷ 14 ∷ 14 ∷ [])
+    (accepted ∷ accepted ∷ refusal 14 ∷ refusal 14 ∷ [])
     ∷ row "ring: 14 at N 0"
     (stores (ringOf 1) (onlyPage 1 0 0 Absent (entry 1 1 0 0 0))
     ++ stores (ringOf 0) (onlyPage 1 0 0 Absent (entry 1 1 0 0 0)))
-    (0 ∷ 0 ∷ 14 ∷ 14 ∷ [])
+    (accepted ∷ accepted ∷ refusal 14 ∷ refusal 14 ∷ [])
     ∷ row "ring: 13 before 14, and 14"
     (stores notesNeeded (onlyPage 1 0 2 (pendingNote 3 1 1 0 1) (entry 1 1 1 1 1))
     ++ stores notesNeeded (onlyPage 1 0 2 Absent (entry 1 1 1 1 1)))
-    (13 ∷ 13 ∷ 14 ∷ 14 ∷ [])
+    (refusal 13 ∷ refusal 13 ∷ refusal 14 ∷ refusal 14 ∷ [])
     ∷ row "ring: a backup's number without a slot is no noted backup: 12"
     (appends recordsStand (onlyPage 2 0 0 Absent (entry 2 2 0 0 2))
     ++ appends recordsStand (onlyPage 2 0 0 Absent (entry 2 2 0 1 2)))
-    (12 ∷ 12 ∷ 0 ∷ 0 ∷ [])
+    (refusal 12 ∷ refusal 12 ∷ accepted ∷ accepted ∷ [])
     ∷ row "ring: a start stands by the backup at its noted number, or by an own image there or above"
     (stands (at 2) (broken (at 3)) ∷ stands (at 1) (broken (at 3)) ∷ stands (broken (at 2)) (at 1)
     ∷ stands (broken (at 2)) (at 2) ∷ stands (broken (at 2)) (at 3) ∷ [])
-    (1 ∷ 0 ∷ 0 ∷ 1 ∷ 1 ∷ [])
+    (yes ∷ no ∷ no ∷ yes ∷ yes ∷ [])
     ∷ []

@@ -10,14 +10,20 @@ use Rattle.model.specs.Item.{validImage, encodeChange, noteBytes}
 use Rattle.model.specs.Index.{entryOf, slotUsed}
 use Rattle.model.specs.Scan.{validLog, validNotes, indexOf}
 use Rattle.model.specs.Repair.{classOf, viewOf, walkFrom, walkOf, startOf, isBroken}
-use Rattle.model.specs.Calls.{StoredItem, oneItem, restartOf, inspectOf}
+use Rattle.model.specs.Outcome.{StoredItem, oneItem}
+use Rattle.model.specs.Restart.{restartOf, inspectOf}
 use Rattle.model.specs.declared.geometry.Heading.the-variants.{First, Second}
 use Rattle.model.specs.declared.change.Change.the-variants.{Format, Put}
-use Rattle.model.specs.declared.answer.Class.the-variants.{Good, Behind, Failed}
+use Rattle.model.specs.declared.answer.Class.the-variants.{Good, Behind, Stale, Failed, Ahead}
+use Rattle.model.specs.declared.answer.Start.{Start}
 use Rattle.cases.specs.Rows.{Row, row}
-use Rattle.model.specs.Health.{classNumber, startNumber}
-use Rattle.cases.specs.Build.{bit, bits, numbers, fromOwn, fromBackup, fromFormat, refused, small, image, broken, writtenNote, backupNote, storedIn, volumeUnder, smallVolume, inspected, memory, entryNumbers}
+use Rattle.reports.specs.Examine.{classNumber, startNumber}
+use Rattle.cases.specs.Words.{bit, bits, numbers, fromOwn, fromBackup, fromFormat, refused, yes, no, atLsn}
+use Rattle.cases.specs.Words.{classNo, startNo, entered}
+use Rattle.cases.specs.Build.{small, image, broken, writtenNote, backupNote, storedIn, volumeUnder, smallVolume}
+use Rattle.cases.specs.Build.{inspected, memory, entryNumbers}
 use Rattle.cases.specs.Table.{record1, record2, record3, wholeUnder, whole, body1, body3, own, ownFails, at3}
+use Rattle.cases.specs.Table.{asLent}
 
 -- ---- the log
 
@@ -36,37 +42,38 @@ logRows =
     let third = thirdOf two in
     row "log: a record that obeys"
     (third (put 3 1 1) ∷ third (encodeChange 3 1 1 (Format 4) []) ∷ third (put 3 2 2) ∷ [])
-    (1 ∷ 1 ∷ 1 ∷ [])
+    (yes ∷ yes ∷ yes ∷ [])
     ∷ row "log: another number"
     -- in a ring a higher number is the highest, so the last two alone show the number's own clause
     (third (put 4 1 1) ∷ third (put 2 1 1)
     ∷ map (λ v. bit (validLog (geometryOf v) v))
     (smallVolume (oneItem (recordAt 1) record1 ∷ oneItem (recordAt 2) (encodeChange 1 0 2 (Format 9) [])
     ∷ oneItem (recordAt 3) record3 ∷ [])
-    ∷ volumeUnder First (oneItem (recordAt 1) record1 ∷ oneItem (recordAt 2) (encodeChange 3 0 2 (Format 9) []) ∷ []) ∷ []))
-    (0 ∷ 0 ∷ 0 ∷ 0 ∷ [])
+    ∷ volumeUnder First (oneItem (recordAt 1) record1 ∷ oneItem (recordAt 2) (encodeChange 3 0 2 (Format 9) [])
+    ∷ []) ∷ []))
+    (no ∷ no ∷ no ∷ no ∷ [])
     ∷ row "log: a page out of range"
     (third (encodeChange 3 0 3 (Format 4) []) ∷ third (encodeChange 3 0 0 (Format 4) []) ∷ [])
-    (0 ∷ 0 ∷ [])
+    (no ∷ no ∷ [])
     ∷ row "log: another earlier record"
     (third (put 3 2 1) ∷ third (put 3 0 1) ∷ third (encodeChange 3 0 1 (Format 4) []) ∷ third (put 3 1 2) ∷ [])
-    (0 ∷ 0 ∷ 0 ∷ 0 ∷ [])
+    (no ∷ no ∷ no ∷ no ∷ [])
     ∷ row "log: another layout"
     (third (seal 60 (set record3 15 1)) ∷ third (seal 60 (set record3 59 1))
     ∷ third (seal 60 (set record3 10 4)) ∷ [])
-    (0 ∷ 0 ∷ 0 ∷ [])
+    (no ∷ no ∷ no ∷ [])
     ∷ row "log: a page's first is a format"
     (let v = smallVolume (oneItem (recordAt 1) (put 1 0 1) ∷ []) in bit (validLog (geometryOf v) v) ∷ [])
-    (0 ∷ [])
+    (no ∷ [])
     ∷ row "log: its end"
     (third (broken record3) ∷ third (replicate 64 0)
     ∷ map (λ v. bit (validLog (geometryOf v) v))
     (smallVolume (oneItem (recordAt 2) (1 ∷ replicate 63 0) ∷ [])
     ∷ whole (oneItem (recordAt 4) (replicate 63 0 ++ (1 ∷ [])) ∷ []) ∷ []))
-    (1 ∷ 1 ∷ 0 ∷ 1 ∷ [])
+    (yes ∷ yes ∷ no ∷ yes ∷ [])
     ∷ row "log: full"
     (let v = whole (oneItem (recordAt 4) (put 4 3 1) ∷ []) in inspected v 1)
-    (fromFormat Failed 3 ++ (4 ∷ 0 ∷ 0 ∷ 0 ∷ 5 ∷ 0x41 ∷ 0x42 ∷ 7 ∷ 7 ∷ 7 ∷ []))
+    (fromFormat Failed 3 ++ atLsn 4 (5 ∷ 0x41 ∷ 0x42 ∷ 7 ∷ 7 ∷ 7 ∷ []))
     ∷ []
 
 -- ---- the notes
@@ -98,34 +105,35 @@ noteRows =
     row "notes: one that obeys"
     (map notesKeep ((writtenNote 1 1 3 ∷ []) ∷ (writtenNote 1 2 2 ∷ []) ∷ (backupNote 1 1 1 1 ∷ [])
     ∷ (writtenNote 1 1 3 ∷ writtenNote 2 1 3 ∷ []) ∷ []))
-    (1 ∷ 1 ∷ 1 ∷ 1 ∷ [])
+    (yes ∷ yes ∷ yes ∷ yes ∷ [])
     ∷ row "notes: layout, number, page"
     -- the number's own clause: in a ring below the highest, and where there is no ring
     (map notesKeep ((noteWith 1 1 3 0 3 ∷ []) ∷ (noteWith 1 1 1 1 3 ∷ []) ∷ (writtenNote 2 1 3 ∷ [])
     ∷ (writtenNote 1 3 3 ∷ []) ∷ (writtenNote 1 0 3 ∷ []) ∷ (writtenNote 2 1 1 ∷ writtenNote 2 1 3 ∷ []) ∷ [])
-    ++ (notesKeepIn (wholeUnder First []) (writtenNote 1 1 3 ∷ []) ∷ notesKeepIn (wholeUnder First []) (writtenNote 2 1 3 ∷ []) ∷ []))
-    (0 ∷ 0 ∷ 0 ∷ 0 ∷ 0 ∷ 0 ∷ 1 ∷ 0 ∷ [])
+    ++ (notesKeepIn (wholeUnder First []) (writtenNote 1 1 3 ∷ [])
+    ∷ notesKeepIn (wholeUnder First []) (writtenNote 2 1 3 ∷ []) ∷ []))
+    (no ∷ no ∷ no ∷ no ∷ no ∷ no ∷ yes ∷ no ∷ [])
     ∷ row "notes: a durable record of the page"
     (map notesKeep ((writtenNote 1 1 0 ∷ []) ∷ (writtenNote 1 1 4 ∷ []) ∷ (writtenNote 1 1 2 ∷ [])
     ∷ (backupNote 1 2 1 3 ∷ []) ∷ []))
-    (0 ∷ 0 ∷ 0 ∷ 0 ∷ [])
+    (no ∷ no ∷ no ∷ no ∷ [])
     ∷ row "notes: not below the last of the kind"
     (map notesKeep
     ((writtenNote 1 1 3 ∷ writtenNote 2 1 1 ∷ []) ∷ (backupNote 1 1 1 3 ∷ writtenNote 2 1 1 ∷ [])
     ∷ (writtenNote 1 1 3 ∷ backupNote 2 1 1 1 ∷ []) ∷ []))
-    (0 ∷ 1 ∷ 1 ∷ [])
+    (no ∷ yes ∷ yes ∷ [])
     ∷ row "notes: a backup's slot"
     (map notesKeep ((backupNote 1 1 0 1 ∷ []) ∷ (backupNote 1 1 2 1 ∷ [])
     ∷ (backupNote 1 1 1 1 ∷ backupNote 2 2 1 2 ∷ []) ∷ (backupNote 1 1 1 1 ∷ backupNote 2 1 1 3 ∷ [])
     ∷ (backupNote 1 2 1 2 ∷ backupNote 2 1 1 1 ∷ []) ∷ []))
-    (0 ∷ 0 ∷ 0 ∷ 0 ∷ 0 ∷ [])
+    (no ∷ no ∷ no ∷ no ∷ no ∷ [])
     ∷ row "notes: a backup not below the last"
     (map (λ n. let v = twoSlots (backupNote 1 1 1 3) n in
     bit (validNotes (geometryOf v) v)) (backupNote 2 1 2 1 ∷ backupNote 2 1 2 3 ∷ []))
-    (0 ∷ 1 ∷ [])
+    (no ∷ yes ∷ [])
     ∷ row "notes: their end"
     (map notesKeep ((broken (writtenNote 1 1 3) ∷ []) ∷ (broken (writtenNote 1 1 3) ∷ (1 ∷ replicate 15 0) ∷ []) ∷ []))
-    (1 ∷ 0 ∷ [])
+    (yes ∷ no ∷ [])
     ∷ row "restart: refused 17, 18, and 1, 2 before them"
     (let badLog = oneItem (recordAt 3) (put 4 1 1) in
     let badNotes = oneItem (noteAt 1) (writtenNote 2 1 3) in
@@ -134,14 +142,14 @@ noteRows =
     ++ (numbers (restartOf (holding (badLog ∷ [])) (memory 17) .answer)
     ++ (numbers (restartOf (set (holding (badLog ∷ [])) 0 0) (memory 0) .answer)
     ++ inspected (holding (badNotes ∷ [])) 1))))
-    (refused 17 ++ (refused 18 ++ (refused 2 ++ (refused 1 ++ (refused 18 ++ replicate 10 0xAA)))))
+    (refused 17 ++ (refused 18 ++ (refused 2 ++ (refused 1 ++ (refused 18 ++ asLent)))))
     ∷ row "index: what log and notes give"
     (let v = holding (noted (writtenNote 1 1 3 ∷ backupNote 2 1 1 1 ∷ [])) in
     let index = indexOf (geometryOf v) v in
     length index ∷ (entryNumbers (entryOf index 1)
     ++ (entryNumbers (entryOf index 2)
     ++ (entryNumbers (entryOf index 3) ++ bits (slotUsed 1 index ∷ slotUsed 2 index ∷ [])))))
-    (64 ∷ 3 ∷ 3 ∷ 3 ∷ 1 ∷ 1 ∷ 2 ∷ 2 ∷ 0 ∷ 0 ∷ 0 ∷ 0 ∷ 0 ∷ 0 ∷ 0 ∷ 0 ∷ 1 ∷ 0 ∷ [])
+    (64 ∷ (entered 3 3 3 1 1 ++ (entered 2 2 0 0 0 ++ (entered 0 0 0 0 0 ++ (yes ∷ no ∷ [])))))
     ∷ []
 
 -- ---- classes and the walk
@@ -165,10 +173,10 @@ walkRows =
     let holding = storedIn (whole []) in
     row "class: Good with no durable record, and then no start is Own"
     (classNumber (classOf true 0 0 0) ∷ startNumber (startOf (walkFrom 0 (λ n. []) 1 1 0 0 0 .stop)) ∷ [])
-    (1 ∷ 3 ∷ [])
+    (classNo Good ∷ startNo Start.Format ∷ [])
     ∷ row "class: at 2, 3, 4, 5, 6, and failing"
     (classAt 2 ∷ classAt 3 ∷ classAt 4 ∷ classAt 5 ∷ classAt 6 ∷ classNumber (classOf false 5 5 3) ∷ [])
-    (3 ∷ 2 ∷ 2 ∷ 1 ∷ 5 ∷ 4 ∷ [])
+    (map classNo (Stale ∷ Behind ∷ Behind ∷ Good ∷ Ahead ∷ Failed ∷ []))
     ∷ row "walk: an image at 0 or off the chain starts nothing"
     (take 4 (inspected (holding (own 0 body1 ∷ [])) 1) ++ take 4 (inspected (holding (own 2 body1 ∷ [])) 1))
     (fromFormat Behind 2 ++ fromFormat Behind 2)
@@ -193,14 +201,14 @@ walkRows =
     (fromFormat Failed 2)
     ∷ row "inspect: the check is set"
     (bits (validImage small 1 (inspectOf (holding (ownFails ∷ [])) 1 (replicate 256 0) .buffer) ∷ []))
-    (1 ∷ [])
+    (yes ∷ [])
     ∷ row "walk: records that break it"
     (map breaks (record3 ∷ broken record3 ∷ put 4 1 1 ∷ put 3 1 2 ∷ seal 60 (set record3 15 1) ∷ put 3 3 1 ∷ put 3 4 1
     ∷ put 3 0 1 ∷ encodeChange 3 3 1 (Format 1) [] ∷ []))
-    (0 ∷ 1 ∷ 1 ∷ 1 ∷ 1 ∷ 1 ∷ 1 ∷ 1 ∷ 1 ∷ [])
+    (no ∷ yes ∷ yes ∷ yes ∷ yes ∷ yes ∷ yes ∷ yes ∷ yes ∷ [])
     ∷ row "walk: a format stops it, whatever it names"
     (map breaks (encodeChange 3 2 1 (Format 1) [] ∷ encodeChange 3 0 1 (Format 1) [] ∷ []))
-    (0 ∷ 0 ∷ [])
+    (no ∷ no ∷ [])
     ∷ []
 
 unfoldable pub ruleRows : List Row

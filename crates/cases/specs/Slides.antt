@@ -1,15 +1,17 @@
 -- What worked histories and other rows share: bytes slid in at the front of a page, as a call, as what is kept of it
 -- and as the image that it leaves.
 use Prim.Native.Nat.{ℕ, _-_}
-use mathlib.Core.List.{List, _++_}
+use mathlib.Core.List.{List, _++_, map}
 use lib.ListN.{length, replicate, take}
-use Rattle.model.specs.Calls.{Call, change}
+use Rattle.model.specs.Calls.{Call}
+use Rattle.cases.specs.Calls.{change}
 use Rattle.model.specs.AbstractLog.{Logged}
-use Rattle.model.specs.History.{perform}
+use Rattle.model.specs.History.{Event, perform}
 use Rattle.model.specs.declared.geometry.Heading.{Heading}
 use Rattle.model.specs.declared.geometry.Heading.the-variants.{Second}
 use Rattle.model.specs.declared.change.Change.{Change}
 use Rattle.model.specs.declared.change.Change.the-variants.{Slide}
+use Rattle.cases.specs.Words.{done}
 use Rattle.cases.specs.Build.{imageUnder}
 use Rattle.cases.specs.Worked.{Told, told}
 
@@ -29,6 +31,10 @@ slid p xs = logged p (Slide 0 (length xs)) xs
 
 abbrev pub does : Call → List ℕ → Told
 does c a = told (perform c) a
+
+-- events that all answer Done
+abbrev pub allDone : List Event → List Told
+allDone es = map (λ e. told e done) es
 
 -- page 1 formatted with 7: its image at 1, and at n after these bytes were slid in
 abbrev pub sevensUnder : Heading → List ℕ

@@ -7,14 +7,19 @@ use Rattle.model.specs.Checksum.{checksum}
 use Rattle.model.specs.Geometry.{pageAt, slotAt, recordAt, noteAt, emptyVolume, validVolume}
 use Rattle.model.specs.Change.{zeroBody, fits, applyChange}
 use Rattle.model.specs.Item.{encodeChange, validImage}
-use Rattle.model.specs.Calls.{StoredItem, oneItem, makeOf, begin, change}
-use Rattle.model.specs.History.{Machine, restart, perform}
+use Rattle.model.specs.Outcome.{StoredItem, oneItem}
+use Rattle.model.specs.Restart.{makeOf}
+use Rattle.cases.specs.Calls.{change}
+use Rattle.model.specs.History.{Machine}
 use Rattle.model.specs.declared.geometry.Heading.{Heading}
 use Rattle.model.specs.declared.geometry.Heading.the-variants.{Second}
 use Rattle.model.specs.declared.change.Change.the-variants.{Format, Put, Slide}
 use Rattle.model.specs.declared.answer.Class.the-variants.{Good, Behind, Stale, Failed, Ahead}
 use Rattle.cases.specs.Rows.{Row, row}
-use Rattle.cases.specs.Build.{bit, numbers, fromOwn, fromBackup, fromFormat, refused, done, smallUnder, imageUnder, broken, writtenNote, backupNote, volumeUnder, buffer, inspected, memory, reachUnder, asked}
+use Rattle.cases.specs.Words.{bit, numbers, fromOwn, fromBackup, fromFormat, refused, done, yes, no}
+use Rattle.cases.specs.Build.{smallUnder, imageUnder, broken, writtenNote, backupNote, volumeUnder, buffer}
+use Rattle.cases.specs.Build.{inspected, reachUnder, asked}
+use Rattle.cases.specs.Prologues.{pageBegun}
 
 -- ---- what K6 to K12 share
 
@@ -71,7 +76,7 @@ asLent = take 10 buffer
 
 -- page 1 in a frame
 abbrev pub begunUnder : Heading → Machine
-begunUnder h = reachUnder h 2 1 4 4 (restart (memory 1) ∷ perform (begin 1 1 7) ∷ [])
+begunUnder h = reachUnder h 2 1 4 4 (pageBegun 1)
 
 unfoldable pub kRows : Heading → List Row
 kRows h =
@@ -84,18 +89,18 @@ kRows h =
     let image = imageUnder h in
     row "K1" (checksum (1 ∷ 0 ∷ 2 ∷ 0 ∷ []) ∷ []) (393220 ∷ [])
     ∷ row "K2" (checksum (replicate 252 0) ∷ bit (validImage (smallUnder h) 0 (replicate 256 0)) ∷ [])
-    (8257537 ∷ 0 ∷ [])
+    (8257537 ∷ no ∷ [])
     ∷ row "K3"
     (take 3 (applyChange (Slide 0 1) (0x41 ∷ []) (applyChange (Slide 0 1) (0x41 ∷ []) zeroBody)))
     (0x41 ∷ 0x41 ∷ 0 ∷ [])
-    ∷ row "K4 rule" (bit (fits (Put 200 44)) ∷ bit (fits (Put 201 44)) ∷ []) (1 ∷ 0 ∷ [])
+    ∷ row "K4 rule" (bit (fits (Put 200 44)) ∷ bit (fits (Put 201 44)) ∷ []) (yes ∷ no ∷ [])
     ∷ row "K4 taken" (asked begun (change 1 (Put 200 44) (replicate 44 1))) done
     ∷ row "K4 refused" (asked begun (change 1 (Put 201 44) (replicate 44 1))) (refused 6)
     ∷ row "K5 taken" (numbers (makeOf h (replicate 1108 0) 2 1 4 4 .answer)) done
     ∷ row "K5 refused" (numbers (makeOf h (replicate 1107 0) 2 1 4 4 .answer)) (refused 1)
     ∷ row "K5 length"
     (length v ∷ bit (validVolume v) ∷ bit (validVolume (take 1107 v)) ∷ [])
-    (1108 ∷ 1 ∷ 0 ∷ [])
+    (1108 ∷ yes ∷ no ∷ [])
     ∷ row "K6" (inspected (whole (own 1 body1 ∷ [])) 1) (fromOwn Behind 1 ++ at3)
     ∷ row "K7"
     (inspected (whole (own 1 body1 ∷ oneItem (noteAt 1) (writtenNote 1 1 3) ∷ [])) 1)

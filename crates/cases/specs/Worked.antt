@@ -11,15 +11,19 @@ use Rattle.model.specs.Bytes.{bytesOf, part}
 use Rattle.model.specs.Geometry.{lengthFor}
 use Rattle.model.specs.Change.{kindOf, lengthOf, offsetOf, fillOf}
 use Rattle.model.specs.Item.{imageLsn, imageBody}
-use Rattle.model.specs.Calls.{StoredItem, Call, makeOf, inspectOf, restartOf, outcomeOf, volumeAfter, refusalOf}
+use Rattle.model.specs.Outcome.{StoredItem, volumeAfter, refusalOf}
+use Rattle.model.specs.Calls.{Call, outcomeOf}
+use Rattle.model.specs.Restart.{makeOf, inspectOf, restartOf}
 use Rattle.model.specs.AbstractLog.{Logged, AbstractLog, emptyLog, lastPlace, replay, forget, stepCall}
-use Rattle.model.specs.History.{Power, off, on, Machine, Event, restart, perform, crash, crashIn, damage, pastAfter, lent, step, allowed, stepLog}
+use Rattle.model.specs.History.{Power, off, on, Machine, Event, restart, perform, crash, crashIn, damage, pastAfter}
+use Rattle.model.specs.History.{lent, step, allowed, stepLog}
 use Rattle.model.specs.Claim.{History, Legal, fresh, reached, durableOf}
 use Rattle.model.specs.declared.geometry.Heading.{Heading}
 use Rattle.model.specs.declared.answer.Answer.{Answer}
 use Rattle.model.specs.declared.answer.Answer.the-variants.{Refused, Nothing, Done, Repaired}
 use Rattle.cases.specs.Rows.{same}
-use Rattle.cases.specs.Build.{numbers, buffer, asked}
+use Rattle.cases.specs.Words.{numbers}
+use Rattle.cases.specs.Build.{buffer, asked}
 
 -- an event and what it answers; a crash and damage answer nothing
 pub record Told : Type 0 where

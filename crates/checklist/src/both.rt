@@ -1,10 +1,11 @@
 // Check 3: a page and its backup spoiled together. The text comes from the log alone.
-use play::disk;
-use play::disk::Image;
-use play::disk::Memory;
-use play::disk::Volume;
-use play::steps;
-use play::text;
+use checklist_steps::disk;
+use checklist_steps::disk::Image;
+use checklist_steps::disk::Memory;
+use checklist_steps::disk::Volume;
+use checklist_steps::steps;
+use checklist_steps::text;
+use checklist_steps::verdict;
 use print::say;
 
 // A line, written and backed up; then a line that stands in the log alone.
@@ -20,7 +21,7 @@ fn page(v: &mut Volume, before: &Image, after: &mut Image) -> bool {
     disk::spoil(v, disk::PAGE + 20, disk::PAGE + 36);
     text::held(&disk::image(v, disk::PAGE));
     let why = b"  The store starts from the backup.\n";
-    steps::after(v, why, before, after)
+    verdict::after(v, why, before, after)
 }
 
 fn slot(v: &mut Volume, before: &Image, after: &mut Image) -> bool {
@@ -28,12 +29,12 @@ fn slot(v: &mut Volume, before: &Image, after: &mut Image) -> bool {
     disk::spoil(v, disk::SLOT + 8, disk::SLOT + 24);
     text::held(&disk::image(v, disk::SLOT));
     let why = b"  The store takes nothing from either image, and replays the log alone.\n";
-    steps::after(v, why, before, after)
+    verdict::after(v, why, before, after)
 }
 
 fn play(v: &mut Volume, m: &mut Memory, before: &mut Image, after: &mut Image) -> bool {
     done(v, m);
-    steps::before(v, before);
+    verdict::before(v, before);
     let a = page(v, before, after);
     let b = slot(v, before, after);
     a & b

@@ -1,11 +1,12 @@
 // Check 1: a torn page, and a confirmed write that the disk lost. The torn page is found by its checksum, the lost
 // write by its number against the page recovery index.
-use play::disk;
-use play::disk::Image;
-use play::disk::Memory;
-use play::disk::Volume;
-use play::steps;
-use play::text;
+use checklist_steps::disk;
+use checklist_steps::disk::Image;
+use checklist_steps::disk::Memory;
+use checklist_steps::disk::Volume;
+use checklist_steps::steps;
+use checklist_steps::text;
+use checklist_steps::verdict;
 use print::say;
 use store::Store;
 
@@ -39,7 +40,7 @@ fn torn(v: &mut Volume, old: &Volume, before: &Image, after: &mut Image) -> bool
     text::held(&disk::image(v, disk::PAGE));
     let why =
         b"  The store takes nothing from an image with a wrong checksum, and replays the log.\n";
-    steps::after(v, why, before, after)
+    verdict::after(v, why, before, after)
 }
 
 fn lost(v: &mut Volume, old: &Volume, before: &Image, after: &mut Image) -> bool {
@@ -50,7 +51,7 @@ fn lost(v: &mut Volume, old: &Volume, before: &Image, after: &mut Image) -> bool
     text::held(&disk::image(v, disk::PAGE));
     let why =
         b"  The number is below the last written one in the page recovery index: the store replays what is missing.\n";
-    steps::after(v, why, before, after)
+    verdict::after(v, why, before, after)
 }
 
 // Loading the page and writing it again puts the disk right.
@@ -59,7 +60,7 @@ fn healed(v: &mut Volume, m: &mut Memory, before: &Image, after: &mut Image) -> 
     let a = steps::restart(v, m);
     let b = steps::load(a, v, m, 1);
     steps::write(b, v, m, 1);
-    steps::after(v, b"", before, after)
+    verdict::after(v, b"", before, after)
 }
 
 fn play(
@@ -70,7 +71,7 @@ fn play(
     after: &mut Image,
 ) -> bool {
     second(v, m, old);
-    steps::before(v, before);
+    verdict::before(v, before);
     let a = torn(v, old, before, after);
     let b = lost(v, old, before, after);
     let c = healed(v, m, before, after);

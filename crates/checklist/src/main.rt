@@ -7,8 +7,8 @@ mod lost;
 mod plug;
 mod thread;
 
-use play::one;
-use print::number;
+use checklist_steps::one;
+use print::phrase;
 use print::say;
 
 // What an answer means.
@@ -41,7 +41,5 @@ fn main() {
         + one(plug::check())
         + one(both::check())
         + one(thread::check());
-    say(b"\n");
-    number(passed);
-    say(b" of 4 checks passed\n");
+    phrase(b"\n", passed, b" of 4 checks passed\n");
 }

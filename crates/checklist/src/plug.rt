@@ -1,14 +1,15 @@
 // Check 2: the plug pulled while a record is being stored, at every byte of it.
 ghost use Prim.Native.Nat.{_≤_};
+use checklist_steps::disk;
+use checklist_steps::disk::Image;
+use checklist_steps::disk::Memory;
+use checklist_steps::disk::Volume;
+use checklist_steps::one;
+use checklist_steps::steps;
+use checklist_steps::text;
+use checklist_steps::verdict;
 use model::answer::Answer;
-use play::disk;
-use play::disk::Image;
-use play::disk::Memory;
-use play::disk::Volume;
-use play::one;
-use play::steps;
-use play::text;
-use print::number;
+use print::phrase;
 use print::say;
 use store::Store;
 
@@ -82,27 +83,23 @@ fn example(trial: &mut Volume, m: &mut Memory, old: &Volume, new: &Volume, store
     requires { ⌜ stored ≤ 64 ⌝ }
 {
     let mut buffer = [0u8; 256];
-    say(b"  Damage: the plug is pulled in that last Force, with ");
-    number(stored as u32);
-    say(b" of the record's 64 bytes stored.\n   ");
+    phrase(
+        b"  Damage: the plug is pulled in that last Force, with ",
+        stored as u32,
+        b" of the record's 64 bytes stored.\n   ",
+    );
     cut(trial, old, new, stored);
     steps::restart(trial, m);
-    steps::inspect(trial, 1, &mut buffer);
+    verdict::inspect(trial, 1, &mut buffer);
 }
 
 // What all the cuts left.
 fn summary(whole: u32, not: u32, refused: u32, other: u32) -> bool {
-    say(
-        b"  The plug is pulled after each byte, from none of the 64 to all: 65 cuts.\n    The line is kept: ",
-    );
-    number(whole);
-    say(b". It is not kept: ");
-    number(not);
-    say(b". Refused: ");
-    number(refused);
-    say(b". Any other text: ");
-    number(other);
-    say(b".\n");
+    say(b"  The plug is pulled after each byte, from none of the 64 to all: 65 cuts.\n");
+    phrase(b"    The line is kept: ", whole, b". It is not kept: ");
+    phrase(b"", not, b". Refused: ");
+    phrase(b"", refused, b". Any other text: ");
+    phrase(b"", other, b".\n");
     (0 < not) & ((0 < whole) & ((refused == 0) & (other == 0)))
 }
 
@@ -135,7 +132,7 @@ fn cuts(old: &Volume, new: &Volume, m: &mut Memory, trial: &mut Volume) -> bool 
 fn play(v: &mut Volume, m: &mut Memory, old: &mut Volume, trial: &mut Volume) -> bool {
     let mut buffer = [0u8; 256];
     done(v, m, old);
-    steps::before(v, &mut buffer);
+    verdict::before(v, &mut buffer);
     cuts(old, v, m, trial)
 }
 

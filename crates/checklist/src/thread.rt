@@ -1,12 +1,13 @@
 // Check 4: the oldest thread reread in full after its page came back old, beside a reader who looks only at the newest
 // line.
-use play::disk;
-use play::disk::Image;
-use play::disk::Memory;
-use play::disk::Volume;
-use play::steps;
-use play::text;
-use print::number;
+use checklist_steps::disk;
+use checklist_steps::disk::Image;
+use checklist_steps::disk::Memory;
+use checklist_steps::disk::Volume;
+use checklist_steps::steps;
+use checklist_steps::text;
+use checklist_steps::verdict;
+use print::phrase;
 use print::say;
 use store::Store;
 
@@ -56,11 +57,13 @@ fn newest(v: &Volume) {
 
 // A reader of the whole thread.
 fn reread(v: &Volume, after: &Image) {
-    say(b"  A reader who rereads the oldest thread in full counts ");
-    number(text::lines(&disk::image(v, disk::PAGE)));
-    say(b" lines on the disk and ");
-    number(text::lines(after));
-    say(b" in the repaired page.\n");
+    let held = text::lines(&disk::image(v, disk::PAGE));
+    phrase(
+        b"  A reader who rereads the oldest thread in full counts ",
+        held,
+        b" lines on the disk and ",
+    );
+    phrase(b"", text::lines(after), b" in the repaired page.\n");
 }
 
 fn aged(v: &mut Volume, old: &Volume, before: &Image, after: &mut Image) -> bool {
@@ -72,7 +75,7 @@ fn aged(v: &mut Volume, old: &Volume, before: &Image, after: &mut Image) -> bool
     newest(v);
     let why =
         b"  The number is below the last written one in the page recovery index: the store replays what is missing.\n";
-    let whole = steps::after(v, why, before, after);
+    let whole = verdict::after(v, why, before, after);
     reread(v, after);
     whole
 }
@@ -85,7 +88,7 @@ fn play(
     after: &mut Image,
 ) -> bool {
     late(v, m, old);
-    steps::before(v, before);
+    verdict::before(v, before);
     aged(v, old, before, after)
 }
 

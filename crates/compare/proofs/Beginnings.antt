@@ -9,7 +9,7 @@ use lib.ListN.{length}
 use Rattle.laws.proofs.Parts.{part-length}
 use Rattle.model.specs.Bytes.{part, startsWith, sameBytes}
 use Rattle.model.specs.Geometry.{geometryOf, item, logSlot}
-use Rattle.model.specs.Mirror.{sameChange, recordIn, commonFrom}
+use Rattle.reports.specs.Mirror.{sameChange, recordIn, commonFrom}
 use Rattle.model.specs.declared.geometry.Geometry.{Geometry}
 use Rattle.index.specs.Sections.{Sized}
 use Rattle.index.proofs.Whole.{sized}

@@ -13,13 +13,12 @@ use lib.Seq.{ext-getD, getD-set-same, getD-set-other}
 use borrow.Author.Tests.{eq-eqb, ne-eqb}
 use Rattle.laws.proofs.Tables.{byCases, within-bounds, within-holds, true-not-false}
 use Rattle.laws.proofs.Tabulated.{tabulate-length, tabulate-at, replicate-at, table-of}
-use Rattle.model.specs.Tables.{every, within}
+use Rattle.model.specs.Tables.{every, within, tabulate}
 use Rattle.model.specs.Bytes.{field}
 use Rattle.model.specs.Geometry.{item, logSlot}
 use Rattle.model.specs.Item.{recordOf}
 use Rattle.model.specs.Scan.{logRecord}
-use Rattle.model.specs.Reading.{tabulate}
-use Rattle.model.specs.Mirror.{touchedIn}
+use Rattle.reports.specs.Mirror.{touchedIn}
 use Rattle.model.specs.declared.geometry.Geometry.{Geometry}
 use Rattle.compare.specs.Volumes.{marked, markedBehind}
 

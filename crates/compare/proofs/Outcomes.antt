@@ -1,6 +1,6 @@
 -- What the comparison's definition says in each of its cases, and what the code needs to know once neither volume is refused.
 use mathlib.Core.Path.{_≡_, refl, sym, ap, _∙_}
-use mathlib.Core.Bool.{Bool, true, false, _&&_, _||_, not, cond}
+use mathlib.Core.Bool.{Bool, true, false, _&&_, _||_, not, cond, and-false}
 use mathlib.Core.List.{List, [], _∷_}
 use Prim.Native.Nat.{ℕ, suc, _+_, _-_, _≤_, _<_}
 use native.Mathlib.Numerals.{add-one}
@@ -9,19 +9,21 @@ use lib.Dec.{eqb}
 use lib.ListN.{replicate, length-replicate}
 use borrow.Author.Tests.{eq-eqb, ne-eqb, not-false}
 use Rattle.laws.proofs.Tables.{and-left, and-right, none-at}
-use Rattle.laws.proofs.Mirror.{common}
-use Rattle.model.specs.Tables.{firstOf}
-use Rattle.model.specs.Geometry.{geometryOf, validVolume}
+use Rattle.reports_laws.proofs.Mirror.{common}
+use Rattle.model.specs.Tables.{firstOf, smaller}
+use Rattle.model.specs.Geometry.{knownMagic, geometryOf, validVolume}
 use Rattle.model.specs.Scan.{validLog, validNotes, gone}
-use Rattle.model.specs.Mirror.{durableIn, commonFrom, smaller, commonOf, eitherRows, laterRows, mirrorRows, comparison, mirrorOf}
+use Rattle.reports.specs.Mirror.{durableIn, commonFrom, commonOf, eitherRows, laterRows, mirrorRows, comparison}
+use Rattle.reports.specs.Mirror.{mirrorOf}
 use Rattle.model.specs.declared.geometry.Geometry.{Geometry}
-use Rattle.model.specs.declared.reading.Comparison.{Comparison}
-use Rattle.model.specs.declared.reading.Comparison.the-variants.{Refused, FirstLacks, SecondLacks, Differs}
-use Rattle.model.specs.declared.reading.Compared.{Compared}
-use Rattle.index.specs.Scanned.{scanRows, scanRefusal, countsOf}
+use Rattle.reports.specs.declared.reading.Comparison.{Comparison}
+use Rattle.reports.specs.declared.reading.Comparison.the-variants.{Refused, FirstLacks, SecondLacks, Differs}
+use Rattle.reports.specs.declared.reading.Compared.{Compared}
+use Rattle.index.specs.Scanned.{scanRows, scanRefusal, countsOf, goneIn}
 use Rattle.index.specs.declared.Counts.{Counts}
+use Rattle.volume.proofs.Readings.{unknown-read}
 use Rattle.index.proofs.Whole.{clean}
-use Rattle.compare.specs.Volumes.{Headed, goneIn, markedBehind}
+use Rattle.compare.specs.Volumes.{Headed, markedBehind}
 use Rattle.compare.proofs.Marks.{both-marked}
 
 -- ---- the answer
@@ -154,3 +156,10 @@ module _ (v w : List ℕ) where
       → _≡_ {A = Compared} (record { answer = Refused n; touched = replicate 64 false }) (mirrorOf v w)
   unfolding mirrorOf
   refused n e z = rw (ne-eqb (firstOf (mirrorRows v w)) 0 (λ q. z (e ∙ q)), e)
+
+  -- a heading that is not known is refused, whatever follows it
+  pub unknown : (a b : Bool) → a ≡ knownMagic v → b ≡ knownMagic w → (not a || not b) ≡ true → 1 ≡ firstOf (mirrorRows v w)
+  unfolding mirrorRows
+  unknown false b ea eb t = rw (unknown-read v (sym ea)) refl
+  unknown true false ea eb t = rw (unknown-read w (sym eb), and-false (validVolume v)) refl
+  unknown true true ea eb t = let z : _≡_ {A = ℕ} 0 1 = cc in absurd (omega arith)

@@ -10,11 +10,11 @@ use lib.ListN.{length, take, set, getD, length-map, length-set, List·getD-map}
 use lib.Seq.{take-suc, take-suc-set, take-all}
 use borrow.Author.Tests.{eq-eqb, ne-eqb, eqb-true}
 use Rattle.laws.proofs.Tables.{byCases}
-use Rattle.laws.proofs.Mirror.{number-is}
+use Rattle.reports_laws.proofs.Mirror.{number-is}
 use Rattle.model.specs.Tables.{firstOf}
 use Rattle.model.specs.Geometry.{validVolume}
-use Rattle.model.specs.Mirror.{kindNumber, countNumber, flag, numbersOf, mirrorRows, mirrorRefusal, mirrorOf, compareRows, compareOf}
-use Rattle.model.specs.declared.reading.Compared.{Compared}
+use Rattle.reports.specs.Mirror.{kindNumber, countNumber, flag, numbersOf, mirrorRows, mirrorRefusal, mirrorOf, compareRows, compareOf}
+use Rattle.reports.specs.declared.reading.Compared.{Compared}
 
 -- ---- the numbers
 

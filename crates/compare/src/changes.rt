@@ -1,7 +1,7 @@
 // The common beginning of two logs, change by change.
 ghost use mathlib.Core.Path.{_≡_};
 ghost use lib.ListN.{length};
-ghost use Rattle.model.specs.Mirror.{sameChange, commonFrom};
+ghost use Rattle.reports.specs.Mirror.{sameChange, commonFrom};
 ghost use Rattle.compare.specs.Volumes.{Headed};
 use codec::part;
 use model::geometry::Geometry;

@@ -3,25 +3,19 @@ ghost use mathlib.Core.Path.{_≡_};
 ghost use mathlib.Core.Bool.{cond, _||_};
 ghost use Prim.Native.Nat.{_≤_};
 ghost use lib.Dec.{eqb};
-ghost use Rattle.model.specs.Mirror as mirrors;
-ghost use Rattle.compare.specs.Volumes.{goneIn};
+ghost use Rattle.reports.specs.Mirror as mirrors;
+ghost use Rattle.model.specs.Tables as tables;
+ghost use Rattle.index.specs.Scanned.{goneIn};
 
 pub mod changes;
 pub mod pages;
 pub mod report;
 
 use index::Counts;
-use model::reading::Compared;
-use model::reading::Comparison;
+use reports::reading::Compared;
+use reports::reading::Comparison;
 use volume::heading;
 use volume::rows;
-
-// Record 1 has left a log of these counts.
-fn gone(c: Counts) -> bool
-    ensures { λ r. ⌜ r ≡ goneIn c ⌝ }
-{
-    (0 < c.durable) & (1 < c.first)
-}
 
 // The refusal: by number, whichever of the two scans gives it.
 fn refusal(a: Counts, b: Counts) -> u32
@@ -31,7 +25,7 @@ fn refusal(a: Counts, b: Counts) -> u32
 {
     let m = a.refusal;
     let n = b.refusal;
-    let lost = rows::first(gone(a) | gone(b), 24, 0);
+    let lost = rows::first(index::gone(a) | index::gone(b), 24, 0);
     let later = rows::first((m == 18) | (n == 18), 18, lost);
     let log = rows::first((m == 17) | (n == 17), 17, later);
     rows::first((m == 1) | (n == 1), 1, log)
@@ -39,7 +33,7 @@ fn refusal(a: Counts, b: Counts) -> u32
 
 // The smaller of two counts.
 fn smaller(a: u32, b: u32) -> u32
-    ensures { λ r. ⌜ r ≡ mirrors.smaller a b ⌝ }
+    ensures { λ r. ⌜ r ≡ tables.smaller a b ⌝ }
 {
     if a <= b { a } else { b }
 }
@@ -61,10 +55,8 @@ fn answer(k: u32, n: u32, m: u32) -> Comparison
     Comparison::Differs(k + 1)
 }
 
-// Compares two volumes' logs.
-// Ruled out: that logs agree where a payload differs (tried); a page that only the second log touches left out (tried);
-// a shorter log taken as a beginning (tried); the refusal of the first volume before a lower one of the second (tried).
-pub fn compare(first: &[u8], second: &[u8]) -> Compared
+// The comparison of two volumes whose headings are known, or not.
+fn judged(first: &[u8], second: &[u8]) -> Compared
     ensures { λ r. ⌜ r ≡ mirrors.mirrorOf (now (first .entry)) (now (second .entry)) ⌝ }
 {
     let a = index::count(first);
@@ -88,4 +80,19 @@ pub fn compare(first: &[u8], second: &[u8]) -> Compared
         answer: answer(k, n, m),
         touched,
     }
+}
+
+// Compares two volumes' logs. Both headings are compared before anything else is read.
+// Ruled out: that logs agree where a payload differs (tried); a page that only the second log touches left out (tried);
+// a shorter log taken as a beginning (tried); the refusal of the first volume before a lower one of the second (tried).
+pub fn compare(first: &[u8], second: &[u8]) -> Compared
+    ensures { λ r. ⌜ r ≡ mirrors.mirrorOf (now (first .entry)) (now (second .entry)) ⌝ }
+{
+    if !heading::known(first) | !heading::known(second) {
+        return Compared {
+            answer: Comparison::Refused(1),
+            touched: [false; 64],
+        };
+    }
+    judged(first, second)
 }

@@ -1,9 +1,9 @@
 // The comparison as 66 numbers in a lent report: kind, count, and a number for each page.
 ghost use mathlib.Core.Path.{_≡_};
 ghost use lib.ListN.{length};
-ghost use Rattle.model.specs.Mirror as mirrors;
-use model::reading::Compared;
-use model::reading::Comparison;
+ghost use Rattle.reports.specs.Mirror as mirrors;
+use reports::reading::Compared;
+use reports::reading::Comparison;
 use volume::heading;
 use volume::rows;
 

@@ -86,19 +86,6 @@ fails-is g v x index i at a c ea ex pa =
 
 -- ---- the search
 
-module _ (p : ℕ → Bool) (n i : ℕ) where
-  pub first-here : i < n → p i ≡ true → firstFrom (n - i) p i ≡ i
-  unfolding firstFrom
-  first-here h t = let k : n - i ≡ suc (n - suc i) = omega arith in rw (k, t)
-
-  pub first-on : i < n → p i ≡ false → firstFrom (n - i) p i ≡ firstFrom (n - (i + 1)) p (i + 1)
-  unfolding firstFrom
-  first-on h f = let k : n - i ≡ suc (n - suc i) = omega arith in rw (add-one, k, f)
-
-  pub first-end : n ≤ i → firstFrom (n - i) p i ≡ i
-  unfolding firstFrom
-  first-end h = let z : n - i ≡ 0 = omega arith in rw z
-
 pub first-start : (g : Geometry) (v : List ℕ) (index : List Entry)
     → firstFrom (g .pages + g .slots - 0) (oldAt g v index) 0 ≡ firstOld g v index
 unfolding firstOld

@@ -2,7 +2,8 @@
 ghost use mathlib.Core.Path.{_≡_};
 ghost use Rattle.model.specs.Tables.{firstOf};
 ghost use Rattle.model.specs.Refusals.{finishCarryRows};
-ghost use Rattle.model.specs.Calls.{finishCarryOf, replyOf, volumeAfter};
+ghost use Rattle.model.specs.Outcome.{replyOf, volumeAfter};
+ghost use Rattle.model.specs.Calls.{finishCarryOf};
 use crate::heading;
 use crate::images;
 use model::answer::Answer;

@@ -21,7 +21,7 @@ pub fn refusal(s: State, volume: &[u8], size: usize, magic: [u8; 4]) -> u32
     if !heading::headed(volume, magic) {
         return 1;
     }
-    state::rows::refusal(s, volume, size)
+    state::refusal::refusal(s, volume, size)
 }
 
 // Stores a heading.

@@ -7,7 +7,7 @@ ghost use Rattle.model.specs.Geometry.{withTag, slotAt};
 ghost use Rattle.model.specs.Item.{validImage, validSomewhere};
 ghost use Rattle.model.specs.Passes.{validAsNoted, passesAt, imageCount, imagePlace};
 use codec::field;
-use index::rows;
+use index::entries;
 use item::image;
 use model::geometry::Geometry;
 use model::state::Entry;
@@ -63,7 +63,7 @@ fn somewhere(g: Geometry, x: &[u8]) -> bool
 fn slot_passes(g: Geometry, index: [Entry; 64], slot: u32, x: &[u8]) -> bool
     ensures { λ r. ⌜ r ≡ passesAt g index (slotAt slot) (now (x .entry)) ⌝ }
 {
-    if rows::used(index, slot) {
+    if entries::used(index, slot) {
         return noted(g, slot, x, index);
     }
     somewhere(g, x)

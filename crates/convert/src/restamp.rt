@@ -1,6 +1,7 @@
 // Restamp: the first image that passes only the old sum gets the byte sum.
 ghost use mathlib.Core.Path.{_≡_};
-ghost use Rattle.model.specs.Calls.{restampOf, replyOf, volumeAfter};
+ghost use Rattle.model.specs.Outcome.{replyOf, volumeAfter};
+ghost use Rattle.model.specs.Calls.{restampOf};
 use crate::heading;
 use crate::images;
 use item::image;

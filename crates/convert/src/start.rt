@@ -1,6 +1,7 @@
 // Start: a volume's first heading becomes that of a volume that is being carried over.
 ghost use mathlib.Core.Path.{_≡_};
-ghost use Rattle.model.specs.Calls.{startCarryOf, replyOf, volumeAfter};
+ghost use Rattle.model.specs.Outcome.{replyOf, volumeAfter};
+ghost use Rattle.model.specs.Calls.{startCarryOf};
 use crate::heading;
 use model::answer::Answer;
 use model::answer::Reply;

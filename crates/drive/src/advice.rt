@@ -1,46 +1,69 @@
 // What upkeep advises, op 31; the cell's frame is the one that is left to it.
-use crate::cell;
-use crate::session;
-use crate::session::Said;
-use crate::session::Session;
-use crate::session::Turn;
 use model::answer::Answer;
 use model::command::Command;
-use model::upkeep::Upkeep;
+use print::number;
+use print::say;
+use script::cell;
+use script::session;
+use script::session::Session;
+use script::session::Turn;
+use upkeep_policy::upkeep::Upkeep;
 
-// A call's number in a script, its page, its frame or slot, and the first byte that it puts.
-fn call(c: Command, byte: u8) -> Said {
+// A call as it is told: its number in a script, its page, and its frame or slot.
+struct Words {
+    number: u32,
+    page: u32,
+    other: u32,
+}
+
+fn plain(number: u32, page: u32, other: u32) -> Words {
+    Words {
+        number,
+        page,
+        other,
+    }
+}
+
+fn call(c: Command) -> Words {
     match c {
         Command::Begin {
             page,
             frame,
             fill: _,
-        } => Said::Advise(3, page, frame, 0),
-        Command::Load { page, frame } => Said::Advise(4, page, frame, 0),
-        Command::Change { page, change: _ } => Said::Advise(5, page, 0, byte as u32),
-        Command::Force => Said::Advise(6, 0, 0, 0),
-        Command::Write { page } => Said::Advise(7, page, 0, 0),
-        Command::Backup { page, slot } => Said::Advise(8, page, slot, 0),
-        Command::Note => Said::Advise(9, 0, 0, 0),
-        Command::Release { page } => Said::Advise(17, page, 0, 0),
-        Command::StartCarry => Said::Advise(18, 0, 0, 0),
-        Command::Restamp => Said::Advise(19, 0, 0, 0),
-        Command::FinishCarry => Said::Advise(20, 0, 0, 0),
+        } => plain(3, page, frame),
+        Command::Load { page, frame } => plain(4, page, frame),
+        Command::Change { page, change: _ } => plain(5, page, 0),
+        Command::Force => plain(6, 0, 0),
+        Command::Write { page } => plain(7, page, 0),
+        Command::Backup { page, slot } => plain(8, page, slot),
+        Command::Note => plain(9, 0, 0),
+        Command::Release { page } => plain(17, page, 0),
+        Command::StartCarry => plain(18, 0, 0),
+        Command::Restamp => plain(19, 0, 0),
+        Command::FinishCarry => plain(20, 0, 0),
     }
 }
 
+// The call, and the first byte that a change puts, 0 for any other.
+fn advised(b: Session, c: Words, byte: u8) -> Turn {
+    say(b"ADVISE ");
+    number(c.number);
+    say(b" ");
+    number(c.page);
+    let x = if c.number == 5 { byte } else { 0 };
+    session::compared(b, b" ", c.other, x as u32)
+}
+
 pub fn turn(b: Session, c: &[u8], volume: &[u8], memory: &[u8]) -> Turn {
-    let n = session::least(b.volume, volume.len());
-    let k = session::least(b.memory, memory.len());
     let store = b.store;
     let s = store.state;
-    let r = upkeep::advise(s, &volume[0..n], &memory[0..k], cell::place(c));
+    let r = upkeep::advise(s, volume, memory, cell::place(c));
     let payload = r.payload;
     let said = r.upkeep;
     match said {
         Upkeep::Refused(no) => session::told(b, Answer::Refused(no)),
-        Upkeep::Idle => session::say(b, Said::Idle),
-        Upkeep::Stuck(page) => session::say(b, Said::Stuck(page)),
-        Upkeep::Make(command) => session::say(b, call(command, payload[0])),
+        Upkeep::Idle => session::word(b, b"IDLE"),
+        Upkeep::Stuck(page) => session::counted(b, b"STUCK ", page),
+        Upkeep::Make(command) => advised(b, call(command), payload[0]),
     }
 }

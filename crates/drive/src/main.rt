@@ -4,22 +4,38 @@
 mod advice;
 mod archive;
 mod calls;
-mod cell;
-mod forecast;
-mod hash;
+mod forecasts;
 mod mirror;
-mod numbers;
-mod printed;
 mod rehearse;
-mod session;
-mod setup;
 
-use crate::session::Said;
-use crate::session::Session;
-use crate::session::Turn;
 use libc::STDIN_FILENO;
+use script::cell;
+use script::session;
+use script::session::Session;
+use script::session::Turn;
+use script::setup;
 
-// Does what a cell says.
+// Makes the call of a cell on what is lent of the buffers.
+fn call(
+    b: Session,
+    c: &[u8],
+    volume: &mut [u8],
+    memory: &mut [u8],
+    lent: &mut [u8],
+    second: &[u8],
+) -> Turn {
+    match cell::op(c) {
+        1 | 10 | 21 => calls::plain(b, c, volume, lent),
+        22 => forecasts::turn(b, volume),
+        23..=25 | 29 => archive::turn(b, c, volume, lent, second),
+        26 => mirror::turn(b, volume, second),
+        30 => rehearse::turn(b, c, second),
+        31 => advice::turn(b, c, volume, memory),
+        _ => calls::stateful(b, c, volume, memory),
+    }
+}
+
+// A call on the lent parts, or a cell that sets up the whole buffers.
 fn turn(
     b: Session,
     c: &[u8],
@@ -28,36 +44,21 @@ fn turn(
     lent: &mut [u8],
     second: &mut [u8],
 ) -> Turn {
-    match cell::op(c) {
-        1 | 10 | 21 => calls::plain(b, c, volume, lent),
-        2..=9 | 17..=20 => calls::stateful(b, c, volume, memory),
-        22 => forecast::turn(b, volume),
-        23..=25 | 29 => archive::turn(b, c, volume, lent, second),
-        26 => mirror::turn(b, volume, second),
-        30 => rehearse::turn(b, c, second),
-        31 => advice::turn(b, c, volume, memory),
-        _ => setup::turn(b, c, volume, memory, lent, second),
+    if cell::sets_up(c) {
+        return setup::turn(b, c, volume, memory, lent, second);
     }
-}
-
-// The hash of a buffer's lent part.
-fn lent_hash(buffer: &[u8], size: usize) -> u32 {
-    let n = session::least(size, buffer.len());
-    hash::bytes(&buffer[0..n])
-}
-
-fn report(said: Said, b: Session, volume: &[u8], memory: &[u8], lent: &[u8]) {
-    if !printed::said(said) {
-        return;
-    }
-    let store = b.store;
-    let s = store.state;
-    printed::hashes(
-        lent_hash(volume, b.volume),
-        lent_hash(memory, b.memory),
-        lent_hash(lent, b.lent),
-        hash::state(s),
-    );
+    let v = session::least(b.volume, volume.len());
+    let m = session::least(b.memory, memory.len());
+    let u = session::least(b.lent, lent.len());
+    let w = session::least(b.second, second.len());
+    call(
+        b,
+        c,
+        &mut volume[0..v],
+        &mut memory[0..m],
+        &mut lent[0..u],
+        &second[0..w],
+    )
 }
 
 // One cell: done, and its line printed.
@@ -70,9 +71,8 @@ fn step(
     second: &mut [u8],
 ) -> Session {
     let t = turn(b, c, volume, memory, lent, second);
-    let said = t.said;
     let next = t.session;
-    report(said, next, volume, memory, lent);
+    session::report(t.skipped, next, volume, memory, lent);
     next
 }
 
@@ -81,14 +81,7 @@ fn main() {
     let mut memory = [0u8; 5376];
     let mut lent = [0u8; 65920];
     let mut second = [0u8; 131200];
-    let store = session::empty();
-    let mut b = Session {
-        store,
-        volume: 0,
-        memory: 1280,
-        lent: 256,
-        second: 0,
-    };
+    let mut b = session::start();
     let mut left: u32 = 4096;
     while 0 < left {
         let mut cell = [0u8; 64];

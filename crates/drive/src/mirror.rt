@@ -1,11 +1,10 @@
 // The volume's log held against that of the second buffer's volume, op 26.
-use crate::hash;
-use crate::session;
-use crate::session::Said;
-use crate::session::Session;
-use crate::session::Turn;
 use model::answer::Answer;
-use model::reading::Comparison;
+use reports::reading::Comparison;
+use script::hash;
+use script::session;
+use script::session::Session;
+use script::session::Turn;
 
 // The hash of 64 numbers, 1 for a page that is listed.
 fn listed(touched: [bool; 64]) -> u32 {
@@ -20,17 +19,15 @@ fn listed(touched: [bool; 64]) -> u32 {
 }
 
 pub fn turn(b: Session, volume: &[u8], second: &[u8]) -> Turn {
-    let n = session::least(b.volume, volume.len());
-    let w = session::least(b.second, second.len());
-    let c = compare::compare(&volume[0..n], &second[0..w]);
+    let c = compare::compare(volume, second);
     let answer = c.answer;
     let touched = c.touched;
     let h = listed(touched);
     match answer {
         Comparison::Refused(n) => session::told(b, Answer::Refused(n)),
-        Comparison::Agree => session::say(b, Said::Agree(h)),
-        Comparison::FirstLacks(n) => session::say(b, Said::First(n, h)),
-        Comparison::SecondLacks(n) => session::say(b, Said::Second(n, h)),
-        Comparison::Differs(n) => session::say(b, Said::Differs(n, h)),
+        Comparison::Agree => session::counted(b, b"AGREE ", h),
+        Comparison::FirstLacks(n) => session::compared(b, b"FIRST ", n, h),
+        Comparison::SecondLacks(n) => session::compared(b, b"SECOND ", n, h),
+        Comparison::Differs(n) => session::compared(b, b"DIFFERS ", n, h),
     }
 }

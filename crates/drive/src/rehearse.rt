@@ -1,13 +1,12 @@
 // The rehearsal of the second buffer's events, op 30: a hash of six figures for each of 64 pages.
-use crate::cell;
-use crate::hash;
-use crate::session;
-use crate::session::Said;
-use crate::session::Session;
-use crate::session::Turn;
 use model::answer::Answer;
-use model::rehearsal::Figures;
-use model::rehearsal::Victim;
+use planning::rehearsal::Figures;
+use planning::rehearsal::Victim;
+use script::cell;
+use script::hash;
+use script::session;
+use script::session::Session;
+use script::session::Turn;
 
 // Loads, then stores by sort, then log records replayed.
 fn figures(h: u32, b: Figures) -> u32 {
@@ -31,26 +30,25 @@ fn victim(kind: u8) -> Victim {
     if kind == 0 {
         return Victim::Written;
     }
-    Victim::LetGo
+    Victim::Released
+}
+
+fn told(b: Session, a: Answer, h: u32) -> Turn {
+    match a {
+        Answer::Refused(n) => session::told(b, Answer::Refused(n)),
+        Answer::Nothing => session::counted(b, b"REHEARSED ", h),
+        Answer::Done => session::counted(b, b"REHEARSED ", h),
+        Answer::Repaired(_) => session::counted(b, b"REHEARSED ", h),
+    }
 }
 
 pub fn turn(b: Session, c: &[u8], second: &[u8]) -> Turn {
-    if 1 < cell::kind(c) {
+    let kind = cell::kind(c);
+    if 1 < kind {
         return session::skipped(b);
     }
-    let w = session::least(b.second, second.len());
-    let r = rehearsal::rehearse(
-        &second[0..w],
-        cell::page(c),
-        cell::first(c),
-        victim(cell::kind(c)),
-    );
+    let r = planning_model::rehearse(second, cell::page(c), cell::first(c), victim(kind));
     let pages = r.pages;
     let answer = r.answer;
-    match answer {
-        Answer::Refused(n) => session::told(b, Answer::Refused(n)),
-        Answer::Nothing => session::say(b, Said::Rehearsed(rows(pages))),
-        Answer::Done => session::say(b, Said::Rehearsed(rows(pages))),
-        Answer::Repaired(_) => session::say(b, Said::Rehearsed(rows(pages))),
-    }
+    told(b, answer, rows(pages))
 }

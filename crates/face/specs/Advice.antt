@@ -6,14 +6,12 @@ use mathlib.Core.List.{List, [], _∷_}
 use lib.Dec.{eqb}
 use lib.ListN.{length, getD}
 use Rattle.model.specs.Geometry.{validVolume}
-use Rattle.model.specs.Change.{kindOf, lengthOf, offsetOf}
-use Rattle.model.specs.Upkeep.{adviseOf}
+use Rattle.model.specs.Calls.{codeOf, numberOf}
+use Rattle.upkeep_policy.specs.Upkeep.{adviseOf}
 use Rattle.model.specs.declared.command.Command.{Command}
-use Rattle.model.specs.declared.command.Command.the-variants.{Begin, Load, Change, Force, Write, Backup, Release, Note}
-use Rattle.model.specs.declared.command.Command.the-variants.{StartCarry, Restamp, FinishCarry}
-use Rattle.model.specs.declared.upkeep.Advised.{Advised}
-use Rattle.model.specs.declared.upkeep.Upkeep.{Upkeep}
-use Rattle.model.specs.declared.upkeep.Upkeep.the-variants.{Refused, Idle, Stuck, Make}
+use Rattle.upkeep_policy.specs.declared.upkeep.Advised.{Advised}
+use Rattle.upkeep_policy.specs.declared.upkeep.Upkeep.{Upkeep}
+use Rattle.upkeep_policy.specs.declared.upkeep.Upkeep.the-variants.{Refused, Idle, Stuck, Make}
 use Rattle.face.specs.Numbers.{stateOf, fits}
 use Rattle.face.specs.Slots.{Listed, listed}
 
@@ -21,18 +19,13 @@ use Rattle.face.specs.Slots.{Listed, listed}
 abbrev pub plain : ℕ → ℕ → ℕ → ℕ → List ℕ
 plain kind call page place = kind ∷ call ∷ page ∷ place ∷ 0 ∷ 0 ∷ 0 ∷ 0 ∷ []
 
+-- a command's own code, read at its places: number, page, then frame or slot; or of a change kind, length and offset
 abbrev pub commandNumbers : Command → ℕ → List ℕ
-commandNumbers (Begin page frame fill) byte = plain 1 3 page frame
-commandNumbers (Load page frame) byte = plain 1 4 page frame
-commandNumbers (Change page c) byte = 1 ∷ 5 ∷ page ∷ 0 ∷ kindOf c ∷ lengthOf c ∷ offsetOf c ∷ byte ∷ []
-commandNumbers Force byte = plain 1 6 0 0
-commandNumbers (Write page) byte = plain 1 7 page 0
-commandNumbers (Backup page slot) byte = plain 1 8 page slot
-commandNumbers (Release page) byte = plain 1 17 page 0
-commandNumbers Note byte = plain 1 9 0 0
-commandNumbers StartCarry byte = plain 1 18 0 0
-commandNumbers Restamp byte = plain 1 19 0 0
-commandNumbers FinishCarry byte = plain 1 20 0 0
+commandNumbers c byte =
+    let xs = codeOf c in
+    cond (eqb (numberOf c) 5)
+    (1 ∷ 5 ∷ getD xs 1 0 ∷ 0 ∷ getD xs 2 0 ∷ getD xs 3 0 ∷ getD xs 4 0 ∷ byte ∷ [])
+    (plain 1 (numberOf c) (getD xs 1 0) (getD xs 2 0))
 
 -- 0 or the refusal
 abbrev pub refusalIn : Upkeep → ℕ

@@ -4,12 +4,12 @@ use mathlib.Core.Bool.{Bool, true, false, cond, _&&_, not}
 use mathlib.Core.List.{List, [], _∷_}
 use lib.Dec.{eqb, leb}
 use lib.ListN.{length, getD}
-use Rattle.model.specs.Tables.{all, firstOf, within}
+use Rattle.model.specs.Tables.{all, firstOf, within, tabulate}
 use Rattle.model.specs.Geometry.{geometryOf, validVolume}
-use Rattle.model.specs.Reading.{tabulate}
 use Rattle.model.specs.State.{frameCount}
 use Rattle.model.specs.Refusals.{stateRows}
-use Rattle.model.specs.Calls.{begin, change}
+use Rattle.model.specs.Calls.{noPayload}
+use Rattle.model.specs.declared.command.Command.the-variants.{Begin}
 use Rattle.model.specs.declared.change.Change.{Change}
 use Rattle.model.specs.declared.change.Change.the-variants.{Format, Put, Slide}
 use Rattle.face.specs.Numbers.{stateOf, fits}
@@ -25,7 +25,7 @@ misfilledOf page frame v m xs report =
 
 unfoldable pub beginFace : ℕ → ℕ → ℕ → List ℕ → List ℕ → List ℕ → List ℕ → Face
 beginFace page frame fill v m xs report =
-    cond (leb fill 255) (faceOf (begin page frame fill) v m xs report)
+    cond (leb fill 255) (faceOf (Begin page frame fill, noPayload) v m xs report)
     (faced (misfilledOf page frame v m xs report) xs report m v)
 
 -- a change that every Change refuses by 6

@@ -1,15 +1,16 @@
 -- What a call on the state leaves for C: its answer as a number, the state's numbers, a report of five numbers, the
 -- memory and the volume.
 use Prim.Native.Nat.{ℕ}
-use mathlib.Core.Bool.{Bool, cond, _&&_, _||_, not}
+use mathlib.Core.Bool.{Bool, true, cond, _&&_, _||_, not}
 use mathlib.Core.List.{List, [], _∷_}
 use lib.Dec.{eqb}
 use lib.ListN.{length}
 use Rattle.model.specs.Geometry.{tagOf, carryTag, headed, start, geometryOf, validVolume}
-use Rattle.model.specs.Calls.{StoredItem, nothing, oneItem, newHeading, volumeAfter, outcomeOf, restartOf}
-use Rattle.model.specs.Calls.{Call, begin, load, change, force, write, backup, release, note}
-use Rattle.model.specs.Calls.{startCarry, restamp, finishCarry}
-use Rattle.model.specs.Health.{classNumber, startNumber}
+use Rattle.model.specs.Outcome.{StoredItem, nothing, oneItem, newHeading, volumeAfter}
+use Rattle.model.specs.Calls.{Call, outcomeOf, isCall}
+use Rattle.model.specs.Restart.{restartOf}
+use Rattle.model.specs.declared.command.Command.the-variants.{Load, Restamp}
+use Rattle.reports.specs.Examine.{classNumber, startNumber}
 use Rattle.model.specs.declared.geometry.Geometry.{Geometry}
 use Rattle.model.specs.declared.geometry.Heading.the-variants.{First}
 use Rattle.model.specs.declared.answer.Answer.{Answer}
@@ -36,19 +37,14 @@ reportAfter Nothing x report = 0 ∷ 0 ∷ 0 ∷ x .0 ∷ x .1 ∷ []
 reportAfter Done x report = 0 ∷ 0 ∷ 0 ∷ x .0 ∷ x .1 ∷ []
 reportAfter (Repaired r) x report = classNumber (r .class) ∷ startNumber (r .start) ∷ r .count ∷ x .0 ∷ x .1 ∷ []
 
+-- the heading is one that the call takes: Start, Restamp and Finish have one of their own
+abbrev pub ownHeading : Call → List ℕ → Bool
+ownHeading c v =
+    cond (isCall 18 c) (headed (tagOf First) v) (cond (isCall 19 c || isCall 20 c) (headed carryTag v) true)
+
 -- the volume is not one that the call takes: row 1
 abbrev pub misheaded : Call → List ℕ → Bool
-misheaded (begin page frame fill) v = not (validVolume v)
-misheaded (load page frame) v = not (validVolume v)
-misheaded (change page c payload) v = not (validVolume v)
-misheaded force v = not (validVolume v)
-misheaded (write page) v = not (validVolume v)
-misheaded (backup page slot) v = not (validVolume v)
-misheaded (release page) v = not (validVolume v)
-misheaded note v = not (validVolume v)
-misheaded startCarry v = not (headed (tagOf First) v) || not (validVolume v)
-misheaded restamp v = not (headed carryTag v) || not (validVolume v)
-misheaded finishCarry v = not (headed carryTag v) || not (validVolume v)
+misheaded c v = not (ownHeading c v) || not (validVolume v)
 
 pub record Face : Type 0 where
   pub answer : ℕ

@@ -4,9 +4,8 @@ use mathlib.Core.Bool.{Bool, true, false, cond, _&&_}
 use mathlib.Core.List.{List, [], _∷_, _++_}
 use lib.Dec.{eqb, leb}
 use lib.ListN.{length, getD}
-use Rattle.model.specs.Tables.{all, every}
+use Rattle.model.specs.Tables.{all, every, tabulate}
 use Rattle.model.specs.Bytes.{part}
-use Rattle.model.specs.Reading.{tabulate}
 use Rattle.model.specs.declared.state.Entry.{Entry}
 use Rattle.model.specs.declared.state.Frame.{Frame}
 use Rattle.model.specs.declared.state.PendingNote.{PendingNote}

@@ -5,8 +5,8 @@ use mathlib.Core.List.{List, [], _∷_}
 use lib.Dec.{eqb}
 use lib.ListN.{length}
 use Rattle.model.specs.Geometry.{validVolume}
-use Rattle.model.specs.Room.{roomOf}
-use Rattle.model.specs.declared.reading.Room.{Room}
+use Rattle.reports.specs.Room.{roomOf}
+use Rattle.reports.specs.declared.reading.Room.{Room}
 use Rattle.face.specs.Slots.{Listed, listed}
 
 abbrev pub roomNumbers : Room → List ℕ

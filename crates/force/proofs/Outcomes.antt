@@ -7,8 +7,8 @@ use native.Mathlib.Omega.{arith}
 use lib.Dec.{eqb}
 use lib.ListN.{length, take, drop}
 use borrow.Author.Tests.{eq-eqb, ne-eqb}
-use Rattle.laws.proofs.Tables.{when-true, when-false}
-use Rattle.laws.proofs.Parts.{part-lent, part-length}
+use Rattle.laws.proofs.Parts.{part-lent, lent-length}
+use Rattle.laws.proofs.Gives.{Gives, refused}
 use Rattle.laws.proofs.Places.{valid-facts}
 use Rattle.laws.proofs.WellFormed.{Ready, ready, Formed, Memory, pending-fits, pending-length}
 use Rattle.state.proofs.Slots.{records-some, most-high, record-fits}
@@ -17,23 +17,21 @@ use Rattle.model.specs.Bytes.{field, part, splice}
 use Rattle.model.specs.Geometry.{logSlot, start, store, geometryOf}
 use Rattle.model.specs.State.{pendingAt, pendingBytes}
 use Rattle.model.specs.Refusals.{stateRows, forceRows}
-use Rattle.model.specs.Calls.{Outcome, StoredItem, unchanged, forceOf, forcedState, replyOf, volumeAfter}
+use Rattle.model.specs.Outcome.{volumeAfter, decided}
+use Rattle.model.specs.Effects.{forcedState, forceDone}
+use Rattle.model.specs.Calls.{forceOf}
 use Rattle.model.specs.declared.geometry.Geometry.{Geometry}
 use Rattle.model.specs.declared.state.State.{State}
 use Rattle.model.specs.declared.answer.Answer.the-variants.{Refused, Nothing, Done}
-use Rattle.model.specs.declared.answer.Reply.{Reply}
 
 module _ (v m : List ℕ) (s : State) where
-  pub refused : (n : ℕ) → n ≡ firstOf (stateRows v m s []) → (n ≡ 0 → ⊥)
-      → (_≡_ {A = Reply} (record { answer = Refused n; state = s }) (replyOf (forceOf v m s))) × (v ≡ volumeAfter v (forceOf v m s .stored))
-  unfolding forceOf forceRows volumeAfter
-  refused n e ne = rw (ne-eqb (firstOf (stateRows v m s [])) 0 (λ z. ne (e ∙ z)))
-      (ap (λ (k : ℕ). record { answer = Refused k; state = s }) e, refl)
+  pub force-refused : (n : ℕ) → n ≡ firstOf (stateRows v m s []) → (n ≡ 0 → ⊥) → Gives v (Refused n) s v (forceOf v m s)
+  unfolding decided forceDone forceRows
+  force-refused n = refused v m s (stateRows v m s []) _ n
 
-  pub idle : firstOf (stateRows v m s []) ≡ 0 → s .pending ≡ 0
-      → (_≡_ {A = Reply} (record { answer = Nothing; state = s }) (replyOf (forceOf v m s))) × (v ≡ volumeAfter v (forceOf v m s .stored))
-  unfolding forceOf forceRows volumeAfter
-  idle e z = rw (eq-eqb (firstOf (stateRows v m s [])) 0 e, eq-eqb (s .pending) 0 z) (refl, refl)
+  pub force-idle : firstOf (stateRows v m s []) ≡ 0 → s .pending ≡ 0 → Gives v Nothing s v (forceOf v m s)
+  unfolding decided forceDone forceRows volumeAfter
+  force-idle e z = rw (eq-eqb (firstOf (stateRows v m s [])) 0 e, eq-eqb (s .pending) 0 z) (refl, refl)
 
   -- what the code needs to know once it stores
   pub record Room (g : Geometry) : Type 0 where
@@ -60,9 +58,8 @@ module _ (v m : List ℕ) (s : State) where
 
   done : (g : Geometry) (x : List ℕ) (page : ℕ) (t : State) → g ≡ geometryOf v → firstOf (stateRows v m s []) ≡ 0 → (s .pending ≡ 0 → ⊥)
       → x ≡ pendingBytes m (s .durable + 1) → page ≡ field 2 8 x → t ≡ forcedState s (g .pages) page
-      → (_≡_ {A = Reply} (record { answer = Done; state = t }) (replyOf (forceOf v m s)))
-      × (splice v (start g (logSlot g (s .durable + 1))) x ≡ volumeAfter v (forceOf v m s .stored))
-  unfolding forceOf forceRows volumeAfter store
+      → Gives v Done t (splice v (start g (logSlot g (s .durable + 1))) x) (forceOf v m s)
+  unfolding decided forceDone forceRows volumeAfter store
   done g x page t eg e ne ex ep et =
       let p : page ≡ field 2 8 (pendingBytes m (s .durable + 1)) = ep ∙ ap (λ (l : List ℕ). field 2 8 l) ex in
       rw (eq-eqb (firstOf (stateRows v m s [])) 0 e, ne-eqb (s .pending) 0 ne) (
@@ -82,15 +79,13 @@ module _ (v m : List ℕ) (s : State) where
   pub lent-fits : (g : Geometry) (from at : ℕ) → Room g → from ≡ pendingAt (s .durable + 1) → at ≡ start g (logSlot g (s .durable + 1))
       → at + length (lent from) ≤ length v
   lent-fits g from at r ef ea =
-      let l : length (part m from 64) ≡ 64 = part-length m from 64 (omega (arith, r .memory)) in
-      let k : length (lent from) ≡ 64 = ap length (part-lent m from 64 (from + 64) refl) ∙ l in
-      omega (arith, r .place)
+      omega (arith, r .place, lent-length m from 64 (omega (arith, r .memory)))
 
   pub finish : (g : Geometry) (from at page : ℕ) (t : State) (w : List ℕ) → g ≡ geometryOf v → firstOf (stateRows v m s []) ≡ 0 →
       (s .pending ≡ 0 → ⊥)
       → from ≡ pendingAt (s .durable + 1) → at ≡ start g (logSlot g (s .durable + 1)) → page ≡ field 2 8 (lent from)
       → t ≡ forcedState s (g .pages) page → w ≡ splice v at (lent from)
-      → (_≡_ {A = Reply} (record { answer = Done; state = t }) (replyOf (forceOf v m s))) × (w ≡ volumeAfter v (forceOf v m s .stored))
+      → Gives v Done t w (forceOf v m s)
   finish g from at page t w eg e ne ef ea ep et ew =
       let d = done g (lent from) page t eg e ne (lent-is from ef) ep et in
       (d .0, ew ∙ ap (λ (k : ℕ). splice v k (lent from)) ea ∙ d .1)

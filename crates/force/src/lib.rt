@@ -1,6 +1,7 @@
 // Force: stores the oldest pending record, as its 64 bytes lie in memory, in the slot of its number.
 ghost use mathlib.Core.Path.{_≡_};
-ghost use Rattle.model.specs.Calls.{forceOf, replyOf, volumeAfter};
+ghost use Rattle.model.specs.Outcome.{replyOf, volumeAfter};
+ghost use Rattle.model.specs.Calls.{forceOf};
 use codec::field;
 use codec::part;
 use model::answer::Answer;
@@ -20,7 +21,7 @@ pub fn force(s: State, volume: &mut [u8], memory: &[u8]) -> Reply
         ⌜ now (volume .exit)
         ≡ volumeAfter (now (volume .entry)) (forceOf (now (volume .entry)) (now (memory .entry)) s .stored) ⌝ }
 {
-    let no = state::rows::refusal(s, volume, memory.len());
+    let no = state::refusal::refusal(s, volume, memory.len());
     if no != 0 {
         return Reply {
             answer: Answer::Refused(no),

@@ -18,7 +18,8 @@ use Rattle.model.specs.Item.{imageBody, frameImage, encodeChange}
 use Rattle.model.specs.Index.{entryOf}
 use Rattle.model.specs.State.{pendingAt, pendingBytes, frameAt, frameBytes, holder, lastNumber, frameCount, blank, logFull}
 use Rattle.model.specs.Refusals.{beginRows, changeRows}
-use Rattle.model.specs.Calls.{StoredItem, nothing, volumeAfter, appendedState, appendedMemory, changedImage}
+use Rattle.model.specs.Outcome.{StoredItem, nothing, volumeAfter}
+use Rattle.model.specs.Effects.{appendedState, appendedMemory, changedImage}
 use Rattle.model.specs.AbstractLog.{Logged, loggedChange}
 use Rattle.model.specs.declared.geometry.Geometry.{Geometry}
 use Rattle.model.specs.declared.change.Change.{Change}
@@ -37,7 +38,7 @@ use Rattle.history.proofs.Inv.{past-cons, Settled, frame, Memory}
 use Rattle.history.proofs.Memory.{frame-count, pending-memory, pending-same, pending-other, pending-frame, frame-memory, frame-same, frame-other, frame-pending}
 use Rattle.history.proofs.LogSteps.{Joins, joins-fair, log-add, index-add}
 use Rattle.history.proofs.FrameSteps.{frames-put}
-use Rattle.history.proofs.Context.{Ctx, Kept, passed, in-range, sized, geo, len, sum, few, body-size, last-entry, found-frame, unblocked}
+use Rattle.history.proofs.Context.{Ctx, Preserved, passed, in-range, sized, geo, len, sum, few, body-size, last-entry, found-frame, unblocked}
 
 module _ {C : Type 0} {g : Geometry} {v m : List ℕ} {past : List StoredItem} {s : State} {k w : List Logged}
     (x : Ctx C g v m past s k w) where
@@ -118,7 +119,7 @@ module _ {C : Type 0} {g : Geometry} {v m : List ℕ} {past : List StoredItem} {
         → ((i : ℕ) → i < x .al .F → i ≢ f - 1 → frame (s .frames) i .page ≢ c .page)
         → (frame (s .frames) (f - 1) .page ≢ 0 → frame (s .frames) (f - 1) .page ≢ c .page
         → Settled (x .all) (length k) (frame (s .frames) (f - 1) .page))
-        → Kept C g v past (record {
+        → Preserved C g v past (record {
           answer = an;
           state = appendedState s (c .page) f;
           memory = appendedMemory m s (c .page) (c .change) payload f image;
@@ -168,7 +169,7 @@ module _ {C : Type 0} {g : Geometry} {v m : List ℕ} {past : List StoredItem} {
   -- ---- Begin
 
   pub keep-begin : (page f fill : ℕ) → firstOf (beginRows v m s page f) ≡ 0
-      → Kept C g v past (record {
+      → Preserved C g v past (record {
         answer = Done;
         state = appendedState s page f;
         memory = appendedMemory m s page (Format fill) [] f (frameImage page (lastNumber s + 1) (replicate 244 fill));
@@ -195,7 +196,7 @@ module _ {C : Type 0} {g : Geometry} {v m : List ℕ} {past : List StoredItem} {
   -- ---- Change
 
   pub keep-change : (page : ℕ) (c : Change) (payload : List ℕ) → length payload ≡ 44 → firstOf (changeRows v m s page c) ≡ 0
-      → Kept C g v past (record {
+      → Preserved C g v past (record {
         answer = Done;
         state = appendedState s page (holder s page);
         memory = appendedMemory m s page c payload (holder s page)

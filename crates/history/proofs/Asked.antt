@@ -13,12 +13,12 @@ use Rattle.laws.proofs.Ring.{run-asked}
 use Rattle.laws.proofs.Notes.{note-sealed}
 use Rattle.model.specs.Tables.{every, within}
 use Rattle.model.specs.Checksum.{sealed}
-use Rattle.model.specs.Geometry.{item, ring, noteRing, most, mostNotes, logSlot, noteSlot}
+use Rattle.model.specs.Geometry.{item, ring, most, mostNotes, logSlot, noteSlot}
 use Rattle.model.specs.Item.{recordFor, noteOf, noteBytes}
 use Rattle.model.specs.Index.{entryOf}
 use Rattle.model.specs.Scan.{logRecord, noteRecord}
-use Rattle.model.specs.State.{lastNumber, lastNote, recordNeeded, logFull, noteWhole, noteLike, noteNeeded, notesFull}
-use Rattle.model.specs.Calls.{StoredItem}
+use Rattle.model.specs.State.{lastNumber, recordNeeded, logFull, noteWhole, noteLike, noteNeeded, notesFull}
+use Rattle.model.specs.Outcome.{StoredItem}
 use Rattle.model.specs.AbstractLog.{Logged}
 use Rattle.model.specs.declared.geometry.Geometry.{Geometry}
 use Rattle.model.specs.declared.item.Note.{Note}
@@ -119,27 +119,27 @@ module _ {C : Type 0} {g : Geometry} {v m : List ℕ} {past : List StoredItem} {
 
   module _ (t : notesFull g v s ≡ false) where
     abbrev last : ℕ
-    last = lastNote s
+    last = s .notes
 
     parts : (eqb (g .notes) 0 ≡ false)
-        × ((leb (mostNotes g) last || (noteRing g && (leb (g .notes) last && noteNeeded g v last (suc last - g .notes)))) ≡ false)
+        × ((leb (mostNotes g) last || (ring g && (leb (g .notes) last && noteNeeded g v last (suc last - g .notes)))) ≡ false)
     unfolding notesFull
     parts = or-neither (eqb (g .notes) 0)
-        (leb (mostNotes g) last || (noteRing g && (leb (g .notes) last && noteNeeded g v last (suc last - g .notes)))) t
+        (leb (mostNotes g) last || (ring g && (leb (g .notes) last && noteNeeded g v last (suc last - g .notes)))) t
 
-    parts′ : (leb (mostNotes g) last ≡ false) × ((noteRing g && (leb (g .notes) last && noteNeeded g v last (suc last - g .notes))) ≡ false)
+    parts′ : (leb (mostNotes g) last ≡ false) × ((ring g && (leb (g .notes) last && noteNeeded g v last (suc last - g .notes))) ≡ false)
     parts′ =
-        or-neither (leb (mostNotes g) last) (noteRing g && (leb (g .notes) last && noteNeeded g v last (suc last - g .notes))) (parts .1)
+        or-neither (leb (mostNotes g) last) (ring g && (leb (g .notes) last && noteNeeded g v last (suc last - g .notes))) (parts .1)
 
     pub notes-room : length (x .ns) < mostNotes g
     notes-room = omega (arith, leb-false (mostNotes g) (s .notes) (parts′ .0), x .al .notes-is)
 
     note-unneeded : (i : ℕ) → length (x .ns) ≡ i + g .notes → noteNeeded g v (length (x .ns)) (suc i) ≡ false
     note-unneeded i e =
-        let r : noteRing g ≡ true = byCases (noteRing g) (λ y. y) (λ y. absurd (omega (arith, notes-room, notes-plain g (sized x) y))) in
+        let r : ring g ≡ true = byCases (ring g) (λ y. y) (λ y. absurd (omega (arith, notes-room, notes-plain g (sized x) y))) in
         let q : suc last - g .notes ≡ suc i = omega (arith, x .al .notes-is) in
         let b : leb (g .notes) last ≡ true = le-leb (g .notes) last (omega (arith, x .al .notes-is)) in
-        rw (q, x .al .notes-is) at (and-not (leb (g .notes) last) _ b (and-not (noteRing g) _ r (parts′ .1)))
+        rw (q, x .al .notes-is) at (and-not (leb (g .notes) last) _ b (and-not (ring g) _ r (parts′ .1)))
 
     alike : (i j : ℕ) (y z : Note) → noteRecord g v i ≡ y → noteRecord g v j ≡ z → noteLike g v i j ≡ true
         → (z .page ≡ y .page) × (z .kind ≡ y .kind)
@@ -166,6 +166,6 @@ module _ {C : Type 0} {g : Geometry} {v m : List ℕ} {past : List StoredItem} {
     pub notes-asked : Room g (x .ns)
     notes-asked = (
       let ne : g .notes ≢ 0 = eqb-false (g .notes) 0 (parts .0) in omega arith,
-      λ i b e. run-asked (noteRing g) (g .notes) (length (x .ns)) (NoteStands g v (x .ns)) (NoteTorn g v) (Later (x .ns))
+      λ i b e. run-asked (ring g) (g .notes) (length (x .ns)) (NoteStands g v (x .ns)) (NoteTorn g v) (Later (x .ns))
           (x .no .notes) i b (later i b e),
     )

@@ -7,16 +7,18 @@ use lib.ListN.{length}
 use lib.Dec.{eqb}
 use borrow.Author.Tests.{eqb-true, not-true}
 use Rattle.laws.proofs.Tables.{byCases, and-left, and-right, true-not-false}
+use Rattle.laws.proofs.Carrying.{no-restamp}
 use Rattle.model.specs.Tables.{Row, firstOf}
 use Rattle.model.specs.Checksum.{sealImage}
 use Rattle.model.specs.Geometry.{Place, pageAt, slotAt, recordAt, noteAt, logSlot, noteSlot, width, geometryOf}
-use Rattle.model.specs.Scan.{firstHeld}
 use Rattle.model.specs.Item.{noteBytes}
-use Rattle.model.specs.Index.{entryOf}
-use Rattle.model.specs.Repair.{viewOf, repairOf, classIn}
-use Rattle.model.specs.State.{frameBytes, pendingBytes, holder, lastNote}
+use Rattle.model.specs.Repair.{repairOf, classIn, stateView}
+use Rattle.model.specs.State.{frameBytes, pendingBytes, holder}
 use Rattle.model.specs.Refusals.{pageDirty, beginRows, loadRows, changeRows, forceRows, writeRows, backupRows, releaseRows, noteRows}
-use Rattle.model.specs.Calls.{StoredItem, nothing, oneItem, Outcome, volumeAfter, decided, isGood, beginOf, loadOf, changeCall, forceOf, writeOf, backupOf, releaseOf, noteCall, noteStored, Call, begin, load, change, force, write, backup, release, note, startCarry, restamp, finishCarry, rowsOf, outcomeOf}
+use Rattle.model.specs.Outcome.{StoredItem, nothing, oneItem, Outcome, volumeAfter, decided}
+use Rattle.model.specs.Effects.{isGood, noteStored, backupDone, beginDone, changeDone, forceDone, loadDone, releaseDone, writeDone}
+use Rattle.model.specs.Calls.{Call, rowsOf, outcomeOf, noPayload}
+use Rattle.model.specs.declared.command.Command.the-variants.{Begin, Load, Change, Force, Write, Backup, Release, Note as NoteCall, StartCarry, Restamp, FinishCarry}
 use Rattle.model.specs.AbstractLog.{moveFirst, Logged, AbstractLog, Left, old, new, torn, forget, stepCall, stepCut}
 use Rattle.model.specs.History.{off, leftVolume, leftPast, pastAfter, itemSealed, tornFits, payloadFits}
 use Rattle.model.specs.Carry.{carries}
@@ -27,7 +29,7 @@ use Rattle.model.specs.declared.state.PendingNote.{PendingNote}
 use Rattle.model.specs.declared.state.PendingNote.the-variants.{Absent, Present}
 use Rattle.model.specs.declared.state.State.{State}
 use Rattle.history.proofs.Inv.{past-cons, PendingOk, Inv}
-use Rattle.history.proofs.Context.{Ctx, Kept, geo, keep-decided}
+use Rattle.history.proofs.Context.{Ctx, Preserved, geo, keep-decided}
 use Rattle.history.proofs.Appends.{keep-begin, keep-change}
 use Rattle.history.proofs.Loads.{keep-load}
 use Rattle.history.proofs.Release.{keep-release}
@@ -42,17 +44,7 @@ plainPast i new past = i ∷ past
 plainPast i (torn xs) past = past
 
 pub plain-after : (c : Call) → carries c ≡ false → (v : List ℕ) (i : StoredItem) (past : List StoredItem) → pastAfter c v i past ≡ i ∷ past
-plain-after (begin page f fill) o v i past = refl
-plain-after (load page f) o v i past = refl
-plain-after (change page c payload) o v i past = refl
-plain-after force o v i past = refl
-plain-after (write page) o v i past = refl
-plain-after (backup page b) o v i past = refl
-plain-after (release page) o v i past = refl
-plain-after note o v i past = refl
-plain-after startCarry o v i past = absurd (true-not-false refl o)
-plain-after restamp o v i past = absurd (true-not-false refl o)
-plain-after finishCarry o v i past = absurd (true-not-false refl o)
+plain-after c o v i past = rw (no-restamp c o) refl
 
 pub plain-left : (c : Call) → carries c ≡ false → (v : List ℕ) (i : StoredItem) (l : Left) (past : List StoredItem)
     → leftPast c v i l past ≡ plainPast i l past
@@ -63,26 +55,24 @@ plain-left c o v i (torn xs) past = refl
 module _ {C : Type 0} {g : Geometry} {v m : List ℕ} {past : List StoredItem} {s : State} {k w : List Logged}
     (x : Ctx C g v m past s k w) where
   pub inv-call : (c : Call) → carries c ≡ false → payloadFits c ≡ true
-      → Kept C g v past (outcomeOf c v m s) (cond (not (eqb (firstOf (rowsOf c v m s)) 0)) (record { durable = k; pending = w })
+      → Preserved C g v past (outcomeOf c v m s) (cond (not (eqb (firstOf (rowsOf c v m s)) 0)) (record { durable = k; pending = w })
       (stepCall (record { durable = k; pending = w }) c))
-  unfolding beginOf loadOf changeCall forceOf writeOf backupOf releaseOf noteCall stepCall
-  inv-call (begin page f fill) o h = keep-decided x (beginRows v m s page f) _ _ (keep-begin x page f fill)
-  inv-call (load page f) o h =
+  unfolding decided beginDone loadDone changeDone forceDone writeDone backupDone releaseDone stepCall
+  inv-call (Begin page f fill, _) o h = keep-decided x (beginRows v m s page f) _ _ (keep-begin x page f fill)
+  inv-call (Load page f, _) o h =
       keep-decided x (loadRows v m s page f) _ _
-      (keep-load x page f (Repaired
-      (repairOf (geometryOf v) page (viewOf (geometryOf v) v (firstHeld (geometryOf v) v (s .durable)) (entryOf (s .index) page) page)))
-      (not (isGood (classIn (geometryOf v) page
-      (viewOf (geometryOf v) v (firstHeld (geometryOf v) v (s .durable)) (entryOf (s .index) page) page)))))
-  inv-call (change page c payload) o h =
+      (keep-load x page f (Repaired (repairOf (geometryOf v) page (stateView (geometryOf v) v s page)))
+      (not (isGood (classIn (geometryOf v) page (stateView (geometryOf v) v s page)))))
+  inv-call (Change page c, payload) o h =
       keep-decided x (changeRows v m s page c) _ _ (keep-change x page c payload (eqb-true (length payload) 44 h))
-  inv-call force o h = keep-decided x (forceRows v m s) (forced x) _ (λ e. keep-force x w refl)
-  inv-call (write page) o h = keep-decided x (writeRows v m s page) (written x page) _ (λ e. keep-write x page (writes x page e))
-  inv-call (backup page b) o h = keep-decided x (backupRows v m s page b) _ _ (λ e. keep-backup x page b (backs x page b e))
-  inv-call (release page) o h = keep-decided x (releaseRows v m s page) _ _ (keep-release x page Done)
-  inv-call note o h = keep-decided x (noteRows v m s) (noteStored v m s (s .note)) _ (λ e. keep-note x (s .note) (x .al .note-ok))
-  inv-call startCarry o h = absurd (true-not-false refl o)
-  inv-call restamp o h = absurd (true-not-false refl o)
-  inv-call finishCarry o h = absurd (true-not-false refl o)
+  inv-call (Force, _) o h = keep-decided x (forceRows v m s) (forced x) _ (λ e. keep-force x w refl)
+  inv-call (Write page, _) o h = keep-decided x (writeRows v m s page) (written x page) _ (λ e. keep-write x page (writes x page e))
+  inv-call (Backup page b, _) o h = keep-decided x (backupRows v m s page b) _ _ (λ e. keep-backup x page b (backs x page b e))
+  inv-call (Release page, _) o h = keep-decided x (releaseRows v m s page) _ _ (keep-release x page Done)
+  inv-call (NoteCall, _) o h = keep-decided x (noteRows v m s) (noteStored v m s (s .note)) _ (λ e. keep-note x (s .note) (x .al .note-ok))
+  inv-call (StartCarry, _) o h = absurd (true-not-false refl o)
+  inv-call (Restamp, _) o h = absurd (true-not-false refl o)
+  inv-call (FinishCarry, _) o h = absurd (true-not-false refl o)
 
   -- ---- a crash within a call
 
@@ -151,22 +141,22 @@ module _ {C : Type 0} {g : Geometry} {v m : List ℕ} {past : List StoredItem} {
   stored-one c r e = rw (some-pending x c r e)
 
   abbrev CutForce : StoredItem → Left → Type 0
-  CutForce i l = tornFits (geometryOf v) i l ≡ true → Cut i l (stepCut (record { durable = k; pending = w }) force l)
+  CutForce i l = tornFits (geometryOf v) i l ≡ true → Cut i l (stepCut (record { durable = k; pending = w }) (Force, noPayload) l)
 
   force-none : w ≡ [] → (l : Left) → CutForce nothing l
-  unfolding stepCut
+  unfolding stepCut stepCall
   force-none e old f = cut-old
   force-none e new f = rw e (cut-nothing new [])
   force-none e (torn xs) f = cut-old
 
   force-one : (c : Logged) (r : List Logged) → w ≡ c ∷ r → (l : Left) → CutForce (oneItem place bytes) l
-  unfolding stepCut
+  unfolding stepCut stepCall
   force-one c r e old f = cut-old
   force-one c r e new f = force-new c r e
   force-one c r e (torn xs) f = force-torn c r e xs f
 
   cut-force : (w′ : List Logged) → w ≡ w′ → (l : Left) → tornFits (geometryOf v) (forced x .stored) l ≡ true
-      → Cut (forced x .stored) l (stepCut (record { durable = k; pending = w }) force l)
+      → Cut (forced x .stored) l (stepCut (record { durable = k; pending = w }) (Force, noPayload) l)
   cut-force [] e l = subst (λ (i : StoredItem). CutForce i l) (sym (stored-none e)) (force-none e l)
   cut-force (c ∷ r) e l = subst (λ (i : StoredItem). CutForce i l) (sym (stored-one c r e)) (force-one c r e l)
 
@@ -180,31 +170,32 @@ module _ {C : Type 0} {g : Geometry} {v m : List ℕ} {past : List StoredItem} {
       → Cut (noteStored v m s y .stored) l (record { durable = k; pending = w })
   cut-note Absent t l f = cut-nothing l w
   cut-note (Present y) t l f =
-      cut-item (noteSlot (geometryOf v) (lastNote s + 1)) (noteBytes y) (x .ns ++ (y ∷ [])) (rw (geo x) (note-store x y t)) l f
+      cut-item (noteSlot (geometryOf v) (s .notes + 1)) (noteBytes y) (x .ns ++ (y ∷ [])) (rw (geo x) (note-store x y t)) l f
 
   cut-decided : (rows : List Row) (done : Outcome) (b : AbstractLog) (l : Left)
       → tornFits (geometryOf v) (decided rows m s done .stored) l ≡ true
       → (firstOf rows ≡ 0 → tornFits (geometryOf v) (done .stored) l ≡ true → Cut (done .stored) l b)
       → Cut (decided rows m s done .stored) l (cond (not (eqb (firstOf rows) 0)) (record { durable = k; pending = w }) b)
+  unfolding decided
   cut-decided rows done b l t f =
       byCases (eqb (firstOf rows) 0) (λ e. rw e (f (eqb-true (firstOf rows) 0 e) (rw e at t))) (λ e. rw e (cut-nothing l w))
 
   pub inv-crash : (c : Call) → carries c ≡ false → (l : Left) → tornFits (geometryOf v) (outcomeOf c v m s .stored) l ≡ true
       → Cut (outcomeOf c v m s .stored) l (cond (not (eqb (firstOf (rowsOf c v m s)) 0)) (record { durable = k; pending = w })
       (stepCut (record { durable = k; pending = w }) c l))
-  unfolding beginOf loadOf changeCall forceOf writeOf backupOf releaseOf noteCall stepCut
-  inv-crash (begin page f fill) o l t = cut-decided (beginRows v m s page f) _ _ l t (λ e u. cut-nothing l w)
-  inv-crash (load page f) o l t = cut-decided (loadRows v m s page f) _ _ l t (λ e u. cut-nothing l w)
-  inv-crash (change page c payload) o l t = cut-decided (changeRows v m s page c) _ _ l t (λ e u. cut-nothing l w)
-  inv-crash force o l t =
-      cut-decided (forceRows v m s) (forced x) (stepCut (record { durable = k; pending = w }) force l) l t (λ e u. cut-force w refl l u)
-  inv-crash (write page) o l t = cut-decided (writeRows v m s page) (written x page) _ l t (λ e u. cut-write page (writes x page e) l u)
-  inv-crash (backup page b) o l t =
+  unfolding decided beginDone loadDone changeDone forceDone writeDone backupDone releaseDone stepCut stepCall
+  inv-crash (Begin page f fill, _) o l t = cut-decided (beginRows v m s page f) _ _ l t (λ e u. cut-nothing l w)
+  inv-crash (Load page f, _) o l t = cut-decided (loadRows v m s page f) _ _ l t (λ e u. cut-nothing l w)
+  inv-crash (Change page c, payload) o l t = cut-decided (changeRows v m s page c) _ _ l t (λ e u. cut-nothing l w)
+  inv-crash (Force, _) o l t =
+      cut-decided (forceRows v m s) (forced x) (stepCut (record { durable = k; pending = w }) (Force, noPayload) l) l t (λ e u. cut-force w refl l u)
+  inv-crash (Write page, _) o l t = cut-decided (writeRows v m s page) (written x page) _ l t (λ e u. cut-write page (writes x page e) l u)
+  inv-crash (Backup page b, _) o l t =
       cut-decided (backupRows v m s page b) _ _ l t
       (λ e u. let f = backs x page b e in cut-image (slotAt b) (frameBytes m (holder s page))
       (backup-store x page (f .frame-of) (f .forced-to) b (f .slot-low) (f .slot-high) (f .spare)) l u)
-  inv-crash (release page) o l t = cut-decided (releaseRows v m s page) _ _ l t (λ e u. cut-nothing l w)
-  inv-crash note o l t = cut-decided (noteRows v m s) (noteStored v m s (s .note)) _ l t (λ e u. cut-note (s .note) (x .al .note-ok) l u)
-  inv-crash startCarry o l t = absurd (true-not-false refl o)
-  inv-crash restamp o l t = absurd (true-not-false refl o)
-  inv-crash finishCarry o l t = absurd (true-not-false refl o)
+  inv-crash (Release page, _) o l t = cut-decided (releaseRows v m s page) _ _ l t (λ e u. cut-nothing l w)
+  inv-crash (NoteCall, _) o l t = cut-decided (noteRows v m s) (noteStored v m s (s .note)) _ l t (λ e u. cut-note (s .note) (x .al .note-ok) l u)
+  inv-crash (StartCarry, _) o l t = absurd (true-not-false refl o)
+  inv-crash (Restamp, _) o l t = absurd (true-not-false refl o)
+  inv-crash (FinishCarry, _) o l t = absurd (true-not-false refl o)

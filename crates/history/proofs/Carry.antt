@@ -15,7 +15,7 @@ use Rattle.model.specs.Checksum.{sealImage, imageSealed}
 use Rattle.model.specs.Geometry.{tagOf, carryTag, Place, pageAt, slotAt, recordAt, noteAt, item, store}
 use Rattle.model.specs.Item.{imageLsn, validImage, isWritten}
 use Rattle.model.specs.Passes.{isImage}
-use Rattle.model.specs.Calls.{StoredItem, oneItem}
+use Rattle.model.specs.Outcome.{StoredItem, oneItem}
 use Rattle.model.specs.AbstractLog.{Logged}
 use Rattle.model.specs.History.{storedBefore}
 use Rattle.model.specs.declared.geometry.Geometry.{Geometry}

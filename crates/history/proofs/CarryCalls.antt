@@ -8,6 +8,7 @@ use lib.ListN.{length}
 use lib.Dec.{eqb, ltb}
 use borrow.Author.Tests.{eqb-true, ltb-true}
 use Rattle.laws.proofs.Tables.{byCases, and-left, and-right, not-true, true-not-false}
+use Rattle.laws.proofs.Carrying.{carrying}
 use Rattle.laws.proofs.Carry.{image-in}
 use Rattle.laws.proofs.Restamped.{opened, found-old, stored-is, stored-none}
 use Rattle.laws.proofs.Progress.{finishes}
@@ -17,10 +18,13 @@ use Rattle.model.specs.Geometry.{tagOf, carryTag, geometryOf, withTag, Place, p
 use Rattle.model.specs.Index.{slotUsed}
 use Rattle.model.specs.Passes.{isImage, onlyOld, imageCount, imagePlace, oldAt, firstOld}
 use Rattle.model.specs.Refusals.{startCarryRows, restampRows, finishCarryRows}
-use Rattle.model.specs.Calls.{StoredItem, nothing, oneItem, newHeading, volumeAfter, startCarryOf, restampOf, finishCarryOf, Call, begin, load, change, force, write, backup, release, note, startCarry, restamp, finishCarry, rowsOf, outcomeOf}
+use Rattle.model.specs.Outcome.{StoredItem, nothing, oneItem, newHeading, volumeAfter, decided}
+use Rattle.model.specs.Effects.{restampDone}
+use Rattle.model.specs.Calls.{startCarryOf, restampOf, finishCarryOf, Call, rowsOf, outcomeOf, noPayload}
+use Rattle.model.specs.declared.command.Command.the-variants.{StartCarry, Restamp, FinishCarry}
 use Rattle.model.specs.Carry.{carries}
-use Rattle.model.specs.AbstractLog.{Logged, AbstractLog, Left, old, new, torn, forget, stepCall, stepCut}
-use Rattle.model.specs.History.{Power, on, off, isStartCarry, pastAfter, leftVolume, leftPast, leftNew, startFits, carriable, tornFits}
+use Rattle.model.specs.AbstractLog.{Logged, AbstractLog, Left, old, new, torn, leftNew, forget, stepCall, stepCut}
+use Rattle.model.specs.History.{Power, on, off, isStartCarry, pastAfter, leftVolume, leftPast, startFits, carriable, tornFits}
 use Rattle.model.specs.declared.geometry.Geometry.{Geometry}
 use Rattle.model.specs.declared.geometry.Heading.the-variants.{Second}
 use Rattle.model.specs.declared.answer.Answer.the-variants.{Refused, Nothing}
@@ -67,17 +71,17 @@ module _ {C : Type 0} {g : Geometry} {v m : List ℕ} {past : List StoredItem} {
       (on (outcomeOf c v m s .memory) (outcomeOf c v m s .state))
       (cond (not (eqb (firstOf (rowsOf c v m s)) 0)) log (stepCall log c))
 
-  start-kept : startFits (on m s) v startCarry ≡ true → Carried startCarry
-  unfolding startCarryOf stepCall volumeAfter
-  start-kept f = byCases (eqb (firstOf (startCarryRows v m s)) 0)
+  start-carried : startFits (on m s) v (StartCarry, noPayload) ≡ true → Carried (StartCarry, noPayload)
+  unfolding decided stepCall volumeAfter
+  start-carried f = byCases (eqb (firstOf (startCarryRows v m s)) 0)
       (λ t.
       let fit : carriable g v s ≡ true = rw (geo x) at (rw t at f) in
       rw t (carryTag, (λ z. absurd (true-not-false refl z)), keep-started x (start-tag x (eqb-true _ _ t)) fit))
       (λ t. rw t (g .tag, (λ z ne. refl), keep-same x (Refused (firstOf (startCarryRows v m s)))))
 
-  finish-kept : Carried finishCarry
-  unfolding finishCarryOf stepCall volumeAfter
-  finish-kept = byCases (eqb (firstOf (finishCarryRows v m s)) 0)
+  finish-carried : Carried (FinishCarry, noPayload)
+  unfolding decided stepCall volumeAfter
+  finish-carried = byCases (eqb (firstOf (finishCarryRows v m s)) 0)
       (λ t.
       let q = finishes v m s (eqb-true _ _ t) in
       let tag : g .tag ≡ carryTag = sym (ap (λ (y : Geometry). y .tag) (geo x)) ∙ q .tag in
@@ -103,9 +107,9 @@ module _ {C : Type 0} {g : Geometry} {v m : List ℕ} {past : List StoredItem} {
         was = rw (geo x) at (found-old v m s found);
       }
 
-  restamp-kept : Carried restamp
-  unfolding restampOf stepCall volumeAfter
-  restamp-kept = byCases (eqb (firstOf (restampRows v m s)) 0)
+  restamp-carried : Carried (Restamp, noPayload)
+  unfolding decided restampDone stepCall volumeAfter
+  restamp-carried = byCases (eqb (firstOf (restampRows v m s)) 0)
       (λ t. rw (t, geo x) (byCases (ltb first (imageCount g))
       (λ u. let f = finds (eqb-true _ _ t) u in
       rw (u, geo x) (g .tag, (λ z ne. refl), keep-restamped x (f .tag) (imagePlace g first) (f .here) (f .was)))
@@ -113,17 +117,8 @@ module _ {C : Type 0} {g : Geometry} {v m : List ℕ} {past : List StoredItem} {
       (λ t. rw t (g .tag, (λ z ne. refl), keep-same x (Refused (firstOf (restampRows v m s)))))
 
   pub inv-carry : (c : Call) → carries c ≡ true → startFits (on m s) v c ≡ true → Carried c
-  inv-carry (begin page f fill) o t = absurd (true-not-false o refl)
-  inv-carry (load page f) o t = absurd (true-not-false o refl)
-  inv-carry (change page c payload) o t = absurd (true-not-false o refl)
-  inv-carry force o t = absurd (true-not-false o refl)
-  inv-carry (write page) o t = absurd (true-not-false o refl)
-  inv-carry (backup page b) o t = absurd (true-not-false o refl)
-  inv-carry (release page) o t = absurd (true-not-false o refl)
-  inv-carry note o t = absurd (true-not-false o refl)
-  inv-carry startCarry o t = start-kept t
-  inv-carry restamp o t = restamp-kept
-  inv-carry finishCarry o t = finish-kept
+  unfolding stepCall
+  inv-carry = carrying (λ c. startFits (on m s) v c ≡ true → Carried c) (λ y. start-carried) (λ y t. restamp-carried) (λ y t. finish-carried)
 
   -- ---- cut
 
@@ -146,20 +141,20 @@ module _ {C : Type 0} {g : Geometry} {v m : List ℕ} {past : List StoredItem} {
         (on (outcomeOf c v m s .memory) (outcomeOf c v m s .state)) _ (r .2)),
   )
 
-  pub start-cut : (l : Left) → (leftNew l ≡ true → startFits (on m s) v startCarry ≡ true)
-      → tornFits (geometryOf v) (startCarryOf v m s .stored) l ≡ true → Cut startCarry l
-  unfolding startCarryOf stepCut stepCall
-  start-cut old f t = either (not (eqb (firstOf (startCarryRows v m s)) 0)) (λ b. Tagged C true g v past off b) cut-old
-  start-cut new f t = cut-new startCarry refl (start-kept (f refl))
-  start-cut (torn xs) f t = byCases (eqb (firstOf (startCarryRows v m s)) 0)
+  pub start-cut : (y : List ℕ) (l : Left) → (leftNew l ≡ true → startFits (on m s) v (StartCarry, y) ≡ true)
+      → tornFits (geometryOf v) (startCarryOf v m s .stored) l ≡ true → Cut (StartCarry, y) l
+  unfolding decided stepCut stepCall
+  start-cut y old f t = either (not (eqb (firstOf (startCarryRows v m s)) 0)) (λ b. Tagged C true g v past off b) cut-old
+  start-cut y new f t = cut-new (StartCarry, y) refl (start-carried (f refl))
+  start-cut y (torn xs) f t = byCases (eqb (firstOf (startCarryRows v m s)) 0)
       (λ u. absurd (true-not-false (rw u at t) refl))
       (λ u. rw u cut-old)
 
-  pub finish-cut : (l : Left) → tornFits (geometryOf v) (finishCarryOf v m s .stored) l ≡ true → Cut finishCarry l
-  unfolding finishCarryOf stepCut stepCall
-  finish-cut old t = either (not (eqb (firstOf (finishCarryRows v m s)) 0)) (λ b. Tagged C false g v past off b) cut-old
-  finish-cut new t = cut-new finishCarry refl finish-kept
-  finish-cut (torn xs) t = byCases (eqb (firstOf (finishCarryRows v m s)) 0)
+  pub finish-cut : (y : List ℕ) (l : Left) → tornFits (geometryOf v) (finishCarryOf v m s .stored) l ≡ true → Cut (FinishCarry, y) l
+  unfolding decided stepCut stepCall
+  finish-cut y old t = either (not (eqb (firstOf (finishCarryRows v m s)) 0)) (λ b. Tagged C false g v past off b) cut-old
+  finish-cut y new t = cut-new (FinishCarry, y) refl finish-carried
+  finish-cut y (torn xs) t = byCases (eqb (firstOf (finishCarryRows v m s)) 0)
       (λ u. absurd (true-not-false (rw u at t) refl))
       (λ u. rw u cut-old)
 
@@ -212,15 +207,15 @@ module _ {C : Type 0} {g : Geometry} {v m : List ℕ} {past : List StoredItem} {
       rw (stored-none v m s h none) cut-old
 
   pub stored-refused : eqb (firstOf (restampRows v m s)) 0 ≡ false → restampOf v m s .stored ≡ nothing
-  unfolding restampOf
+  unfolding decided restampDone
   stored-refused t = rw t
 
-  pub restamp-cut : (l : Left) → tornFits (geometryOf v) (restampOf v m s .stored) l ≡ true
-      → (C → (xs : List ℕ) → l ≡ torn xs → inNoted (s .index) (restampOf v m s .stored) ≡ false) → Cut restamp l
+  pub restamp-cut : (y : List ℕ) (l : Left) → tornFits (geometryOf v) (restampOf v m s .stored) l ≡ true
+      → (C → (xs : List ℕ) → l ≡ torn xs → inNoted (s .index) (restampOf v m s .stored) ≡ false) → Cut (Restamp, y) l
   unfolding stepCut stepCall
-  restamp-cut old t un = either (not (eqb (firstOf (restampRows v m s)) 0)) (λ b. Tagged C false g v past off b) cut-old
-  restamp-cut new t un = cut-new restamp refl restamp-kept
-  restamp-cut (torn ys) t un = byCases (eqb (firstOf (restampRows v m s)) 0)
+  restamp-cut y old t un = either (not (eqb (firstOf (restampRows v m s)) 0)) (λ b. Tagged C false g v past off b) cut-old
+  restamp-cut y new t un = cut-new (Restamp, y) refl restamp-carried
+  restamp-cut y (torn ys) t un = byCases (eqb (firstOf (restampRows v m s)) 0)
       (λ u. rw u (byCases (ltb first (imageCount g))
       (λ z. cut-found ys (eqb-true _ _ u) z t (λ c. un c ys refl))
       (λ z. cut-none ys (eqb-true _ _ u) z)))

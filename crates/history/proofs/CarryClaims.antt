@@ -11,6 +11,7 @@ use lib.ListN.{length}
 use lib.Dec.{eqb, ltb}
 use borrow.Author.Tests.{eqb-true}
 use Rattle.laws.proofs.Tables.{byCases, and-left, and-right, within-bounds, within-holds, true-not-false}
+use Rattle.laws.proofs.Carrying.{carrying}
 use Rattle.laws.proofs.Headings.{headed-tag, tag-headed, no-ring}
 use Rattle.laws.proofs.Carry.{wordsHold, bytesHold, placed, only-old, image-place}
 use Rattle.laws.proofs.Restamped.{image-number, images-apart, stored-is, stored-none}
@@ -23,7 +24,10 @@ use Rattle.model.specs.Geometry.{tagOf, carryTag, headed, geometryOf, Place, pa
 use Rattle.model.specs.Item.{imageLsn, validImage}
 use Rattle.model.specs.Passes.{isImage, imageCount, imagePlace, oldAt, firstOld, oldLeft}
 use Rattle.model.specs.Refusals.{startCarryRows, restampRows, finishCarryRows}
-use Rattle.model.specs.Calls.{StoredItem, newHeading, volumeAfter, inspectOf, startCarryOf, restampOf, finishCarryOf, refusalOf, Call, begin, load, change, force, write, backup, release, note, startCarry, restamp, finishCarry, outcomeOf}
+use Rattle.model.specs.Outcome.{StoredItem, newHeading, volumeAfter, refusalOf, decided}
+use Rattle.model.specs.Calls.{startCarryOf, restampOf, finishCarryOf, Call, outcomeOf, noPayload}
+use Rattle.model.specs.Restart.{inspectOf}
+use Rattle.model.specs.declared.command.Command.the-variants.{StartCarry, Restamp, FinishCarry}
 use Rattle.model.specs.AbstractLog.{Logged}
 use Rattle.model.specs.History.{Power, on, payloadFits, startFits, carriable, isOn, allowed}
 use Rattle.model.specs.Claim.{History, Legal, reached, durableOf, Begins}
@@ -69,8 +73,8 @@ module _ {C : Type 0} {g : Geometry} {v m : List ℕ} {past : List StoredItem} {
       (turn-noted g v k (x .hs) (x .ns) (x .no) tag plain known same)
       (heading-alike g v k (x .hs) (x .ns) (x .no) tag plain known same) p buffer
 
-  start-same : startFits (on m s) v startCarry ≡ true → SameAfter (startCarryOf v m s .stored)
-  unfolding startCarryOf volumeAfter
+  start-same : startFits (on m s) v (StartCarry, noPayload) ≡ true → SameAfter (startCarryOf v m s .stored)
+  unfolding decided volumeAfter
   start-same f = byCases (eqb (firstOf (startCarryRows v m s)) 0)
       (λ t.
       let fit : carriable g v s ≡ true = rw (geo x) at (rw t at f) in
@@ -79,7 +83,7 @@ module _ {C : Type 0} {g : Geometry} {v m : List ℕ} {past : List StoredItem} {
       (λ t. rw t (same-refl v))
 
   finish-same : SameAfter (finishCarryOf v m s .stored)
-  unfolding finishCarryOf volumeAfter
+  unfolding decided volumeAfter
   finish-same = byCases (eqb (firstOf (finishCarryRows v m s)) 0)
       (λ t.
       let q = finishes v m s (eqb-true _ _ t) in
@@ -176,17 +180,8 @@ module _ {C : Type 0} {g : Geometry} {v m : List ℕ} {past : List StoredItem} {
       (λ t. rw (stored-refused x t) (same-refl v))
 
   call-same : (c : Call) → carries c ≡ true → startFits (on m s) v c ≡ true → SameAfter (outcomeOf c v m s .stored)
-  call-same (begin page f fill) o t = absurd (true-not-false o refl)
-  call-same (load page f) o t = absurd (true-not-false o refl)
-  call-same (change page c payload) o t = absurd (true-not-false o refl)
-  call-same force o t = absurd (true-not-false o refl)
-  call-same (write page) o t = absurd (true-not-false o refl)
-  call-same (backup page b) o t = absurd (true-not-false o refl)
-  call-same (release page) o t = absurd (true-not-false o refl)
-  call-same note o t = absurd (true-not-false o refl)
-  call-same startCarry o t = start-same t
-  call-same restamp o t = restamp-same
-  call-same finishCarry o t = finish-same
+  call-same =
+      carrying (λ c. startFits (on m s) v c ≡ true → SameAfter (outcomeOf c v m s .stored)) (λ y. start-same) (λ y t. restamp-same) (λ y t. finish-same)
 
   -- ---- 1 exactly
 
@@ -199,22 +194,22 @@ module _ {C : Type 0} {g : Geometry} {v m : List ℕ} {past : List StoredItem} {
   start-one : (refusalOf (startCarryOf v m s .answer) ≡ 1) ↔ (geometryOf v .tag ≢ tagOf First)
   unfolding ownRows
   start-one =
-      let e : refusalOf (startCarryOf v m s .answer) ≡ cond (not (headed (tagOf First) v)) 1 0 = call-refusal startCarry v m s
-      ∙ rows-are x startCarry in
+      let e : refusalOf (startCarryOf v m s .answer) ≡ cond (not (headed (tagOf First) v)) 1 0 = call-refusal (StartCarry, noPayload) v m s
+      ∙ rows-are x (StartCarry, noPayload) in
       one-by (headed (tagOf First) v) 0 (λ z. omega arith) e (not-headed (tagOf First))
 
   restamp-one : (refusalOf (restampOf v m s .answer) ≡ 1) ↔ (geometryOf v .tag ≢ carryTag)
   unfolding ownRows
   restamp-one =
-      let e : refusalOf (restampOf v m s .answer) ≡ cond (not (headed carryTag v)) 1 0 = call-refusal restamp v m s ∙ rows-are x restamp in
+      let e : refusalOf (restampOf v m s .answer) ≡ cond (not (headed carryTag v)) 1 0 = call-refusal (Restamp, noPayload) v m s ∙ rows-are x (Restamp, noPayload) in
       one-by (headed carryTag v) 0 (λ z. omega arith) e (not-headed carryTag)
 
   finish-one : (refusalOf (finishCarryOf v m s .answer) ≡ 1) ↔ (geometryOf v .tag ≢ carryTag)
   unfolding ownRows
   finish-one =
       let left : ℕ = cond (oldLeft (geometryOf v) v (s .index)) 20 0 in
-      let e : refusalOf (finishCarryOf v m s .answer) ≡ cond (not (headed carryTag v)) 1 left = call-refusal finishCarry v m s
-      ∙ rows-are x finishCarry in
+      let e : refusalOf (finishCarryOf v m s .answer) ≡ cond (not (headed carryTag v)) 1 left = call-refusal (FinishCarry, noPayload) v m s
+      ∙ rows-are x (FinishCarry, noPayload) in
       one-by (headed carryTag v) left (byCases (oldLeft (geometryOf v) v (s .index)) (λ t. rw t (λ z. omega arith))
       (λ t. rw t (λ z. omega arith))) e (not-headed carryTag)
 

@@ -22,7 +22,8 @@ use Rattle.model.specs.Item.{imageLsn, validImage}
 use Rattle.model.specs.Index.{entryOf, slotUsed}
 use Rattle.model.specs.Passes.{isImage, onlyOld, onlyNew, imageCount, oldAt}
 use Rattle.model.specs.Refusals.{startCarryRows}
-use Rattle.model.specs.Calls.{StoredItem, oneItem, newHeading, backup, note}
+use Rattle.model.specs.Outcome.{StoredItem, oneItem, newHeading}
+use Rattle.model.specs.declared.command.Command.the-variants.{Backup, Note}
 use Rattle.model.specs.AbstractLog.{Logged, AbstractLog}
 use Rattle.model.specs.History.{on, off, storedBefore, pendingCarries, pageCarries, carriable}
 use Rattle.model.specs.declared.geometry.Geometry.{Geometry}

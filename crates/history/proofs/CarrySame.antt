@@ -17,10 +17,11 @@ use Rattle.model.specs.Checksum.{sealed}
 use Rattle.model.specs.Geometry.{tagOf, carryTag, withTag, pageAt, slotAt, item, storeHeading, ring, logSlot}
 use Rattle.model.specs.Item.{imageLsn, validImage}
 use Rattle.model.specs.Index.{entryOf}
-use Rattle.model.specs.Scan.{firstHeld, indexOf}
+use Rattle.model.specs.Scan.{firstHeld, indexOf, firstIn}
 use Rattle.model.specs.Repair.{View, viewOf, classIn, ownStart, backupStart, walkOf, isBelow, repairOf}
 use Rattle.model.specs.Refusals.{inspectRows}
-use Rattle.model.specs.Calls.{inspectOf, refusalOf}
+use Rattle.model.specs.Outcome.{refusalOf}
+use Rattle.model.specs.Restart.{inspectOf}
 use Rattle.model.specs.AbstractLog.{Logged}
 use Rattle.model.specs.Health.{Same}
 use Rattle.model.specs.declared.geometry.Geometry.{Geometry}
@@ -113,7 +114,7 @@ module _ {C : Type 0} (g : Geometry) (v : List ℕ) (k : List Logged) (h : Holds
     (h′ : Holds (withTag g tag) v′ k) (o′ : Noted C (withTag g tag) v′ k ns) (same : Alike g v k ns tag v′) where
   -- the run starts at 1 in both
   first-plain : firstHeld g v (length k) ≡ 1
-  unfolding firstHeld
+  unfolding firstHeld firstIn
   first-plain = rw plain
 
   few : length k ≤ g .records
@@ -125,7 +126,7 @@ module _ {C : Type 0} (g : Geometry) (v : List ℕ) (k : List Logged) (h : Holds
       rw (started g v k h ns o .held 0 b (omega arith)) (rec-at g v k h ns o 0 b .sealed-is)
 
   first-turned : 1 ≤ length k → firstHeld (withTag g tag) v′ (length k) ≡ 1
-  unfolding firstHeld
+  unfolding firstHeld firstIn
   first-turned b =
       let e : suc (length k - g .records) ≡ 1 = omega (arith, few) in
       rw (e, same .log 1, first-whole b) (once (ring (withTag g tag)))

@@ -16,7 +16,7 @@ use Rattle.model.specs.Geometry.{topNumber, geometryOf}
 use Rattle.model.specs.Index.{entryOf}
 use Rattle.model.specs.State.{frameBytes, holder, held}
 use Rattle.model.specs.Refusals.{frameBlocked}
-use Rattle.model.specs.Calls.{StoredItem, nothing, Outcome, volumeAfter, unchanged, decided}
+use Rattle.model.specs.Outcome.{StoredItem, nothing, Outcome, volumeAfter, unchanged, decided}
 use Rattle.model.specs.AbstractLog.{Logged, AbstractLog}
 use Rattle.model.specs.History.{on}
 use Rattle.model.specs.declared.geometry.Geometry.{Geometry}
@@ -43,8 +43,8 @@ pub record Ctx (C : Type 0) (g : Geometry) (v m : List ℕ) (past : List StoredI
   pub al : Alive C g v m s k w all ns
 
 -- the invariant after an outcome
-abbrev pub Kept : Type 0 → Geometry → List ℕ → List StoredItem → Outcome → AbstractLog → Type 0
-Kept C g v past o b = Inv C g (volumeAfter v (o .stored)) (o .stored ∷ past) (on (o .memory) (o .state)) b
+abbrev pub Preserved : Type 0 → Geometry → List ℕ → List StoredItem → Outcome → AbstractLog → Type 0
+Preserved C g v past o b = Inv C g (volumeAfter v (o .stored)) (o .stored ∷ past) (on (o .memory) (o .state)) b
 
 -- rows that do not refuse
 abbrev pub Codes : List Row → Type 0
@@ -150,13 +150,14 @@ module _ {C : Type 0} {g : Geometry} {v m : List ℕ} {past : List StoredItem} {
         ap (λ (y : Entry). y .durable) e,
       )
 
-  pub keep-same : (an : Answer) → Kept C g v past (unchanged an m s) (record { durable = k; pending = w })
+  pub keep-same : (an : Answer) → Preserved C g v past (unchanged an m s) (record { durable = k; pending = w })
   unfolding volumeAfter
   keep-same an =
       record { ns = x .ns; holds = x .hs; noted = x .no; past-ok = past-cons g k past nothing tt (x .ps); live = (x .all, x .al) }
 
   -- a call by its table
-  pub keep-decided : (rows : List Row) (done : Outcome) (b : AbstractLog) → (firstOf rows ≡ 0 → Kept C g v past done b)
-      → Kept C g v past (decided rows m s done) (cond (not (eqb (firstOf rows) 0)) (record { durable = k; pending = w }) b)
+  pub keep-decided : (rows : List Row) (done : Outcome) (b : AbstractLog) → (firstOf rows ≡ 0 → Preserved C g v past done b)
+      → Preserved C g v past (decided rows m s done) (cond (not (eqb (firstOf rows) 0)) (record { durable = k; pending = w }) b)
+  unfolding decided
   keep-decided rows done b f =
       byCases (eqb (firstOf rows) 0) (λ t. rw t (f (eqb-true (firstOf rows) 0 t))) (λ t. rw t (keep-same (Refused (firstOf rows))))

@@ -7,7 +7,7 @@ use Prim.Native.Nat.{ℕ, suc, _≤_}
 use lib.ListN.{length}
 use Rattle.laws.proofs.Ring.{Run}
 use Rattle.model.specs.Checksum.{sealed}
-use Rattle.model.specs.Geometry.{pageAt, slotAt, recordAt, noteAt, item, ring, noteRing, most, mostNotes, logSlot, noteSlot}
+use Rattle.model.specs.Geometry.{pageAt, slotAt, recordAt, noteAt, item, ring, most, mostNotes, logSlot, noteSlot}
 use Rattle.model.specs.Item.{imageLsn, validImage, noteBytes}
 use Rattle.model.specs.AbstractLog.{Logged}
 use Rattle.model.specs.declared.geometry.Geometry.{Geometry}
@@ -41,7 +41,7 @@ abbrev pub NoteTorn : Geometry → List ℕ → ℕ → Type 0
 NoteTorn g v i = sealed 12 (item g v (noteSlot g (suc i))) ≡ false
 
 abbrev pub NoteRun : Geometry → List ℕ → List Note → Type 0
-NoteRun g v ns = Run (noteRing g) (g .notes) (length ns) (NoteStands g v ns) (NoteTorn g v) (Later ns)
+NoteRun g v ns = Run (ring g) (g .notes) (length ns) (NoteStands g v ns) (NoteTorn g v) (Later ns)
 
 -- the volume is one for the list l of changes
 pub record Holds (g : Geometry) (v : List ℕ) (l : List Logged) : Type 0 where

@@ -19,7 +19,8 @@ use Rattle.model.specs.Index.{emptyEntry, slotUsed}
 use Rattle.model.specs.Scan.{indexOf}
 use Rattle.model.specs.State.{validMemory, frameCount, emptyFrame}
 use Rattle.model.specs.Refusals.{restartRows}
-use Rattle.model.specs.Calls.{StoredItem, restartState, restartOf}
+use Rattle.model.specs.Outcome.{StoredItem, decided}
+use Rattle.model.specs.Restart.{restartState, restartOf}
 use Rattle.model.specs.AbstractLog.{Logged, AbstractLog, forget}
 use Rattle.model.specs.Passes.{isImage, validAsNoted, passesAt}
 use Rattle.model.specs.History.{Power, off, on, restarted, storedBefore}
@@ -86,7 +87,7 @@ module _ {C : Type 0} (g : Geometry) (v : List ℕ) (k : List Logged) (h : Holds
 pub inv-restart : {C : Type 0} (g : Geometry) (v : List ℕ) (past : List StoredItem) (x : Power) (b : AbstractLog) (m : List ℕ)
     → Inv C g v past x b
     → Inv C g v past (restarted v m) (cond (eqb (firstOf (restartRows v m)) 0) (forget b) b)
-unfolding restartOf
+unfolding restartOf decided
 inv-restart g v past x b m i =
     byCases (eqb (firstOf (restartRows v m)) 0)
     (λ t.

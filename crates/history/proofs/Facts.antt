@@ -26,7 +26,7 @@ use Rattle.history.proofs.Inv.{Inv}
 use Rattle.history.proofs.Context.{Ctx, entry-is, last-entry, durable-last, found-frame}
 use Rattle.history.proofs.WellFormed.{state-ok, memory-ok}
 use Rattle.history.proofs.Refusals.{call-ordinary, load-durable, restart-right, restart-wrong, inspect-right, inspect-wrong, inspect-durable}
-use Rattle.history.proofs.LetGo.{releases-is, lets-go}
+use Rattle.history.proofs.Eviction.{releases-is, evicts}
 use Rattle.history.proofs.Reached.{Undamaged, present, tied, live}
 
 -- a replay in the words of the facts
@@ -150,7 +150,7 @@ facts =
       counts = counts-are;
       live = live-page;
       releases = releases-is;
-      letsGo = lets-go;
+      evicts = evicts;
       slots = λ h l p q p1 p2 q1 q2 nz e.
           let a : entryOf (indexOf (headingOf h) (volumeOf h)) p .slot ≡ markAt p (i h l .ns) (length (i h l .ns)) .slot =
           ap (λ (y : Entry). y .slot) (entry h l p p1 p2) in

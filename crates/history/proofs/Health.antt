@@ -14,10 +14,12 @@ use Rattle.model.specs.Tables.{firstOf, within}
 use Rattle.model.specs.Geometry.{pageAt, item, geometryOf}
 use Rattle.model.specs.Item.{imageLsn, validImage}
 use Rattle.model.specs.Index.{entryOf}
-use Rattle.model.specs.Scan.{durableCount, firstHeld, indexOf}
-use Rattle.model.specs.Repair.{View, classOf, classIn, viewOf, repairOf}
+use Rattle.model.specs.Scan.{indexOf}
+use Rattle.model.specs.Repair.{View, classOf, classIn, scannedView, stateView, repairOf}
 use Rattle.model.specs.Refusals.{inspectRows, loadRows}
-use Rattle.model.specs.Calls.{inspectOf, loadOf, refusalOf}
+use Rattle.model.specs.Outcome.{refusalOf}
+use Rattle.model.specs.Calls.{loadOf}
+use Rattle.model.specs.Restart.{inspectOf}
 use Rattle.model.specs.History.{on}
 use Rattle.model.specs.Claim.{History, Legal, reached, inspection, Agree}
 use Rattle.model.specs.Health.{Same, NeverAhead, SameAgrees}
@@ -60,8 +62,7 @@ module _ (h : History) (legal : Legal h) where
       let none = none-at (inspectRows (volumeOf h) p (length buffer)) (omega arith) (q .0) in
       let b = within-bounds (headingOf h .pages) p (not-false _ (none 2)) in
       subst (λ (y : Repair). y .class ≢ Ahead) (q .1)
-      (page-not-ahead p (b .0) (rw pages-are at (b .1)) (viewOf (headingOf h) (volumeOf h) (firstHeld (headingOf h) (volumeOf h)
-      (durableCount (headingOf h) (volumeOf h))) (entryOf (indexOf (headingOf h) (volumeOf h)) p) p) refl refl)
+      (page-not-ahead p (b .0) (rw pages-are at (b .1)) (scannedView (headingOf h) (volumeOf h) p) refl refl)
 
   loads-not : (m : List ℕ) (s : State) → reached h .power ≡ on m s → (p f : ℕ) (r : Repair)
       → loadOf (volumeOf h) m s p f .answer ≡ Repaired r → r .class ≢ Ahead
@@ -72,8 +73,7 @@ module _ (h : History) (legal : Legal h) where
       let b = within-bounds (headingOf h .pages) p (not-false _ (none 3)) in
       let hi : p ≤ h .pages = rw pages-are at (b .1) in
       subst (λ (y : Repair). y .class ≢ Ahead) (q .1)
-      (page-not-ahead p (b .0) hi (viewOf (headingOf h) (volumeOf h) (firstHeld (headingOf h) (volumeOf h) (s .durable))
-      (entryOf (s .index) p) p) refl (facts .entries h legal m s o p (b .0) hi .durable))
+      (page-not-ahead p (b .0) hi (stateView (headingOf h) (volumeOf h) s p) refl (facts .entries h legal m s o p (b .0) hi .durable))
 
 pub never-ahead : NeverAhead
 never-ahead = record { inspects = inspects-not; loads = loads-not }

@@ -13,8 +13,8 @@ use Rattle.model.specs.Checksum.{imageSealed, sealImage}
 use Rattle.model.specs.Geometry.{topNumber, Place, pageAt, slotAt, width, store}
 use Rattle.model.specs.Item.{imageLsn, validImage, frameImage, isWritten}
 use Rattle.model.specs.Index.{slotUsed}
-use Rattle.model.specs.State.{frameBytes, holder, lastNote}
-use Rattle.model.specs.Calls.{StoredItem, oneItem}
+use Rattle.model.specs.State.{frameBytes, holder}
+use Rattle.model.specs.Outcome.{StoredItem, oneItem}
 use Rattle.model.specs.AbstractLog.{Logged}
 use Rattle.model.specs.History.{itemSealed}
 use Rattle.model.specs.declared.geometry.Geometry.{Geometry}
@@ -103,7 +103,7 @@ module _ {C : Type 0} {g : Geometry} {v m : List ℕ} {past : List StoredItem} {
 
     -- the note that a write or a backup leaves
     abbrev noteFor : ℕ → ℕ → Note
-    noteFor kd sl = record { number = lastNote s + 1; page = p; kind = kd; slot = sl; lsn = imageLsn (frameBytes m (holder s p)) }
+    noteFor kd sl = record { number = s .notes + 1; page = p; kind = kd; slot = sl; lsn = imageLsn (frameBytes m (holder s p)) }
 
     mark-le : (markAt p (x .ns) (length (x .ns)) .written ≤ imageLsn (frameBytes m (holder s p)))
         × (markAt p (x .ns) (length (x .ns)) .backup ≤ imageLsn (frameBytes m (holder s p)))

@@ -19,7 +19,8 @@ use Rattle.model.specs.Scan.{firstHeld, gone, indexOf}
 use Rattle.model.specs.Claim.{startStands}
 use Rattle.model.specs.Repair.{viewOf, walkOf, isBelow, rebuilt, rebuiltBody}
 use Rattle.model.specs.Refusals.{inspectRows}
-use Rattle.model.specs.Calls.{inspectOf, refusalOf}
+use Rattle.model.specs.Outcome.{refusalOf}
+use Rattle.model.specs.Restart.{inspectOf}
 use Rattle.model.specs.AbstractLog.{Logged}
 use Rattle.model.specs.declared.geometry.Geometry.{Geometry}
 use Rattle.model.specs.declared.item.Note.{Note}

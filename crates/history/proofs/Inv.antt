@@ -2,7 +2,7 @@
 -- and state say.
 use mathlib.Core.Path.{_≡_, refl, sym, ap, _∙_, subst}
 use mathlib.Core.Logic.{_≢_, ⊎-elim}
-use mathlib.Core.Bool.{true, false, _&&_}
+use mathlib.Core.Bool.{true, false, cond, _&&_}
 use mathlib.Core.List.{List, [], _∷_, _++_}
 use Prim.Native.Nat.{ℕ, suc, _+_, _-_, _*_, _≤_, _<_}
 use native.Mathlib.Omega.{arith}
@@ -10,15 +10,16 @@ use lib.ListN.{length, getD, length-append, List·getD-append}
 use lib.Dec.{eqb}
 use borrow.Author.Tests.{eqb-true}
 use Rattle.laws.proofs.Tables.{and-left, and-right, or-cases, true-not-false}
+use Rattle.laws.proofs.Parts.{same-bytes}
 use Rattle.laws.proofs.Ring.{Displaced}
 use Rattle.model.specs.Bytes.{sameBytes}
 use Rattle.model.specs.Geometry.{Place, pageAt, slotAt, recordAt, noteAt, item, most, mostNotes}
 use Rattle.model.specs.Item.{imagePage, frameImage, isWritten}
 use Rattle.model.specs.Passes.{isImage}
 use Rattle.model.specs.State.{frameBytes, pendingBytes, emptyFrame}
-use Rattle.model.specs.Calls.{StoredItem, nothing, oneItem, newHeading}
+use Rattle.model.specs.Outcome.{StoredItem, nothing, oneItem, newHeading}
 use Rattle.model.specs.AbstractLog.{Logged, AbstractLog}
-use Rattle.model.specs.History.{Power, off, on, samePlace, storedBefore}
+use Rattle.model.specs.History.{Power, off, on, placeNumbers, samePlace, storedBefore}
 use Rattle.model.specs.declared.geometry.Geometry.{Geometry}
 use Rattle.model.specs.declared.item.Note.{Note}
 use Rattle.model.specs.declared.state.Frame.{Frame}
@@ -66,31 +67,23 @@ ItemFine g k (newHeading tag) = Unit {0}
 pub past-append : (g : Geometry) (k r : List Logged) (past : List StoredItem) → Past g k past → Past g (k ++ r) past
 past-append g k r past f at xs i e = image-append g k r xs (f at xs i e)
 
-same-bytes : (xs ys : List ℕ) → sameBytes xs ys ≡ true → xs ≡ ys
-unfolding sameBytes
-same-bytes [] [] h = refl
-same-bytes [] (y ∷ ys) h = let z : _≡_ {A = ℕ} 0 1 = cc in absurd (omega arith)
-same-bytes (x ∷ xs) [] h = let z : _≡_ {A = ℕ} 0 1 = cc in absurd (omega arith)
-same-bytes (x ∷ xs) (y ∷ ys) h =
-    rw (eqb-true x y (and-left (eqb x y) (sameBytes xs ys) h), same-bytes xs ys (and-right (eqb x y) (sameBytes xs ys) h))
+placeOf : ℕ → ℕ → Place
+placeOf n i = cond (eqb n 0) (pageAt i) (cond (eqb n 1) (slotAt i) (cond (eqb n 2) (recordAt i) (noteAt i)))
+
+place-back : (p : Place) → placeOf (placeNumbers p .0) (placeNumbers p .1) ≡ p
+unfolding placeOf
+place-back (pageAt i) = refl
+place-back (slotAt i) = refl
+place-back (recordAt i) = refl
+place-back (noteAt i) = refl
 
 same-place : (p q : Place) → samePlace p q ≡ true → p ≡ q
-same-place (pageAt i) (pageAt j) h = ap pageAt (eqb-true i j h)
-same-place (pageAt i) (slotAt j) h = absurd (true-not-false h refl)
-same-place (pageAt i) (recordAt j) h = absurd (true-not-false h refl)
-same-place (pageAt i) (noteAt j) h = absurd (true-not-false h refl)
-same-place (slotAt i) (pageAt j) h = absurd (true-not-false h refl)
-same-place (slotAt i) (slotAt j) h = ap slotAt (eqb-true i j h)
-same-place (slotAt i) (recordAt j) h = absurd (true-not-false h refl)
-same-place (slotAt i) (noteAt j) h = absurd (true-not-false h refl)
-same-place (recordAt i) (pageAt j) h = absurd (true-not-false h refl)
-same-place (recordAt i) (slotAt j) h = absurd (true-not-false h refl)
-same-place (recordAt i) (recordAt j) h = ap recordAt (eqb-true i j h)
-same-place (recordAt i) (noteAt j) h = absurd (true-not-false h refl)
-same-place (noteAt i) (pageAt j) h = absurd (true-not-false h refl)
-same-place (noteAt i) (slotAt j) h = absurd (true-not-false h refl)
-same-place (noteAt i) (recordAt j) h = absurd (true-not-false h refl)
-same-place (noteAt i) (noteAt j) h = ap noteAt (eqb-true i j h)
+same-place p q h =
+    let kinds = eqb (placeNumbers p .0) (placeNumbers q .0) in
+    let numbers = eqb (placeNumbers p .1) (placeNumbers q .1) in
+    let a : placeNumbers p .0 ≡ placeNumbers q .0 = eqb-true _ _ (and-left kinds numbers h) in
+    let b : placeNumbers p .1 ≡ placeNumbers q .1 = eqb-true _ _ (and-right kinds numbers h) in
+    sym (place-back p) ∙ (ap (λ (n : ℕ). placeOf n (placeNumbers p .1)) a ∙ (ap (placeOf (placeNumbers q .0)) b ∙ place-back q))
 
 pub past-cons : (g : Geometry) (k : List Logged) (past : List StoredItem) (x : StoredItem) → ItemFine g k x
     → Past g k past → Past g k (x ∷ past)

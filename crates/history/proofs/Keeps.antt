@@ -16,9 +16,10 @@ use Rattle.model.specs.Checksum.{sealImage}
 use Rattle.model.specs.Geometry.{pageAt, slotAt, recordAt, noteAt, most, logSlot, noteSlot, geometryOf, store}
 use Rattle.model.specs.Item.{imageLsn, recordOf, noteBytes}
 use Rattle.model.specs.Index.{slotUsed}
-use Rattle.model.specs.State.{frameBytes, pendingBytes, holder, notePending, lastNote, notesFull}
+use Rattle.model.specs.State.{frameBytes, pendingBytes, holder, notePending, notesFull}
 use Rattle.model.specs.Refusals.{pageDirty, writeRows, backupRows}
-use Rattle.model.specs.Calls.{StoredItem, oneItem, Outcome, volumeAfter, unchanged, withFrame, withFrames, nextNote, forcedState, notedState, noteStored}
+use Rattle.model.specs.Outcome.{StoredItem, oneItem, Outcome, volumeAfter, unchanged}
+use Rattle.model.specs.Effects.{withFrame, withFrames, nextNote, forcedState, notedState, noteStored}
 use Rattle.model.specs.AbstractLog.{Logged, moveFirst}
 use Rattle.model.specs.History.{on}
 use Rattle.model.specs.declared.geometry.Geometry.{Geometry}
@@ -40,7 +41,7 @@ use Rattle.history.proofs.Stores.{record-size, force-holds, force-noted
 use Rattle.history.proofs.NoteStores.{note-holds, note-noted, note-torn, spare-rises}
 use Rattle.history.proofs.LogSteps.{oldest-is, oldest-fair, oldest-page, log-force, index-force, index-note}
 use Rattle.history.proofs.FrameSteps.{frames-clean, frames-later}
-use Rattle.history.proofs.Context.{Ctx, Kept, passed, in-range, sized, geo, len, Found, found-frame, keep-same}
+use Rattle.history.proofs.Context.{Ctx, Preserved, passed, in-range, sized, geo, len, Found, found-frame, keep-same}
 use Rattle.history.proofs.Images.{StoreOk, sealed-size, sealed-valid, sealed-lsn, image-is, write-note, backup-note, write-store, backup-store}
 
 record-page : (r : List ℕ) → field 2 8 r ≡ recordOf r .page
@@ -105,7 +106,7 @@ module _ {C : Type 0} {g : Geometry} {v m : List ℕ} {past : List StoredItem} {
         ∙ ap (λ (y : Logged). y .page) (atA k c)))
 
     keep-forced : (an : Answer)
-        → Kept C g v past (record {
+        → Preserved C g v past (record {
           answer = an;
           state = forcedState s (geometryOf v .pages) (field 2 8 (pendingBytes m (s .durable + 1)));
           memory = m;
@@ -156,9 +157,9 @@ module _ {C : Type 0} {g : Geometry} {v m : List ℕ} {past : List StoredItem} {
   pub some-pending : (c : Logged) (r : List Logged) → w ≡ c ∷ r → eqb (s .pending) 0 ≡ false
   some-pending c r e = ne-eqb (s .pending) 0 (λ z. omega (arith, x .al .log .pending-is, ap length e))
 
-  pub keep-force : (w′ : List Logged) → w ≡ w′ → Kept C g v past forced (moveFirst k w)
+  pub keep-force : (w′ : List Logged) → w ≡ w′ → Preserved C g v past forced (moveFirst k w)
   keep-force [] e = rw (none-pending e, e)
-      (subst (λ (z : List Logged). Kept C g v past (unchanged Nothing m s) (record { durable = k; pending = z })) e (keep-same x Nothing))
+      (subst (λ (z : List Logged). Preserved C g v past (unchanged Nothing m s) (record { durable = k; pending = z })) e (keep-same x Nothing))
   keep-force (c ∷ r) e = rw (some-pending c r e, e) (keep-forced c r e Done)
 
   -- ---- Write
@@ -193,7 +194,7 @@ module _ {C : Type 0} {g : Geometry} {v m : List ℕ} {past : List StoredItem} {
       })
       (unchanged Nothing m s)
 
-  pub keep-write : (p : ℕ) → Writes p → Kept C g v past (written p) (record { durable = k; pending = w })
+  pub keep-write : (p : ℕ) → Writes p → Preserved C g v past (written p) (record { durable = k; pending = w })
   unfolding volumeAfter
   keep-write p f = byCases (pageDirty s p) (λ d. rw (d, geo x) (go d)) (λ d. rw d (keep-same x Nothing))
     where
@@ -259,7 +260,7 @@ module _ {C : Type 0} {g : Geometry} {v m : List ℕ} {past : List StoredItem} {
       }
 
   pub keep-backup : (p b : ℕ) → Backs p b
-      → Kept C g v past (record {
+      → Preserved C g v past (record {
         answer = Done;
         state = withFrames s (s .frames) (nextNote s p 2 b (imageLsn (frameBytes m (holder s p))));
         memory = m;
@@ -302,9 +303,9 @@ module _ {C : Type 0} {g : Geometry} {v m : List ℕ} {past : List StoredItem} {
   -- ---- Note
 
   pub note-store : (y : Note) → PendingOk C g v k (x .ns) (Present y)
-      → StoreOk C g v past k (x .ns) (noteSlot g (lastNote s + 1)) (noteBytes y) k (x .ns ++ (y ∷ []))
+      → StoreOk C g v past k (x .ns) (noteSlot g (s .notes + 1)) (noteBytes y) k (x .ns ++ (y ∷ []))
   note-store y t =
-      let e : lastNote s + 1 ≡ suc (length (x .ns)) = omega (arith, x .al .notes-is) in
+      let e : s .notes + 1 ≡ suc (length (x .ns)) = omega (arith, x .al .notes-is) in
       rw e (record {
         holds′ = note-holds g v k (x .hs) (x .ns) (x .no) (noteBytes y) (t .3) (note-length y);
         noted′ = note-noted g v k (x .hs) (x .ns) (x .no) y (t .0) (t .1) (t .3) (t .2) (t .4);
@@ -317,7 +318,7 @@ module _ {C : Type 0} {g : Geometry} {v m : List ℕ} {past : List StoredItem} {
       })
 
   pub keep-note : (y : PendingNote) → PendingOk C g v k (x .ns) y
-      → Kept C g v past (noteStored v m s y) (record { durable = k; pending = w })
+      → Preserved C g v past (noteStored v m s y) (record { durable = k; pending = w })
   unfolding volumeAfter notedState
   keep-note Absent t = keep-same x Nothing
   keep-note (Present y) t =

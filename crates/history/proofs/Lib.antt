@@ -35,12 +35,10 @@ pub mod CarrySame
 pub mod WellFormed
 pub mod Theorem
 pub mod Refusals
-pub mod LetGo
+pub mod Eviction
 pub mod CarryClaims
 pub mod Facts
 pub mod Health
 pub mod Lost
 pub mod Overwritten
 pub mod Rings
-pub mod Archive
-pub mod Mirror

@@ -11,14 +11,15 @@ use Rattle.laws.proofs.Tables.{byCases, true-not-false}
 use Rattle.model.specs.Tables.{Row, firstOf, within}
 use Rattle.model.specs.Bytes.{splice}
 use Rattle.model.specs.Geometry.{topNumber, geometryOf, validVolume}
-use Rattle.model.specs.Scan.{firstHeld, gone, indexOf}
+use Rattle.model.specs.Scan.{gone, indexOf}
 use Rattle.model.specs.Claim.{startStands}
 use Rattle.model.specs.Item.{frameImage}
 use Rattle.model.specs.Index.{entryOf}
-use Rattle.model.specs.Repair.{viewOf, walkOf, isBroken, isBelow, rebuilt}
+use Rattle.model.specs.Repair.{walkOf, isBroken, isBelow, rebuilt, stateView}
 use Rattle.model.specs.State.{frameAt, held, frameCount, validMemory, wellFormed, blank}
 use Rattle.model.specs.Refusals.{loadRows, frameBlocked, chainBroken, chainBelow}
-use Rattle.model.specs.Calls.{StoredItem, nothing, volumeAfter, withFrame, withFrames}
+use Rattle.model.specs.Outcome.{StoredItem, nothing, volumeAfter}
+use Rattle.model.specs.Effects.{withFrame, withFrames}
 use Rattle.model.specs.AbstractLog.{Logged}
 use Rattle.model.specs.declared.geometry.Geometry.{Geometry}
 use Rattle.model.specs.declared.answer.Answer.{Answer}
@@ -32,7 +33,7 @@ use Rattle.history.proofs.Views.{view-unbroken, view-body, view-whole, 
 use Rattle.history.proofs.Entries.{markAt, entryFrom}
 use Rattle.history.proofs.NoteScan.{index-is}
 use Rattle.history.proofs.LogScan.{first}
-use Rattle.history.proofs.Context.{Ctx, Kept, Passed, passed, in-range, sized, geo, fair, few, body-size, entry-is, last-entry, durable-last, durable-page, durable-body, nowhere, unblocked}
+use Rattle.history.proofs.Context.{Ctx, Preserved, Passed, passed, in-range, sized, geo, fair, few, body-size, entry-is, last-entry, durable-last, durable-page, durable-body, nowhere, unblocked}
 
 -- the rows before a row whose number is answered do not hold, and it does
 abbrev pub Others : ℕ → List Row → Type 0
@@ -69,13 +70,11 @@ module _ {C : Type 0} {g : Geometry} {v m : List ℕ} {past : List StoredItem} {
   module _ (page : ℕ) (lo : 1 ≤ page) (hi : page ≤ g .pages) (st : Settled (x .all) (length k) page) (nz : lastOf page (x .all) ≢ 0) where
     abbrev Restored : ℕ → Type 0
     Restored p =
-        (isBroken (walkOf g p (viewOf g v (firstHeld g v (s .durable)) (entryOf (s .index) p) p) .stop) ≡ false)
-        × (isBelow (walkOf g p (viewOf g v (firstHeld g v (s .durable)) (entryOf (s .index) p) p) .stop) ≡ false
-        → rebuilt g p (viewOf g v (firstHeld g v (s .durable)) (entryOf (s .index) p) p)
-        ≡ frameImage p (lastOf p (x .all)) (bodyOf p (x .all)))
-        × (gone g v ≡ false → isBelow (walkOf g p (viewOf g v (firstHeld g v (s .durable)) (entryOf (s .index) p) p) .stop) ≡ false)
-        × (startStands g v (entryOf (indexOf g v) p) p ≡ true
-        → isBelow (walkOf g p (viewOf g v (firstHeld g v (s .durable)) (entryOf (s .index) p) p) .stop) ≡ false)
+        (isBroken (walkOf g p (stateView g v s p) .stop) ≡ false)
+        × (isBelow (walkOf g p (stateView g v s p) .stop) ≡ false
+        → rebuilt g p (stateView g v s p) ≡ frameImage p (lastOf p (x .all)) (bodyOf p (x .all)))
+        × (gone g v ≡ false → isBelow (walkOf g p (stateView g v s p) .stop) ≡ false)
+        × (startStands g v (entryOf (indexOf g v) p) p ≡ true → isBelow (walkOf g p (stateView g v s p) .stop) ≡ false)
 
     restored : (n : ℕ) → lastOf page (x .all) ≡ n → Restored page
     restored zero q = absurd (nz q)
@@ -96,7 +95,7 @@ module _ {C : Type 0} {g : Geometry} {v m : List ℕ} {past : List StoredItem} {
     load-unbroken = restored (lastOf page (x .all)) refl .0
 
     pub load-image : chainBelow g v s page ≡ false
-        → rebuilt g page (viewOf g v (firstHeld g v (s .durable)) (entryOf (s .index) page) page)
+        → rebuilt g page (stateView g v s page)
         ≡ frameImage page (lastOf page (x .all)) (bodyOf page (x .all))
     load-image = restored (lastOf page (x .all)) refl .1
 
@@ -225,11 +224,11 @@ module _ {C : Type 0} {g : Geometry} {v m : List ℕ} {past : List StoredItem} {
       true-not-false (load-exact page (l .low) (l .high) (l .settled) (l .some) .1 u) (loads-above page f e)
 
   pub keep-load : (page f : ℕ) (an : Answer) (t : Bool) → firstOf (loadRows v m s page f) ≡ 0
-      → Kept C g v past (record {
+      → Preserved C g v past (record {
         answer = an;
         state = withFrames s (withFrame s f page t) (s .note);
         memory = splice m (frameAt f) (rebuilt (geometryOf v) page
-            (viewOf (geometryOf v) v (firstHeld (geometryOf v) v (s .durable)) (entryOf (s .index) page) page));
+            (stateView (geometryOf v) v s page));
         stored = nothing;
       }) (record { durable = k; pending = w })
   unfolding volumeAfter
@@ -242,7 +241,7 @@ module _ {C : Type 0} {g : Geometry} {v m : List ℕ} {past : List StoredItem} {
       rw (geo x, im) (go l (frameImage page (lastOf page (x .all)) (bodyOf page (x .all))) sz refl)
     where
       go : Loaded page f → (image : List ℕ) → length image ≡ 256 → image ≡ frameImage page (lastOf page (x .all)) (bodyOf page (x .all))
-          → Kept C g v past (record {
+          → Preserved C g v past (record {
             answer = an;
             state = withFrames s (withFrame s f page t) (s .note);
             memory = splice m (frameAt f) image;

@@ -17,12 +17,13 @@ use Rattle.model.specs.Tables.{within}
 use Rattle.model.specs.Bytes.{field, part, allZero}
 use Rattle.model.specs.Checksum.{sealed}
 use Rattle.model.specs.Change.{kindOf}
-use Rattle.model.specs.Geometry.{recordAt, start, item, ring, logSlot}
+use Rattle.model.specs.Geometry.{tagOf, recordAt, start, item, ring, logSlot}
 use Rattle.model.specs.Item.{recordOf, recordFor}
 use Rattle.model.specs.Index.{entryOf}
-use Rattle.model.specs.Scan.{restZero, logRecord, durableCount, firstHeld, logIndex, recordFits, validLog, gone, runIndex}
+use Rattle.model.specs.Scan.{logRecord, durableCount, firstHeld, logIndex, recordFits, validLog, gone, runIndex, countIn, firstIn}
 use Rattle.model.specs.AbstractLog.{Logged}
 use Rattle.model.specs.declared.geometry.Geometry.{Geometry}
+use Rattle.model.specs.declared.geometry.Heading.the-variants.{Second}
 use Rattle.model.specs.declared.item.Note.{Note}
 use Rattle.model.specs.declared.item.LogRecord.{LogRecord}
 use Rattle.model.specs.declared.state.Entry.{Entry}
@@ -30,7 +31,7 @@ use Rattle.history.proofs.Logs.{at, lastAt, last-hit, last-miss, last-l
 use Rattle.history.proofs.Entries.{noMark, entryFrom, Tabled, tabled-start, tabled-set}
 use Rattle.history.proofs.Leaf.{RecordIs}
 use Rattle.history.proofs.Records.{recOf, recOf-is}
-use Rattle.history.proofs.Sections.{Sized, volume-sized, volume-size, most-high, most-plain, rest-zero}
+use Rattle.history.proofs.Sections.{Sized, volume-sized, volume-size, most-high, most-plain}
 use Rattle.history.proofs.Runs.{section-start, section-count, section-ends}
 use Rattle.history.proofs.Disk.{Stands, Spare, Holds, Noted}
 
@@ -67,7 +68,7 @@ suc-add f c = omega arith
 
 -- slots are written in order of number, so a ring of one slot holds its last item
 ring-two : (g : Geometry) → ring g ≡ true → 2 ≤ g .records
-ring-two g t = leb-true 2 (g .records) (and-right (eqb (g .tag) 0x32) (leb 2 (g .records)) t)
+ring-two g t = leb-true 2 (g .records) (and-right (eqb (g .tag) (tagOf Second)) (leb 2 (g .records)) t)
 
 module _ {C : Type 0} (g : Geometry) (v : List ℕ) (l : List Logged) (h : Holds g v l) (ns : List Note) (o : Noted C g v l ns) where
   sz : Sized g
@@ -81,7 +82,7 @@ module _ {C : Type 0} (g : Geometry) (v : List ℕ) (l : List Logged) (h : Holds
   log-room t = omega (arith, h .room, most-plain g sz t)
 
   log-start : (f : ℕ) × (firstHeld g v (length l) ≡ suc f) × Start (g .records) (length l) f (Stands g v l) (Spare l ns)
-  unfolding firstHeld
+  unfolding firstHeld firstIn
   log-start =
       section-start g v recordAt 60 (g .records) (length l) (ring g) (recOf l) (Spare l ns) (o .run)
       (λ i b. rec-at i b .sealed-is) log-room (λ a. sz .l-low)
@@ -113,14 +114,11 @@ module _ {C : Type 0} (g : Geometry) (v : List ℕ) (l : List Logged) (h : Holds
       fails-zero 60 64 (item g v (recordAt i)) (item-length g v (volume-size g v (h .vol)) (recordAt i) (a, b)) (omega arith) z
 
   pub durable-count : durableCount g v ≡ length l
-  unfolding durableCount
+  unfolding durableCount countIn
   durable-count =
       section-count g v recordAt 60 (g .records) (length l) (ring g) (recOf l) (Spare l ns) (o .run)
       (λ i b. rec-at i b .sealed-is) log-room (λ a. sz .l-low)
       log-number log-top (h .tail) log-zeros (start g (recordAt 1)) (record-part g v)
-
-  log-rest : restZero 64 (g .records) v (start g (recordAt 1)) (length l) ≡ true
-  log-rest = rest-zero 64 (g .records) v (start g (recordAt 1)) (length l) (λ i a b. rw (record-part g v i) (h .tail .rest (suc i) a b))
 
   -- record i + 1 as it is read
   pub record-read : (i : ℕ) → i < length l → first ≤ i
@@ -178,10 +176,9 @@ module _ {C : Type 0} (g : Geometry) (v : List ℕ) (l : List Logged) (h : Holds
       rw (durable-count, first-is) (and-both
       (every-all (λ i. recordFits g v (suc first) (logIndex g v (suc first) i) (suc first + i)) (suc (length l) - suc first)
       (λ i b. record-fits i (omega arith)))
-      (and-both
       (section-ends g v recordAt 60 (g .records) (length l) (ring g) (recOf l) (Spare l ns) (o .run)
       (λ i b. rec-at i b .sealed-is) log-room (λ a. sz .l-low)
-      log-number log-top (h .tail) log-zeros (start g (recordAt 1)) (record-part g v) first (started .ends)) log-rest))
+      log-number log-top (h .tail) log-zeros (start g (recordAt 1)) (record-part g v) first (started .ends)))
 
   pub run-index : Tabled (runIndex g v) (logEntry (length l))
   unfolding logIndex
@@ -207,8 +204,3 @@ module _ {C : Type 0} (g : Geometry) (v : List ℕ) (l : List Logged) (h : Holds
       let r : ltb 1 (suc first) ≡ false = rw (lt-ltb 0 (length l) a) at q in
       let b : suc first ≤ 1 = ltb-false 1 (suc first) r in
       omega arith
-
-  -- it has left where the run starts later
-  pub is-gone : 1 ≤ first → 1 ≤ length l → gone g v ≡ true
-  unfolding gone
-  is-gone a b = rw (durable-count, first-is) (and-both (lt-ltb 0 (length l) b) (lt-ltb 1 (suc first) (omega arith)))

@@ -14,7 +14,7 @@ use Rattle.laws.proofs.Tables.{byCases, and-right, and-both, or-left, or-right,
 use Rattle.model.specs.Geometry.{ring, geometryOf, slotAt, item}
 use Rattle.model.specs.Item.{imageLsn}
 use Rattle.model.specs.Index.{entryOf}
-use Rattle.model.specs.Scan.{durableCount, firstHeld, indexOf, gone}
+use Rattle.model.specs.Scan.{durableCount, firstHeld, indexOf, gone, firstIn}
 use Rattle.model.specs.AbstractLog.{Logged}
 use Rattle.model.specs.History.{Power, on}
 use Rattle.model.specs.Carry.{startsIn}
@@ -104,7 +104,7 @@ module _ (h : History) (legal : Legal h) where
   -- ---- no ring
 
   pub not-gone : ring (present h) ≡ false → Gone h → ⊥
-  unfolding gone firstHeld
+  unfolding gone firstHeld firstIn
   not-gone t z =
       let y : (ltb 0 (durableCount (present h) (volumeOf h)) && ltb 1 1) ≡ true = rw (heading, t) at z in
       true-not-false (and-right (ltb 0 (durableCount (present h) (volumeOf h))) (ltb 1 1) y) (le-ltb 1 1 (omega arith))

@@ -15,10 +15,10 @@ use Rattle.laws.proofs.Ring.{Start}
 use Rattle.laws.proofs.Places.{item-length}
 use Rattle.model.specs.Bytes.{field, part, allZero}
 use Rattle.model.specs.Checksum.{sealed}
-use Rattle.model.specs.Geometry.{noteAt, start, item, noteRing, topNumber, noteSlot}
+use Rattle.model.specs.Geometry.{noteAt, start, item, ring, topNumber, noteSlot}
 use Rattle.model.specs.Item.{noteOf, noteBytes, noteLayout, isWritten}
 use Rattle.model.specs.Index.{entryRow, enterNote, settled}
-use Rattle.model.specs.Scan.{restZero, logRecord, noteRecord, noteCount, firstNote, runIndex, noteIndex, noteFollows, noteFits, validNotes, indexOf}
+use Rattle.model.specs.Scan.{logRecord, noteRecord, noteCount, firstNote, runIndex, noteIndex, noteFollows, noteFits, validNotes, indexOf, countIn, firstIn}
 use Rattle.model.specs.AbstractLog.{Logged}
 use Rattle.model.specs.declared.geometry.Geometry.{Geometry}
 use Rattle.model.specs.declared.item.Note.{Note}
@@ -28,7 +28,7 @@ use Rattle.history.proofs.Logs.{at, lastOf, last-le, last-page}
 use Rattle.history.proofs.Entries.{note, Mark, markAt, mark-zero, mark-ok, NoteOk, entryFrom, entry-noted, withMark, Tabled, tabled-set, tabled-same, tabled-map, spare-tabled, Indexed, sameKind, lastBy, lsnBy, slotBy, markOf, by-hit, by-other, by-miss, by-le, by-is, by-ge, mark-by, Later}
 use Rattle.laws.proofs.Notes.{note-sealed}
 use Rattle.history.proofs.Leaf.{note-read}
-use Rattle.history.proofs.Sections.{Sized, volume-sized, volume-size, most-high, notes-high, notes-plain, rest-zero}
+use Rattle.history.proofs.Sections.{Sized, volume-sized, volume-size, most-high, notes-high, notes-plain}
 use Rattle.history.proofs.Runs.{section-start, section-count, section-ends}
 use Rattle.history.proofs.Disk.{NoteStands, Holds, Noted}
 use Rattle.history.proofs.LogScan.{first as log-first, fails-zero, inRun, run-yes, run-no, add-suc, suc-add, first-is, started, durable-count, record-read, logEntry, run-index}
@@ -50,7 +50,7 @@ module _ {C : Type 0} (g : Geometry) (v : List ℕ) (l : List Logged) (h : Holds
   abbrev first : ℕ
   first = log-first g v l h ns o
 
-  notes-room : noteRing g ≡ false → length ns ≤ g .notes
+  notes-room : ring g ≡ false → length ns ≤ g .notes
   notes-room t = omega (arith, o .few, notes-plain g sz t)
 
   -- where there is a note there is a slot: the last one has no later
@@ -75,9 +75,9 @@ module _ {C : Type 0} (g : Geometry) (v : List ℕ) (l : List Logged) (h : Holds
   noteOfBytes i = noteBytes (note ns i)
 
   note-start : (f : ℕ) × (firstNote g v (length ns) ≡ suc f) × Start (g .notes) (length ns) f (NoteStands g v ns) (Later ns)
-  unfolding firstNote
+  unfolding firstNote firstIn
   note-start =
-      section-start g v noteAt 12 (g .notes) (length ns) (noteRing g) noteOfBytes (Later ns) (o .notes)
+      section-start g v noteAt 12 (g .notes) (length ns) (ring g) noteOfBytes (Later ns) (o .notes)
       (λ i b. note-sealed (note ns i)) notes-room notes-low
 
   pub nfirst : ℕ
@@ -90,22 +90,6 @@ module _ {C : Type 0} (g : Geometry) (v : List ℕ) (l : List Logged) (h : Holds
   pub nstarted : Start (g .notes) (length ns) nfirst (NoteStands g v ns) (Later ns)
   unfolding nfirst
   nstarted = note-start .2
-
-  -- a note below the run has a later one of its page and kind in the run
-  pub later-in-run : (i : ℕ) → i < length ns → i < nfirst → (j : ℕ) × (nfirst ≤ j) × (j < length ns) × (note ns j .page ≡ note ns i .page)
-      × (note ns j .kind ≡ note ns i .kind)
-  later-in-run i b c = chase nfirst i (omega arith) b c
-    where
-      chase : (fuel i : ℕ) → nfirst ≤ i + fuel → i < length ns → i < nfirst
-          → (j : ℕ) × (nfirst ≤ j) × (j < length ns) × (note ns j .page ≡ note ns i .page) × (note ns j .kind ≡ note ns i .kind)
-      chase zero i a b c = absurd (omega arith)
-      chase (suc fuel) i a b c =
-          let w = nstarted .lost i b c in
-          elim (decLt (w .place) nfirst) [
-            | yes y ↦ let q = chase fuel (w .place) (omega (arith, w .above)) (w .below) y in
-                (q .0, q .1, q .2, q .3 ∙ w .page-is, q .4 ∙ w .kind-is)
-            | no z ↦ (w .place, omega arith, w .below, w .page-is, w .kind-is)
-          ]
 
   note-top : 1 ≤ length ns → item g v (noteSlot g (suc (length ns - 1))) ≡ noteBytes (note ns (length ns - 1))
   note-top a = run-last (λ t. omega (arith, t .above, t .below))
@@ -124,14 +108,11 @@ module _ {C : Type 0} (g : Geometry) (v : List ℕ) (l : List Logged) (h : Holds
   note-zeros i a b z = fails-zero 12 16 (item g v (noteAt i)) (item-length g v (volume-size g v (h .vol)) (noteAt i) (a, b)) (omega arith) z
 
   pub note-count : noteCount g v ≡ length ns
-  unfolding noteCount
+  unfolding noteCount countIn
   note-count =
-      section-count g v noteAt 12 (g .notes) (length ns) (noteRing g) noteOfBytes (Later ns) (o .notes)
+      section-count g v noteAt 12 (g .notes) (length ns) (ring g) noteOfBytes (Later ns) (o .notes)
       (λ i b. note-sealed (note ns i)) notes-room notes-low
       note-numbers note-top (o .tail) note-zeros (start g (noteAt 1)) (note-part g v)
-
-  note-rest : restZero 16 (g .notes) v (start g (noteAt 1)) (length ns) ≡ true
-  note-rest = rest-zero 16 (g .notes) v (start g (noteAt 1)) (length ns) (λ i a b. rw (note-part g v i) (o .tail .rest (suc i) a b))
 
   note-ok : (i : ℕ) → i < length ns → nfirst ≤ i → noteRecord g v (suc i) ≡ note ns i
   note-ok i b f = rw (nstarted .held i b f) (note-back i b)
@@ -325,20 +306,18 @@ module _ {C : Type 0} (g : Geometry) (v : List ℕ) (l : List Logged) (h : Holds
   pub valid-notes : validNotes g v ≡ true
   unfolding validNotes
   valid-notes =
-      rw (note-count, nfirst-is) (and-both
+      rw (note-count, nfirst-is) (and-both (and-both
       (every-all (λ i. noteFits g v (noteIndex g v (suc nfirst) i) (suc nfirst + i)) (suc (length ns) - suc nfirst)
       (λ i b. note-fits i (omega arith)))
-      (and-both
-      (section-ends g v noteAt 12 (g .notes) (length ns) (noteRing g) noteOfBytes (Later ns) (o .notes)
+      (section-ends g v noteAt 12 (g .notes) (length ns) (ring g) noteOfBytes (Later ns) (o .notes)
       (λ i b. note-sealed (note ns i)) notes-room notes-low
-      note-numbers note-top (o .tail) note-zeros (start g (noteAt 1)) (note-part g v) nfirst (nstarted .ends))
-      (and-both note-rest
+      note-numbers note-top (o .tail) note-zeros (start g (noteAt 1)) (note-part g v) nfirst (nstarted .ends)))
       (every-all (λ i. leb (entryRow idx i .written) (entryRow idx i .last)) 64 (λ i b.
       let e : suc i - 1 ≡ i = omega arith in
       let q : entryRow idx i ≡ entryFrom (lastOf (suc i) l) (lastOf (suc i) l) (markAt (suc i) ns (length ns)) =
       rw e at (final-index .entry (suc i) (omega arith) (omega arith)) in
       rw q (le-leb (markAt (suc i) ns (length ns) .written) (lastOf (suc i) l)
-      (mark-ok (g .pages) (g .slots) l ns (o .fit) (suc i) (length ns) (omega arith) .wrote)))))))
+      (mark-ok (g .pages) (g .slots) l ns (o .fit) (suc i) (length ns) (omega arith) .wrote)))))
     where
       idx : List Entry
       idx = map settled (noteIndex g v (suc nfirst) (suc (length ns) - suc nfirst))

@@ -12,7 +12,7 @@ use Rattle.laws.proofs.Places.{In, item-length}
 use Rattle.laws.proofs.Ring.{slot-low, slot-in, slot-again, slot-apart, run-new, run-torn}
 use Rattle.laws.proofs.Notes.{note-length}
 use Rattle.model.specs.Checksum.{sealed}
-use Rattle.model.specs.Geometry.{Place, pageAt, slotAt, recordAt, noteAt, start, item, store, noteRing, mostNotes, slotOf, noteSlot}
+use Rattle.model.specs.Geometry.{Place, pageAt, slotAt, recordAt, noteAt, start, item, store, ring, mostNotes, slotOf, noteSlot}
 use Rattle.model.specs.Item.{noteBytes, isWritten}
 use Rattle.model.specs.AbstractLog.{Logged}
 use Rattle.model.specs.declared.geometry.Geometry.{Geometry}
@@ -87,7 +87,7 @@ module _ {C : Type 0} (g : Geometry) (v : List ℕ) (k : List Logged) (h : Holds
         record {
           few = o .few;
           run = log-keep g v noteAfter k ns ns (sz .l-low) note-records (λ i c s. s) (o .run);
-          notes = run-torn (noteRing g) (g .notes) (length ns) (NoteStands g v ns) (NoteTorn g v) (Later ns) (NoteStands g noteAfter ns)
+          notes = run-torn (ring g) (g .notes) (length ns) (NoteStands g v ns) (NoteTorn g v) (Later ns) (NoteStands g noteAfter ns)
               (NoteTorn g noteAfter) (Later ns) (λ i c s. s) (o .notes)
               (λ i a c w. note-held i a c ∙ w) (λ i a e. (in-ring i e, again i e)) (room .1);
           tail = record {
@@ -100,8 +100,8 @@ module _ {C : Type 0} (g : Geometry) (v : List ℕ) (k : List Logged) (h : Holds
           copies = copies-other g v k h ns o noteAfter slots-stay;
         }
       where
-        in-ring : (i : ℕ) → length ns ≡ i + g .notes → noteRing g ≡ true
-        in-ring i e = byCases (noteRing g) (λ r. r) (λ r. absurd (omega (arith, notes-plain g sz r)))
+        in-ring : (i : ℕ) → length ns ≡ i + g .notes → ring g ≡ true
+        in-ring i e = byCases (ring g) (λ r. r) (λ r. absurd (omega (arith, notes-plain g sz r)))
 
         again : (i : ℕ) → length ns ≡ i + g .notes → sealed 12 (item g noteAfter (noteSlot g (suc i))) ≡ false
         again i e =
@@ -149,7 +149,7 @@ module _ {C : Type 0} (g : Geometry) (v : List ℕ) (k : List Logged) (h : Holds
           few = rw (lenN ns x) b;
           run = log-keep g v after″ k ns (ns ++ (x ∷ [])) (sz .l-low) (note-records (noteBytes x) room six)
               (λ i c s. spare-rises k i s) (o .run);
-          notes = rw (lenN ns x) (run-new (noteRing g) (g .notes) (length ns) (NoteStands g v ns) (NoteTorn g v) (Later ns)
+          notes = rw (lenN ns x) (run-new (ring g) (g .notes) (length ns) (NoteStands g v ns) (NoteTorn g v) (Later ns)
               (NoteStands g after″ (ns ++ (x ∷ []))) (NoteTorn g after″) (Later (ns ++ (x ∷ []))) (later-more ns x) (o .notes)
               (λ i a d w. note-held (noteBytes x) room six i a d ∙ (w ∙ ap noteBytes (sym (List·getD-append ns (x ∷ []) noNote i a))))
               (note-same (noteBytes x) room six ∙ ap noteBytes (sym (noteN ns x)))

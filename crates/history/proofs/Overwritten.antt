@@ -17,9 +17,12 @@ use Rattle.model.specs.Geometry.{Place, pageAt, slotAt, recordAt, noteAt, geome
 use Rattle.model.specs.Item.{recordOf, noteOf, noteBytes}
 use Rattle.model.specs.Passes.{imageCount, imagePlace, firstOld}
 use Rattle.model.specs.Scan.{noteRecord, noteCount}
-use Rattle.model.specs.State.{lastNote}
 use Rattle.model.specs.Refusals.{pageDirty, beginRows, loadRows, changeRows, forceRows, writeRows, backupRows, releaseRows, noteRows, startCarryRows, restampRows, finishCarryRows}
-use Rattle.model.specs.Calls.{StoredItem, nothing, oneItem, newHeading, Call, begin, load, change, force, write, backup, release, note, startCarry, restamp, finishCarry, outcomeOf, beginOf, loadOf, changeCall, forceOf, writeOf, backupOf, releaseOf, noteStored, noteCall, startCarryOf, restampOf, finishCarryOf}
+use Rattle.model.specs.Outcome.{StoredItem, nothing, oneItem, newHeading, decided}
+use Rattle.model.specs.Effects.{noteStored, backupDone, beginDone, changeDone, forceDone, loadDone, releaseDone, restampDone, writeDone}
+use Rattle.model.specs.Calls.{Call, outcomeOf, forceOf, noteCall}
+use Rattle.model.specs.declared.command.Command.{Command}
+use Rattle.model.specs.declared.command.Command.the-variants.{Begin, Load, Change, Force, Write, Backup, Release, Note as NoteCall, StartCarry, Restamp, FinishCarry}
 use Rattle.model.specs.AbstractLog.{Logged}
 use Rattle.model.specs.RingClaim.{SpareRecord, SpareNote, RecordFree, NoteFree}
 use Rattle.model.specs.declared.geometry.Geometry.{Geometry}
@@ -72,35 +75,35 @@ module _ (v m : List ℕ) (s : State) where
       (λ t. rw t (λ z. omega arith, λ z. omega arith))
 
   -- only Force stores in the log, only Note in the notes
-  only : (c : Call) → (sortOf (outcomeOf c v m s .stored) ≡ 3 → c ≡ force) × (sortOf (outcomeOf c v m s .stored) ≡ 4 → c ≡ note)
-  unfolding beginOf loadOf changeCall forceOf writeOf backupOf releaseOf noteCall startCarryOf restampOf finishCarryOf
-  only (begin p f fill) = byCases (eqb (firstOf (beginRows v m s p f)) 0)
+  only : (c : Call) → (sortOf (outcomeOf c v m s .stored) ≡ 3 → c .0 ≡ Force) × (sortOf (outcomeOf c v m s .stored) ≡ 4 → c .0 ≡ NoteCall)
+  unfolding decided beginDone loadDone changeDone forceDone writeDone backupDone releaseDone restampDone
+  only (Begin p f fill, _) = byCases (eqb (firstOf (beginRows v m s p f)) 0)
       (λ t. rw t (λ z. absurd (omega arith), λ z. absurd (omega arith))) (λ t. rw t (λ z. absurd (omega arith), λ z. absurd (omega arith)))
-  only (load p f) = byCases (eqb (firstOf (loadRows v m s p f)) 0)
+  only (Load p f, _) = byCases (eqb (firstOf (loadRows v m s p f)) 0)
       (λ t. rw t (λ z. absurd (omega arith), λ z. absurd (omega arith))) (λ t. rw t (λ z. absurd (omega arith), λ z. absurd (omega arith)))
-  only (change p c payload) = byCases (eqb (firstOf (changeRows v m s p c)) 0)
+  only (Change p c, payload) = byCases (eqb (firstOf (changeRows v m s p c)) 0)
       (λ t. rw t (λ z. absurd (omega arith), λ z. absurd (omega arith))) (λ t. rw t (λ z. absurd (omega arith), λ z. absurd (omega arith)))
-  only force = byCases (eqb (firstOf (forceRows v m s)) 0)
+  only (Force, _) = byCases (eqb (firstOf (forceRows v m s)) 0)
       (λ t. rw t (byCases (eqb (s .pending) 0)
       (λ u. rw u (λ z. refl, λ z. absurd (omega arith))) (λ u. rw u (λ z. refl, λ z. absurd (omega arith)))))
       (λ t. rw t (λ z. refl, λ z. absurd (omega arith)))
-  only (write p) = byCases (eqb (firstOf (writeRows v m s p)) 0)
+  only (Write p, _) = byCases (eqb (firstOf (writeRows v m s p)) 0)
       (λ t. rw t (byCases (pageDirty s p)
       (λ u. rw u (λ z. absurd (omega arith), λ z. absurd (omega arith))) (λ u. rw u (λ z. absurd (omega arith), λ z. absurd (omega arith)))))
       (λ t. rw t (λ z. absurd (omega arith), λ z. absurd (omega arith)))
-  only (backup p b) = byCases (eqb (firstOf (backupRows v m s p b)) 0)
+  only (Backup p b, _) = byCases (eqb (firstOf (backupRows v m s p b)) 0)
       (λ t. rw t (λ z. absurd (omega arith), λ z. absurd (omega arith))) (λ t. rw t (λ z. absurd (omega arith), λ z. absurd (omega arith)))
-  only (release p) = byCases (eqb (firstOf (releaseRows v m s p)) 0)
+  only (Release p, _) = byCases (eqb (firstOf (releaseRows v m s p)) 0)
       (λ t. rw t (λ z. absurd (omega arith), λ z. absurd (omega arith))) (λ t. rw t (λ z. absurd (omega arith), λ z. absurd (omega arith)))
-  only note = byCases (eqb (firstOf (noteRows v m s)) 0)
+  only (NoteCall, _) = byCases (eqb (firstOf (noteRows v m s)) 0)
       (λ t. rw t (go (s .note))) (λ t. rw t (λ z. absurd (omega arith), λ z. refl))
     where
-      go : (n : PendingNote) → (sortOf (noteStored v m s n .stored) ≡ 3 → note ≡ force) × (sortOf (noteStored v m s n .stored) ≡ 4 → note ≡ note)
+      go : (n : PendingNote) → (sortOf (noteStored v m s n .stored) ≡ 3 → NoteCall ≡ Force) × (sortOf (noteStored v m s n .stored) ≡ 4 → NoteCall ≡ NoteCall)
       go Absent = (λ z. absurd (omega arith), λ z. refl)
       go (Present x) = (λ z. absurd (omega arith), λ z. refl)
-  only startCarry = byCases (eqb (firstOf (startCarryRows v m s)) 0)
+  only (StartCarry, _) = byCases (eqb (firstOf (startCarryRows v m s)) 0)
       (λ t. rw t (λ z. absurd (omega arith), λ z. absurd (omega arith))) (λ t. rw t (λ z. absurd (omega arith), λ z. absurd (omega arith)))
-  only restamp = byCases (eqb (firstOf (restampRows v m s)) 0)
+  only (Restamp, _) = byCases (eqb (firstOf (restampRows v m s)) 0)
       (λ t. rw t (byCases (ltb (firstOld (geometryOf v) v (s .index)) (imageCount (geometryOf v)))
       (λ u.
       let i = firstOld (geometryOf v) v (s .index) in
@@ -108,13 +111,13 @@ module _ (v m : List ℕ) (s : State) where
       rw u (λ z. absurd (a .0 z), λ z. absurd (a .1 z)))
       (λ u. rw u (λ z. absurd (omega arith), λ z. absurd (omega arith)))))
       (λ t. rw t (λ z. absurd (omega arith), λ z. absurd (omega arith)))
-  only finishCarry = byCases (eqb (firstOf (finishCarryRows v m s)) 0)
+  only (FinishCarry, _) = byCases (eqb (firstOf (finishCarryRows v m s)) 0)
       (λ t. rw t (λ z. absurd (omega arith), λ z. absurd (omega arith))) (λ t. rw t (λ z. absurd (omega arith), λ z. absurd (omega arith)))
 
   -- where they store
   force-stores : (i : ℕ) (xs : List ℕ) → forceOf v m s .stored ≡ oneItem (recordAt i) xs
       → (1 ≤ s .pending) × (slotOf (geometryOf v .records) (s .durable + 1) ≡ i)
-  unfolding forceOf
+  unfolding decided forceDone
   force-stores i xs = byCases (eqb (firstOf (forceRows v m s)) 0)
       (λ t. rw t (byCases (eqb (s .pending) 0)
       (λ u. rw u (λ e. absurd (let z : 0 ≡ 3 = ap sortOf e in omega arith)))
@@ -122,14 +125,14 @@ module _ (v m : List ℕ) (s : State) where
       (λ t. rw t (λ e. absurd (let z : 0 ≡ 3 = ap sortOf e in omega arith)))
 
   note-stores : (i : ℕ) (xs : List ℕ) → noteCall v m s .stored ≡ oneItem (noteAt i) xs
-      → (x : Note) × (s .note ≡ Present x) × (slotOf (geometryOf v .notes) (lastNote s + 1) ≡ i)
-  unfolding noteCall
+      → (x : Note) × (s .note ≡ Present x) × (slotOf (geometryOf v .notes) (s .notes + 1) ≡ i)
+  unfolding decided
   note-stores i xs = byCases (eqb (firstOf (noteRows v m s)) 0)
       (λ t. rw t (go (s .note) refl))
       (λ t. rw t (λ e. absurd (let z : 0 ≡ 4 = ap sortOf e in omega arith)))
     where
       go : (n : PendingNote) → s .note ≡ n → noteStored v m s n .stored ≡ oneItem (noteAt i) xs
-          → (x : Note) × (s .note ≡ Present x) × (slotOf (geometryOf v .notes) (lastNote s + 1) ≡ i)
+          → (x : Note) × (s .note ≡ Present x) × (slotOf (geometryOf v .notes) (s .notes + 1) ≡ i)
       go Absent q e = absurd (let z : 0 ≡ 4 = ap sortOf e in omega arith)
       go (Present x) q e = (x, q, ap slotIn e)
 
@@ -169,7 +172,7 @@ module _ {C : Type 0} {g : Geometry} {v m : List ℕ} {past : List StoredItem} {
   pub record-free : (c : Call) (i : ℕ) (xs : List ℕ) → outcomeOf c v m s .stored ≡ oneItem (recordAt i) xs → RecordFree v i
   record-free c i xs e =
       let q = only v m s c .0 (ap sortOf e) in
-      let st = force-stores v m s i xs (subst (λ (y : Call). outcomeOf y v m s .stored ≡ oneItem (recordAt i) xs) q e) in
+      let st = force-stores v m s i xs (subst (λ (y : Command). outcomeOf (y, c .1) v m s .stored ≡ oneItem (recordAt i) xs) q e) in
       let n : s .durable + 1 ≡ suc (length k) = omega (arith, x .al .log .durable-is) in
       rw (geo x) (log-free (st .0) i (rw (geo x, n) at (st .1)))
 
@@ -220,6 +223,6 @@ module _ {C : Type 0} {g : Geometry} {v m : List ℕ} {past : List StoredItem} {
   pub note-free : (c : Call) (i : ℕ) (xs : List ℕ) → outcomeOf c v m s .stored ≡ oneItem (noteAt i) xs → NoteFree v i
   note-free c i xs e =
       let q = only v m s c .1 (ap sortOf e) in
-      let st = note-stores v m s i xs (subst (λ (y : Call). outcomeOf y v m s .stored ≡ oneItem (noteAt i) xs) q e) in
+      let st = note-stores v m s i xs (subst (λ (y : Command). outcomeOf (y, c .1) v m s .stored ≡ oneItem (noteAt i) xs) q e) in
       let n : s .notes + 1 ≡ suc (length (x .ns)) = omega (arith, x .al .notes-is) in
       rw (geo x) (notes-free (st .0) (st .1) i (rw (geo x, n) at (st .2)))

@@ -15,7 +15,8 @@ use Rattle.model.specs.Checksum.{imageSealed}
 use Rattle.model.specs.Geometry.{tagOf, carryTag, Place, pageAt, recordAt, noteAt, geometryOf, validCounts, lengthFor, emptyVolume, item, withTag}
 use Rattle.model.specs.Item.{validImage}
 use Rattle.model.specs.Refusals.{makeRows}
-use Rattle.model.specs.Calls.{makeOf, refusalOf}
+use Rattle.model.specs.Outcome.{refusalOf}
+use Rattle.model.specs.Restart.{makeOf}
 use Rattle.model.specs.AbstractLog.{emptyLog}
 use Rattle.model.specs.History.{Power, off, on, storedBefore, freshMachine}
 use Rattle.model.specs.Carry.{startsIn}

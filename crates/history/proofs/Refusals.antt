@@ -1,8 +1,8 @@
 -- Which refusals come: in a machine that keeps the invariant no call blames volume, memory, state, log, notes or chain.
 use mathlib.Core.Path.{_≡_, refl, sym, _∙_}
 use mathlib.Core.Logic.{_≢_}
-use mathlib.Core.Bool.{true, false, not, _&&_}
-use mathlib.Core.List.{List, [], _∷_}
+use mathlib.Core.Bool.{true, false, not}
+use mathlib.Core.List.{List, [], _∷_, _++_}
 use Prim.Native.Nat.{ℕ, _≤_}
 use native.Mathlib.Omega.{arith}
 use native.Mathlib.Decide.{ℕ-discrete}
@@ -13,12 +13,17 @@ use Rattle.laws.proofs.Tables.{byCases, true-not-false}
 use Rattle.laws.proofs.Progress.{restamp-refusal}
 use Rattle.model.specs.Tables.{Row, firstOf, within}
 use Rattle.model.specs.Geometry.{tagOf, carryTag, headed, geometryOf}
-use Rattle.model.specs.Change.{fits}
-use Rattle.model.specs.Index.{entryOf, slotUsed}
-use Rattle.model.specs.Scan.{indexOf}
-use Rattle.model.specs.State.{frameCount, validMemory, holder, held, blank, logFull, notesFull, notePending}
-use Rattle.model.specs.Refusals.{frameBlocked, pageDirty, notDurable, chainBroken, chainBelow, foundBelow, restartRows, beginRows, loadRows, changeRows, forceRows, writeRows, backupRows, releaseRows, noteRows, startCarryRows, restampRows, finishCarryRows, inspectRows}
-use Rattle.model.specs.Calls.{StoredItem, Outcome, decided, refusalOf, beginOf, loadOf, changeCall, forceOf, writeOf, backupOf, releaseOf, noteCall, noteStored, startCarryOf, restampOf, finishCarryOf, restartOf, inspectOf, Call, begin, load, change, force, write, backup, release, note, startCarry, restamp, finishCarry, rowsOf, outcomeOf}
+use Rattle.model.specs.Index.{entryOf}
+use Rattle.model.specs.Scan.{firstHeld, indexOf}
+use Rattle.model.specs.Item.{imageLsn}
+use Rattle.model.specs.Repair.{viewOf, walkOf}
+use Rattle.model.specs.State.{frameCount, frameBytes, validMemory, holder, held, blank}
+use Rattle.model.specs.Refusals.{frameBlocked, pageDirty, chainBroken, chainBelow, foundBelow, restartRows, beginRows, loadRows, changeRows, forceRows, writeRows, backupRows, releaseRows, noteRows, startCarryRows, restampRows, finishCarryRows, inspectRows, beginTail, loadTail, walkTail, changeTail, writeTail, backupTail, releaseTail}
+use Rattle.model.specs.Outcome.{StoredItem, Outcome, decided, refusalOf}
+use Rattle.model.specs.Effects.{noteStored, backupDone, beginDone, changeDone, forceDone, loadDone, releaseDone, restampDone, writeDone}
+use Rattle.model.specs.Calls.{loadOf, Call, rowsOf, outcomeOf, noPayload}
+use Rattle.model.specs.Restart.{restartOf, inspectOf}
+use Rattle.model.specs.declared.command.Command.the-variants.{Begin, Load, Change, Force, Write, Backup, Release, Note as NoteCall, StartCarry, Restamp, FinishCarry}
 use Rattle.model.specs.Passes.{oldLeft}
 use Rattle.model.specs.Carry.{carries}
 use Rattle.model.specs.AbstractLog.{Logged}
@@ -40,28 +45,29 @@ use Rattle.history.proofs.WellFormed.{state-ok, memory-ok, volume-ok}
 -- the answer of a call is what its table says
 decided-refusal : (rows : List Row) (m : List ℕ) (s : State) (done : Outcome) → refusalOf (done .answer) ≡ 0
     → refusalOf (decided rows m s done .answer) ≡ firstOf rows
+unfolding decided
 decided-refusal rows m s done z = byCases (eqb (firstOf rows) 0) (λ t. rw t (z ∙ sym (eqb-true (firstOf rows) 0 t))) (λ t. rw t)
 
 pub call-refusal : (c : Call) (v m : List ℕ) (s : State) → refusalOf (outcomeOf c v m s .answer) ≡ firstOf (rowsOf c v m s)
-unfolding beginOf loadOf changeCall forceOf writeOf backupOf releaseOf noteCall startCarryOf restampOf finishCarryOf
-call-refusal (begin page f fill) v m s = decided-refusal (beginRows v m s page f) m s _ refl
-call-refusal (load page f) v m s = decided-refusal (loadRows v m s page f) m s _ refl
-call-refusal (change page c payload) v m s = decided-refusal (changeRows v m s page c) m s _ refl
-call-refusal force v m s = decided-refusal (forceRows v m s) m s _ (byCases (eqb (s .pending) 0) (λ t. rw t) (λ t. rw t))
-call-refusal (write page) v m s = decided-refusal (writeRows v m s page) m s _ (byCases (pageDirty s page) (λ t. rw t) (λ t. rw t))
-call-refusal (backup page b) v m s = decided-refusal (backupRows v m s page b) m s _ refl
-call-refusal (release page) v m s = decided-refusal (releaseRows v m s page) m s _ refl
-call-refusal startCarry v m s = decided-refusal (startCarryRows v m s) m s _ refl
-call-refusal restamp v m s = restamp-refusal v m s
-call-refusal finishCarry v m s = decided-refusal (finishCarryRows v m s) m s _ refl
-call-refusal note v m s = decided-refusal (noteRows v m s) m s _ (stored (s .note))
+unfolding decided beginDone loadDone changeDone forceDone writeDone backupDone releaseDone restampDone
+call-refusal (Begin page f fill, _) v m s = decided-refusal (beginRows v m s page f) m s _ refl
+call-refusal (Load page f, _) v m s = decided-refusal (loadRows v m s page f) m s _ refl
+call-refusal (Change page c, payload) v m s = decided-refusal (changeRows v m s page c) m s _ refl
+call-refusal (Force, _) v m s = decided-refusal (forceRows v m s) m s _ (byCases (eqb (s .pending) 0) (λ t. rw t) (λ t. rw t))
+call-refusal (Write page, _) v m s = decided-refusal (writeRows v m s page) m s _ (byCases (pageDirty s page) (λ t. rw t) (λ t. rw t))
+call-refusal (Backup page b, _) v m s = decided-refusal (backupRows v m s page b) m s _ refl
+call-refusal (Release page, _) v m s = decided-refusal (releaseRows v m s page) m s _ refl
+call-refusal (StartCarry, _) v m s = decided-refusal (startCarryRows v m s) m s _ refl
+call-refusal (Restamp, _) v m s = restamp-refusal v m s
+call-refusal (FinishCarry, _) v m s = decided-refusal (finishCarryRows v m s) m s _ refl
+call-refusal (NoteCall, _) v m s = decided-refusal (noteRows v m s) m s _ (stored (s .note))
   where
     stored : (y : PendingNote) → refusalOf (noteStored v m s y .answer) ≡ 0
     stored Absent = refl
     stored (Present y) = refl
 
 pub restart-refusal : (v m : List ℕ) → refusalOf (restartOf v m .answer) ≡ firstOf (restartRows v m)
-unfolding restartOf
+unfolding restartOf decided
 restart-refusal v m = decided-refusal (restartRows v m) m _ _ refl
 
 pub inspect-refusal : (v : List ℕ) (p : ℕ) (buffer : List ℕ)
@@ -88,62 +94,52 @@ module _ {C : Type 0} {g : Geometry} {v m : List ℕ} {past : List StoredItem} {
     (x : Ctx C g v m past s k w) where
   -- a call's own rows, after the rows 1 and 2
   unfoldable pub ownRows : Call → List Row
-  ownRows (begin page f fill) =
-      (not (within (geometryOf v .pages) page), 3) ∷ (not (within (frameCount (length m)) f), 4) ∷ (not (blank s page), 9)
-      ∷ (frameBlocked s f, 10) ∷ (eqb (s .pending) 16, 11) ∷ (logFull (geometryOf v) v s, 12) ∷ []
-  ownRows (load page f) =
-      (not (within (geometryOf v .pages) page), 3) ∷ (not (within (frameCount (length m)) f), 4) ∷ (blank s page, 7) ∷ (held s page, 9)
-      ∷ (frameBlocked s f, 10)
-      ∷ (chainBroken (geometryOf v) v s page, 19) ∷ (chainBelow (geometryOf v) v s page, 23) ∷ []
-  ownRows (change page c payload) =
-      (not (within (geometryOf v .pages) page), 3) ∷ (not (fits c), 6) ∷ (not (held s page), 8) ∷ (eqb (s .pending) 16, 11)
-      ∷ (logFull (geometryOf v) v s, 12) ∷ []
-  ownRows force = []
-  ownRows (write page) =
-      (not (within (geometryOf v .pages) page), 3) ∷ (not (held s page), 8) ∷ (pageDirty s page && notePending (s .note), 13)
-      ∷ (pageDirty s page && notesFull (geometryOf v) v s, 14) ∷ (pageDirty s page && notDurable m s page, 15) ∷ []
-  ownRows (backup page b) =
-      (not (within (geometryOf v .pages) page), 3) ∷ (not (within (geometryOf v .slots) b), 5) ∷ (not (held s page), 8)
-      ∷ (notePending (s .note), 13)
-      ∷ (notesFull (geometryOf v) v s, 14) ∷ (notDurable m s page, 15) ∷ (slotUsed b (s .index), 16) ∷ []
-  ownRows (release page) = (not (within (geometryOf v .pages) page), 3) ∷ (not (held s page), 8) ∷ (frameBlocked s (holder s page), 10) ∷ []
-  ownRows note = []
-  ownRows startCarry = (not (headed (tagOf First) v), 1) ∷ []
-  ownRows restamp = (not (headed carryTag v), 1) ∷ []
-  ownRows finishCarry = (not (headed carryTag v), 1) ∷ (oldLeft (geometryOf v) v (s .index), 20) ∷ []
+  ownRows (Begin page f fill, _) = beginTail (geometryOf v) v (frameCount (length m)) s page f
+  ownRows (Load page f, _) =
+      let walk = walkOf (geometryOf v) page (viewOf (geometryOf v) v (firstHeld (geometryOf v) v (s .durable)) (entryOf (s .index) page) page) in
+      loadTail (geometryOf v) (frameCount (length m)) s page f ++ walkTail (walk .stop)
+  ownRows (Change page c, _) = changeTail (geometryOf v) v s page c
+  ownRows (Force, _) = []
+  ownRows (Write page, _) = writeTail (geometryOf v) v s page (holder s page) (imageLsn (frameBytes m (holder s page)))
+  ownRows (Backup page b, _) = backupTail (geometryOf v) v s page b (holder s page) (imageLsn (frameBytes m (holder s page)))
+  ownRows (Release page, _) = releaseTail (geometryOf v) s page (holder s page)
+  ownRows (NoteCall, _) = []
+  ownRows (StartCarry, _) = (not (headed (tagOf First) v), 1) ∷ []
+  ownRows (Restamp, _) = (not (headed carryTag v), 1) ∷ []
+  ownRows (FinishCarry, _) = (not (headed carryTag v), 1) ∷ (oldLeft (geometryOf v) v (s .index), 20) ∷ []
 
   -- the rows 1 and 2 do not hold
   pub rows-are : (c : Call) → firstOf (rowsOf c v m s) ≡ firstOf (ownRows c)
   unfolding ownRows beginRows loadRows changeRows forceRows writeRows backupRows releaseRows noteRows startCarryRows restampRows finishCarryRows
-  rows-are (begin page f fill) = rw (volume-ok x, memory-ok x, state-ok x)
-  rows-are (load page f) = rw (volume-ok x, memory-ok x, state-ok x)
-  rows-are (change page c payload) = rw (volume-ok x, memory-ok x, state-ok x)
-  rows-are force = rw (volume-ok x, memory-ok x, state-ok x)
-  rows-are (write page) = rw (volume-ok x, memory-ok x, state-ok x)
-  rows-are (backup page b) = rw (volume-ok x, memory-ok x, state-ok x)
-  rows-are (release page) = rw (volume-ok x, memory-ok x, state-ok x)
-  rows-are note = rw (volume-ok x, memory-ok x, state-ok x)
-  rows-are startCarry = rw (volume-ok x, memory-ok x, state-ok x)
-  rows-are restamp = rw (volume-ok x, memory-ok x, state-ok x)
-  rows-are finishCarry = rw (volume-ok x, memory-ok x, state-ok x)
+  rows-are (Begin page f fill, _) = rw (volume-ok x, memory-ok x, state-ok x)
+  rows-are (Load page f, _) = rw (volume-ok x, memory-ok x, state-ok x)
+  rows-are (Change page c, payload) = rw (volume-ok x, memory-ok x, state-ok x)
+  rows-are (Force, _) = rw (volume-ok x, memory-ok x, state-ok x)
+  rows-are (Write page, _) = rw (volume-ok x, memory-ok x, state-ok x)
+  rows-are (Backup page b, _) = rw (volume-ok x, memory-ok x, state-ok x)
+  rows-are (Release page, _) = rw (volume-ok x, memory-ok x, state-ok x)
+  rows-are (NoteCall, _) = rw (volume-ok x, memory-ok x, state-ok x)
+  rows-are (StartCarry, _) = rw (volume-ok x, memory-ok x, state-ok x)
+  rows-are (Restamp, _) = rw (volume-ok x, memory-ok x, state-ok x)
+  rows-are (FinishCarry, _) = rw (volume-ok x, memory-ok x, state-ok x)
 
   own-ordinary : (c : Call) → carries c ≡ false → Ordinary (firstOf (ownRows c))
   unfolding ownRows
-  own-ordinary (begin page f fill) o =
-      usual (ownRows (begin page f fill)) (omega arith) (omega arith) (omega arith) (omega arith) (omega arith)
-  own-ordinary (load page f) o =
-      ordinary (ownRows (load page f)) (omega arith) (omega arith) (omega arith) (omega arith)
-      (λ e. never-broken x page f (rows-are (load page f) ∙ e))
-  own-ordinary (change page c payload) o =
-      usual (ownRows (change page c payload)) (omega arith) (omega arith) (omega arith) (omega arith) (omega arith)
-  own-ordinary force o = usual [] tt tt tt tt tt
-  own-ordinary (write page) o = usual (ownRows (write page)) (omega arith) (omega arith) (omega arith) (omega arith) (omega arith)
-  own-ordinary (backup page b) o = usual (ownRows (backup page b)) (omega arith) (omega arith) (omega arith) (omega arith) (omega arith)
-  own-ordinary (release page) o = usual (ownRows (release page)) (omega arith) (omega arith) (omega arith) (omega arith) (omega arith)
-  own-ordinary note o = usual [] tt tt tt tt tt
-  own-ordinary startCarry o = absurd (true-not-false refl o)
-  own-ordinary restamp o = absurd (true-not-false refl o)
-  own-ordinary finishCarry o = absurd (true-not-false refl o)
+  own-ordinary (Begin page f fill, _) o =
+      usual (ownRows (Begin page f fill, noPayload)) (omega arith) (omega arith) (omega arith) (omega arith) (omega arith)
+  own-ordinary (Load page f, _) o =
+      ordinary (ownRows (Load page f, noPayload)) (omega arith) (omega arith) (omega arith) (omega arith)
+      (λ e. never-broken x page f (rows-are (Load page f, noPayload) ∙ e))
+  own-ordinary (Change page c, payload) o =
+      usual (ownRows (Change page c, payload)) (omega arith) (omega arith) (omega arith) (omega arith) (omega arith)
+  own-ordinary (Force, _) o = usual [] tt tt tt tt tt
+  own-ordinary (Write page, _) o = usual (ownRows (Write page, noPayload)) (omega arith) (omega arith) (omega arith) (omega arith) (omega arith)
+  own-ordinary (Backup page b, _) o = usual (ownRows (Backup page b, noPayload)) (omega arith) (omega arith) (omega arith) (omega arith) (omega arith)
+  own-ordinary (Release page, _) o = usual (ownRows (Release page, noPayload)) (omega arith) (omega arith) (omega arith) (omega arith) (omega arith)
+  own-ordinary (NoteCall, _) o = usual [] tt tt tt tt tt
+  own-ordinary (StartCarry, _) o = absurd (true-not-false refl o)
+  own-ordinary (Restamp, _) o = absurd (true-not-false refl o)
+  own-ordinary (FinishCarry, _) o = absurd (true-not-false refl o)
 
   pub call-ordinary : (c : Call) → carries c ≡ false → Ordinary (refusalOf (outcomeOf c v m s .answer))
   call-ordinary c o = rw (call-refusal c v m s, rows-are c) (own-ordinary c o)
@@ -155,7 +151,7 @@ module _ {C : Type 0} {g : Geometry} {v m : List ℕ} {past : List StoredItem} {
       let u = until 7 ((not (within (geometryOf v .pages) p), 3) ∷ (not (within (frameCount (length m)) f), 4) ∷ []) (blank s p)
       ((held s p, 9) ∷ (frameBlocked s f, 10) ∷ (chainBroken (geometryOf v) v s p, 19) ∷ (chainBelow (geometryOf v) v s p, 23) ∷ [])
       (omega arith) (omega arith) (λ z. omega arith)
-      (sym (rows-are (load p f)) ∙ (sym (call-refusal (load p f) v m s) ∙ e)) in
+      (sym (rows-are (Load p f, noPayload)) ∙ (sym (call-refusal (Load p f, noPayload) v m s) ∙ e)) in
       let r : (1 ≤ p) × (p ≤ g .pages) = rw (geo x) at (in-range (geometryOf v .pages) p (u .0 .0)) in
       let z : lastOf p (x .all) ≡ 0 = sym (last-entry x p (r .0) (r .1)) ∙ eqb-true (entryOf (s .index) p .last) 0 (u .1) in
       nz (let le = last-mono p (x .all) (length (x .all)) (length k) (omega (arith, len x)) in

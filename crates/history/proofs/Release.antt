@@ -10,19 +10,20 @@ use Rattle.model.specs.Tables.{firstOf}
 use Rattle.model.specs.Geometry.{geometryOf}
 use Rattle.model.specs.State.{holder}
 use Rattle.model.specs.Refusals.{releaseRows}
-use Rattle.model.specs.Calls.{StoredItem, nothing, volumeAfter, withFrame, withFrames}
+use Rattle.model.specs.Outcome.{StoredItem, nothing, volumeAfter}
+use Rattle.model.specs.Effects.{withFrame, withFrames}
 use Rattle.model.specs.AbstractLog.{Logged}
 use Rattle.model.specs.declared.geometry.Geometry.{Geometry}
 use Rattle.model.specs.declared.answer.Answer.{Answer}
 use Rattle.model.specs.declared.state.State.{State}
 use Rattle.history.proofs.Inv.{past-cons, frame}
 use Rattle.history.proofs.FrameSteps.{frames-empty}
-use Rattle.history.proofs.Context.{Ctx, Kept, passed, in-range, geo, Found, found-frame, unblocked}
+use Rattle.history.proofs.Context.{Ctx, Preserved, passed, in-range, geo, Found, found-frame, unblocked}
 
 module _ {C : Type 0} {g : Geometry} {v m : List ℕ} {past : List StoredItem} {s : State} {k w : List Logged}
     (x : Ctx C g v m past s k w) where
   pub keep-release : (p : ℕ) (an : Answer) → firstOf (releaseRows v m s p) ≡ 0
-      → Kept C g v past
+      → Preserved C g v past
       (record { answer = an; state = withFrames s (withFrame s (holder s p) 0 false) (s .note); memory = m; stored = nothing })
       (record { durable = k; pending = w })
   unfolding volumeAfter releaseRows

@@ -16,7 +16,8 @@ use Rattle.model.specs.Geometry.{pageAt, slotAt, geometryOf, item, ring}
 use Rattle.model.specs.Item.{imageLsn, validImage, recordFor, isFormat}
 use Rattle.model.specs.Index.{entryOf}
 use Rattle.model.specs.Scan.{logRecord, durableCount, firstHeld, indexOf}
-use Rattle.model.specs.Calls.{loadOf, refusalOf, restampOf}
+use Rattle.model.specs.Outcome.{refusalOf}
+use Rattle.model.specs.Calls.{loadOf}
 use Rattle.model.specs.AbstractLog.{Logged, lastPlace, Left, old, new, torn}
 use Rattle.model.specs.History.{Power, off, on, Machine, Event, restart, perform, crash, crashIn, damage, isRestamp, step}
 use Rattle.model.specs.Claim.{History, Legal, fresh, reached, durableOf, Safe, inspection, Alike}

@@ -13,9 +13,9 @@ use Rattle.laws.proofs.Ring.{slot-low, slot-in, Seat, seat, Run, Start, startFr
 use Rattle.model.specs.Bytes.{le, field, part, allZero}
 use Rattle.model.specs.Checksum.{sealed, sealedRun}
 use Rattle.model.specs.Geometry.{Place, item, slotOf}
-use Rattle.model.specs.Scan.{highest, endsAt}
+use Rattle.model.specs.Scan.{highest, endsIn}
 use Rattle.model.specs.declared.geometry.Geometry.{Geometry}
-use Rattle.history.proofs.Sections.{run-is, Tail}
+use Rattle.history.proofs.Sections.{run-is, Tail, rest-zero}
 
 module _ (g : Geometry) (v : List ℕ) (place : ℕ → Place) (c L n : ℕ) (ring : Bool) (bytes : ℕ → List ℕ) (S : ℕ → Type 0)
     (r : Run ring L n (λ i. item g v (place (slotOf L (suc i))) ≡ bytes i) (λ i. sealed c (item g v (place (slotOf L (suc i)))) ≡ false) S)
@@ -99,9 +99,13 @@ module _ (g : Geometry) (v : List ℕ) (place : ℕ → Place) (c L n : ℕ) (ri
             elim (ℕ-discrete n 0) [ yes z ↦ omega arith | no z ↦ omega (arith, reached (omega arith)) ]
 
     -- what follows the last number
-    pub section-ends : (f : ℕ) → (L ≤ n) ⊎ ((n ≡ 0) ⊎ (f ≡ 0)) → endsAt L n (suc f) (sealed c (item g v (place (suc n)))) ≡ true
-    section-ends f e = elim (decLt n L) [
-      | no z ↦ or-left _ (le-leb L n (omega arith))
-      | yes y ↦ or-right (leb L n) (rw (tail .gap y) (⊎-elim (λ h. absurd (omega arith))
-          (λ h. ⊎-elim (λ z. or-left (eqb (suc f) 1) (eq-eqb n 0 z)) (λ z. or-right (eqb n 0) (eq-eqb (suc f) 1 (ap suc z))) h) e))
-    ]
+    pub section-ends : (f : ℕ) → (L ≤ n) ⊎ ((n ≡ 0) ⊎ (f ≡ 0))
+        → endsIn v (record { ring = ring; size = c; slots = L; at = start; slot = λ i. item g v (place i) }) (suc f) n ≡ true
+    unfolding endsIn
+    section-ends f e =
+        let t : (leb L n || (not (sealed c (item g v (place (suc n)))) && (eqb n 0 || eqb (suc f) 1))) ≡ true = elim (decLt n L) [
+          | no z ↦ or-left _ (le-leb L n (omega arith))
+          | yes y ↦ or-right (leb L n) (rw (tail .gap y) (⊎-elim (λ h. absurd (omega arith))
+              (λ h. ⊎-elim (λ z. or-left (eqb (suc f) 1) (eq-eqb n 0 z)) (λ z. or-right (eqb n 0) (eq-eqb (suc f) 1 (ap suc z))) h) e))
+        ] in
+        and-both t (rest-zero (c + 4) L v start n (λ i a b. rw (parts i) (tail .rest (suc i) a b)))

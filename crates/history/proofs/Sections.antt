@@ -13,7 +13,7 @@ use Rattle.laws.proofs.Checksums.{run-stops, run-goes}
 use Rattle.laws.proofs.Places.{total, In, valid-facts, item-store-same, item-store-other, geometry-store, valid-store}
 use Rattle.model.specs.Bytes.{part, allZero}
 use Rattle.model.specs.Checksum.{sealed, sealedRun}
-use Rattle.model.specs.Geometry.{Place, ring, noteRing, most, mostNotes, topNumber, width, start, item, store, geometryOf, validVolume}
+use Rattle.model.specs.Geometry.{Place, ring, most, mostNotes, topNumber, width, start, item, store, geometryOf, validVolume}
 use Rattle.model.specs.Scan.{restZero}
 use Rattle.model.specs.declared.geometry.Geometry.{Geometry}
 
@@ -41,9 +41,9 @@ module _ (g : Geometry) (z : Sized g) where
   most-plain t = rw t
 
   pub notes-high : mostNotes g ≤ topNumber
-  notes-high = byCases (noteRing g) (λ t. rw t (omega arith)) (λ t. rw t (omega (arith, z .n-high)))
+  notes-high = byCases (ring g) (λ t. rw t (omega arith)) (λ t. rw t (omega (arith, z .n-high)))
 
-  pub notes-plain : noteRing g ≡ false → mostNotes g ≡ g .notes
+  pub notes-plain : ring g ≡ false → mostNotes g ≡ g .notes
   notes-plain t = rw t
 
 module _ (g : Geometry) (v : List ℕ) (x : Volume g v) where

@@ -9,12 +9,14 @@ use lib.ListN.{length}
 use lib.Dec.{eqb}
 use borrow.Author.Tests.{eqb-true, not-true}
 use Rattle.laws.proofs.Tables.{byCases, and-left, and-right, or-cases, or-neither, true-not-false}
+use Rattle.laws.proofs.Carrying.{carrying}
 use Rattle.model.specs.Geometry.{carryTag, geometryOf, withTag}
 use Rattle.model.specs.Passes.{isImage, passesAt}
 use Rattle.model.specs.Scan.{indexOf}
-use Rattle.model.specs.Calls.{StoredItem, Call, begin, load, change, force, write, backup, release, note, startCarry, restamp, finishCarry, outcomeOf, restampOf}
-use Rattle.model.specs.AbstractLog.{AbstractLog, Left, old, new, torn}
-use Rattle.model.specs.History.{Power, off, on, Machine, Event, restart, perform, crash, crashIn, damage, lent, isRestamp, isStartCarry, payloadFits, tornFits, startFits, leftNew, storedBefore, step, allowed, stepLog, allAllowed, run, logAfter}
+use Rattle.model.specs.Outcome.{StoredItem}
+use Rattle.model.specs.Calls.{Call, outcomeOf, restampOf}
+use Rattle.model.specs.AbstractLog.{AbstractLog, Left, old, new, torn, leftNew, stepCall, stepCut}
+use Rattle.model.specs.History.{Power, off, on, Machine, Event, restart, perform, crash, crashIn, damage, lent, isRestamp, isStartCarry, payloadFits, tornFits, startFits, storedBefore, step, allowed, stepLog, allAllowed, run, logAfter}
 use Rattle.model.specs.Carry.{carries, startsIn}
 use Rattle.model.specs.declared.geometry.Geometry.{Geometry}
 use Rattle.model.specs.declared.state.State.{State}
@@ -76,19 +78,16 @@ module _ (g : Geometry) (C : Type 0) (v m : List ℕ) (past : List StoredItem) (
       → (leftNew l ≡ true → startFits (on m s) v c ≡ true)
       → (C → (isRestamp c && tearsNoted (on m s) v l) ≡ false)
       → TiedTo C (isStartCarry c) g (step here (crashIn c l)) (stepLog here b (crashIn c l))
-  unfolding step stepLog
-  carry-cut (begin page f fill) o l t n u = absurd (true-not-false o refl)
-  carry-cut (load page f) o l t n u = absurd (true-not-false o refl)
-  carry-cut (change page c payload) o l t n u = absurd (true-not-false o refl)
-  carry-cut force o l t n u = absurd (true-not-false o refl)
-  carry-cut (write page) o l t n u = absurd (true-not-false o refl)
-  carry-cut (backup page b) o l t n u = absurd (true-not-false o refl)
-  carry-cut (release page) o l t n u = absurd (true-not-false o refl)
-  carry-cut note o l t n u = absurd (true-not-false o refl)
-  carry-cut startCarry o l t n u = start-cut (context g v m past s b i) l n t
-  carry-cut restamp o l t n u =
-      restamp-cut (context g v m past s b i) l t (λ c xs e. subst (λ (y : Left). tearsNoted (on m s) v y ≡ false) e (u c))
-  carry-cut finishCarry o l t n u = finish-cut (context g v m past s b i) l t
+  unfolding step stepLog stepCut stepCall
+  carry-cut c o l = carrying
+      (λ c. tornFits (geometryOf v) (outcomeOf c v m s .stored) l ≡ true → (leftNew l ≡ true → startFits (on m s) v c ≡ true)
+      → (C → (isRestamp c && tearsNoted (on m s) v l) ≡ false)
+      → TiedTo C (isStartCarry c) g (step here (crashIn c l)) (stepLog here b (crashIn c l)))
+      (λ y t n u. start-cut (context g v m past s b i) y l n t)
+      (λ y t n u.
+      restamp-cut (context g v m past s b i) y l t (λ c xs e. subst (λ (y : Left). tearsNoted (on m s) v y ≡ false) e (u c)))
+      (λ y t n u. finish-cut (context g v m past s b i) y l t)
+      c o
 
   cut-step : (c : Call) (l : Left) → tornFits (geometryOf v) (outcomeOf c v m s .stored) l ≡ true
       → (leftNew l ≡ true → startFits (on m s) v c ≡ true)

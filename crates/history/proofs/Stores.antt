@@ -11,7 +11,7 @@ use Rattle.laws.proofs.Tables.{byCases}
 use Rattle.laws.proofs.Places.{In, item-length}
 use Rattle.laws.proofs.Ring.{slot-low, slot-in, slot-again, slot-apart, run-keep, run-new, run-torn}
 use Rattle.model.specs.Checksum.{sealed}
-use Rattle.model.specs.Geometry.{Place, pageAt, slotAt, recordAt, noteAt, start, item, store, ring, noteRing, most, slotOf, logSlot, noteSlot}
+use Rattle.model.specs.Geometry.{Place, pageAt, slotAt, recordAt, noteAt, start, item, store, ring, most, slotOf, logSlot, noteSlot}
 use Rattle.model.specs.Item.{imageLsn, validImage}
 use Rattle.model.specs.AbstractLog.{Logged}
 use Rattle.model.specs.declared.geometry.Geometry.{Geometry}
@@ -47,7 +47,7 @@ module _ (g : Geometry) (v v′ : List ℕ) where
   notes-keep : (ns : List Note) → ((i : ℕ) → 1 ≤ i → i ≤ g .notes → item g v′ (noteAt i) ≡ item g v (noteAt i))
       → NoteRun g v ns → NoteRun g v′ ns
   notes-keep ns e r =
-      run-keep (noteRing g) (g .notes) (length ns) (NoteStands g v ns) (NoteTorn g v) (Later ns) (NoteStands g v′ ns) (NoteTorn g v′)
+      run-keep (ring g) (g .notes) (length ns) (NoteStands g v ns) (NoteTorn g v) (Later ns) (NoteStands g v′ ns) (NoteTorn g v′)
       (Later ns) (λ i b s. s) r
       (λ i a b w. same i (omega arith) ∙ w) (λ i a b t. rw (same i (omega arith)) t)
     where

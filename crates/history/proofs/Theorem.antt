@@ -17,7 +17,9 @@ use Rattle.model.specs.Geometry.{topNumber, geometryOf}
 use Rattle.model.specs.Item.{frameImage}
 use Rattle.model.specs.State.{frameBytes}
 use Rattle.model.specs.Refusals.{loadRows}
-use Rattle.model.specs.Calls.{StoredItem, loadOf, refusalOf}
+use Rattle.model.specs.Outcome.{StoredItem, refusalOf, decided}
+use Rattle.model.specs.Effects.{loadDone}
+use Rattle.model.specs.Calls.{loadOf}
 use Rattle.model.specs.Index.{entryOf}
 use Rattle.model.specs.Scan.{firstHeld, indexOf}
 use Rattle.model.specs.AbstractLog.{Logged, lastPlace}
@@ -98,7 +100,7 @@ module _ (h : History) (legal : Legal h) (p : ℕ) (lo : 1 ≤ p) (hi : p ≤ h 
 module _ {C : Type 0} {g : Geometry} {v m : List ℕ} {past : List StoredItem} {s : State} {k w : List Logged}
     (x : Ctx C g v m past s k w) (p f : ℕ) where
   pub load-refusal : refusalOf (loadOf v m s p f .answer) ≡ firstOf (loadRows v m s p f)
-  unfolding loadOf
+  unfolding decided loadDone
   load-refusal = byCases (eqb (firstOf (loadRows v m s p f)) 0) (λ t. rw t (sym (eqb-true (firstOf (loadRows v m s p f)) 0 t))) (λ t. rw t)
 
   -- where no change of the page is pending, its number and its replay are those of its durable changes
@@ -114,7 +116,7 @@ module _ {C : Type 0} {g : Geometry} {v m : List ℕ} {past : List StoredItem} {
   pub loaded-bytes : firstOf (loadRows v m s p f) ≡ 0
       → (lastOf p k ≢ 0) × (frameBytes (loadOf v m s p f .memory) f ≡ frameImage p (lastOf p k) (bodyOf p k))
       × (lastOf p (k ++ w) ≡ lastOf p k) × (bodyOf p (k ++ w) ≡ bodyOf p k)
-  unfolding loadOf
+  unfolding decided loadDone
   loaded-bytes e =
       let l = loads x p f e in
       let im = load-image x p (l .low) (l .high) (l .settled) (l .some) (loads-above x p f e) in

@@ -11,10 +11,10 @@ use Rattle.laws.proofs.Places.{In}
 use Rattle.laws.proofs.Headings.{item-tag, item-heading, geometry-heading, valid-heading}
 use Rattle.laws.proofs.FormedTags.{most-rises, notes-rise}
 use Rattle.laws.proofs.Ring.{slot-in, Run, run-keep, run-plain}
-use Rattle.model.specs.Geometry.{tagOf, carryTag, withTag, Place, pageAt, slotAt, recordAt, noteAt, item, storeHeading, ring, noteRing, most, mostNotes, slotOf, logSlot, noteSlot}
+use Rattle.model.specs.Geometry.{tagOf, carryTag, withTag, Place, pageAt, slotAt, recordAt, noteAt, item, storeHeading, ring, most, mostNotes, slotOf, logSlot, noteSlot}
 use Rattle.model.specs.Item.{validImage, isWritten}
 use Rattle.model.specs.Passes.{isImage}
-use Rattle.model.specs.Calls.{StoredItem, newHeading}
+use Rattle.model.specs.Outcome.{StoredItem, newHeading}
 use Rattle.model.specs.AbstractLog.{Logged}
 use Rattle.model.specs.declared.geometry.Geometry.{Geometry}
 use Rattle.model.specs.declared.geometry.Heading.the-variants.{Second}
@@ -115,7 +115,7 @@ module _ {C : Type 0} (g : Geometry) (v : List ℕ) (k : List Logged) (h : Holds
 
   turn-notes : NoteRun (withTag g tag) (storeHeading v tag) ns
   turn-notes =
-      run-plain (noteRing g′) (g .notes) (length ns) (NoteStands g′ v′ ns) (NoteTorn g′ v′) (Later ns)
+      run-plain (ring g′) (g .notes) (length ns) (NoteStands g′ v′ ns) (NoteTorn g′ v′) (Later ns)
       (run-keep false (g .notes) (length ns) (NoteStands g v ns) (NoteTorn g v) (Later ns) (NoteStands g′ v′ ns)
       (NoteTorn g′ v′) (Later ns) (λ i a s. s)
       (subst (λ (r : Bool). Run r (g .notes) (length ns) (NoteStands g v ns) (NoteTorn g v) (Later ns)) plain (o .notes))

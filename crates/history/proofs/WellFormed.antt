@@ -15,7 +15,7 @@ use Rattle.model.specs.Geometry.{most, mostNotes, geometryOf, validVolume}
 use Rattle.model.specs.Item.{isWritten, noteLayout}
 use Rattle.model.specs.Index.{emptyEntry, entryRow, entryOf}
 use Rattle.model.specs.State.{frameCount, validMemory, frameRow, held, blank, lastNumber, pendingNoteFits, frameFits, entryFits, pageFits, wellFormed}
-use Rattle.model.specs.Calls.{StoredItem}
+use Rattle.model.specs.Outcome.{StoredItem}
 use Rattle.model.specs.AbstractLog.{Logged}
 use Rattle.model.specs.declared.geometry.Geometry.{Geometry}
 use Rattle.model.specs.declared.item.Note.{Note}

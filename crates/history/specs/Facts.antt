@@ -12,7 +12,9 @@ use Rattle.model.specs.Index.{entryOf}
 use Rattle.model.specs.Scan.{indexOf}
 use Rattle.model.specs.State.{frameCount, validMemory, frameBytes, holder, held, wellFormed}
 use Rattle.model.specs.Refusals.{frameBlocked}
-use Rattle.model.specs.Calls.{Outcome, volumeAfter, Call, outcomeOf, restartOf, loadOf, releaseOf, refusalOf}
+use Rattle.model.specs.Outcome.{Outcome, volumeAfter, refusalOf}
+use Rattle.model.specs.Calls.{Call, outcomeOf, loadOf, releaseOf}
+use Rattle.model.specs.Restart.{restartOf}
 use Rattle.model.specs.AbstractLog.{Logged, lastPlace, replay}
 use Rattle.model.specs.Passes.{isImage}
 use Rattle.model.specs.History.{on, storedBefore}
@@ -133,7 +135,7 @@ reload h m s c p f =
 -- Load or a Begin into that frame. The volume is as it was, and so is every inspection. A Load of the page into any
 -- frame, where it is not refused, gives the 256 bytes that the frame had. It is refused for its frame alone, or 23; and
 -- 23 only where record 1 has left and the page's proviso fails.
-pub record LetGo (h : History) (m : List ℕ) (s : State) (c : Call) (p : ℕ) : Type 0 where
+pub record Evicted (h : History) (m : List ℕ) (s : State) (c : Call) (p : ℕ) : Type 0 where
   pub volume : volumeAfter (volumeOf h) (outcomeOf c (volumeOf h) m s .stored) ≡ volumeOf h
   pub text : (f : ℕ) → refusalOf (reload h m s c p f .answer) ≡ 0
       → frameBytes (reload h m s c p f .memory) f ≡ frameBytes m (holder s p)
@@ -163,9 +165,9 @@ pub record Facts : Type 0 where
       → (p : ℕ) → 1 ≤ p → p ≤ h .pages → LivePage h m s p
   pub releases : (h : History) → Legal h → (m : List ℕ) (s : State) → reached h .power ≡ on m s
       → (p : ℕ) → 1 ≤ p → p ≤ h .pages → held s p ≡ true → Releases h m s p
-  pub letsGo : (h : History) → Legal h → (m : List ℕ) (s : State) → reached h .power ≡ on m s
+  pub evicts : (h : History) → Legal h → (m : List ℕ) (s : State) → reached h .power ≡ on m s
       → (c : Call) (p : ℕ) → 1 ≤ p → p ≤ h .pages
-      → held s p ≡ true → held (outcomeOf c (volumeOf h) m s .state) p ≡ false → LetGo h m s c p
+      → held s p ≡ true → held (outcomeOf c (volumeOf h) m s .state) p ≡ false → Evicted h m s c p
   -- no two pages share a slot
   pub slots : (h : History) → Legal h → (p q : ℕ) → 1 ≤ p → p ≤ h .pages → 1 ≤ q → q ≤ h .pages
       → entryOf (indexOf (headingOf h) (volumeOf h)) p .slot ≢ 0

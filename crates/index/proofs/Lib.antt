@@ -1,5 +1,5 @@
 -- Laws that belong to no one function.
-pub mod Entries
+pub mod EntryLaws
 pub mod ColumnLaws
 pub mod Conjunctions
 pub mod Located

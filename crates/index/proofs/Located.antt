@@ -8,16 +8,17 @@ use native.Mathlib.Omega.{arith}
 use native.Mathlib.Decide.{ℕ-discrete}
 use lib.ListN.{length}
 use Rattle.laws.proofs.Tables.{byCases}
-use Rattle.laws.proofs.Ring.{highest-same}
 use Rattle.laws.proofs.Places.{place-fits, item-length}
+use Rattle.laws.proofs.Scanned.{first-low}
 use Rattle.laws.proofs.Checksums.{run-none, run-sealed}
 use Rattle.model.specs.Bytes.{part}
 use Rattle.model.specs.Checksum.{sealed}
-use Rattle.model.specs.Geometry.{ring, noteRing, recordAt, noteAt, start, item, logSlot, noteSlot, slotOf}
-use Rattle.model.specs.Scan.{highest, durableCount, firstHeld, noteCount, firstNote}
+use Rattle.model.specs.Geometry.{ring, recordAt, noteAt, start, item, logSlot, noteSlot, slotOf}
+use Rattle.model.specs.Scan.{highest, countIn, firstIn, logSlots, noteSlots, durableCount, firstHeld, noteCount, firstNote}
+use Rattle.model.specs.Scan as scan
 use Rattle.model.specs.declared.geometry.Geometry.{Geometry}
 use Rattle.index.specs.Sections.{Sized, logSection, noteSection, logRun, noteRun}
-use Rattle.section.specs.Section.{Placed, slotBytes, countIn, frontIn, firstIn, runIn}
+use Rattle.section.specs.Section.{Placed, slotBytes, slotsIn, frontIn, runIn}
 use Rattle.section.specs.declared.Section.{Section}
 use Rattle.section.specs.declared.Run.{Run}
 
@@ -39,54 +40,42 @@ module _ (g : Geometry) (v : List ℕ) where
     pub note-here : s ≡ noteSection g → slot ≡ (n - 1) % g .notes → r ≡ item g v (noteSlot g n)
     note-here es e = er ∙ ap (λ (x : Section). slotBytes v x slot) es ∙ ap (slotBytes v (noteSection g)) e ∙ note-slot ((n - 1) % g .notes)
 
-  -- the slot of the number after n
-  pub record-next : (n : ℕ) → slotBytes v (logSection g) (n % g .records) ≡ item g v (logSlot g (suc n))
-  record-next n = let e : n ≡ suc n - 1 = omega arith in
-      record-slot (n % g .records) ∙ ap (λ (k : ℕ). item g v (recordAt (suc (k % g .records)))) e
+  -- the code's section is the definitions'
+  pub log-section : slotsIn v (logSection g) ≡ logSlots g v
+  unfolding item
+  log-section = λ i. record {
+    ring = ring g;
+    size = 60;
+    slots = g .records;
+    at = start g (recordAt 1);
+    slot = λ n. let e : start g (recordAt 1) + (60 + 4) * (n - 1) ≡ start g (recordAt n) = omega arith in part v (e i) 64;
+  }
 
-  pub note-next : (n : ℕ) → slotBytes v (noteSection g) (n % g .notes) ≡ item g v (noteSlot g (suc n))
-  note-next n = let e : n ≡ suc n - 1 = omega arith in note-slot (n % g .notes) ∙ ap (λ (k : ℕ). item g v (noteAt (suc (k % g .notes)))) e
+  pub note-section : slotsIn v (noteSection g) ≡ noteSlots g v
+  unfolding item
+  note-section = λ i. record {
+    ring = ring g;
+    size = 12;
+    slots = g .notes;
+    at = start g (noteAt 1);
+    slot = λ n. let e : start g (noteAt 1) + (12 + 4) * (n - 1) ≡ start g (noteAt n) = omega arith in part v (e i) 16;
+  }
 
-  pub log-count : countIn v (logSection g) ≡ durableCount g v
-  unfolding durableCount countIn
-  log-count =
-      byCases (ring g)
-      (λ t. rw t (highest-same 60 _ _ (g .records)
-      (λ i b. let e : suc i - 1 ≡ i = omega arith in ap (slotBytes v (logSection g)) e ∙ record-slot i)))
-      (λ t. rw t)
-
-  pub note-count : countIn v (noteSection g) ≡ noteCount g v
-  unfolding noteCount countIn
-  note-count =
-      byCases (noteRing g)
-      (λ t. rw t (highest-same 12 _ _ (g .notes)
-      (λ i b. let e : suc i - 1 ≡ i = omega arith in ap (slotBytes v (noteSection g)) e ∙ note-slot i)))
-      (λ t. rw t)
-
-  pub log-first : (n : ℕ) → firstIn v (logSection g) n ≡ firstHeld g v n
-  unfolding firstHeld firstIn
-  log-first n = rw (record-next (n - g .records))
-
-  pub note-first : (n : ℕ) → firstIn v (noteSection g) n ≡ firstNote g v n
-  unfolding firstNote firstIn
-  note-first n = rw (note-next (n - g .notes))
+  pub log-first : (n : ℕ) → firstIn (slotsIn v (logSection g)) n ≡ firstHeld g v n
+  unfolding firstHeld
+  log-first n = ap (λ (x : scan.Section). firstIn x n) log-section
 
   -- the runs as they are found
+  run-of : scan.Section → ℕ → Run
+  run-of x front = record { first = firstIn x (countIn v x); count = countIn v x; front = front }
+
   pub log-run : (s : Section) → s ≡ logSection g → (r : Run) → r ≡ runIn v s → r ≡ logRun g v
-  log-run s es r er =
-      er ∙ ap (runIn v) es ∙ (λ i. record {
-        first = (ap (firstIn v (logSection g)) log-count ∙ log-first (durableCount g v)) i;
-        count = log-count i;
-        front = frontIn v (logSection g);
-      })
+  unfolding run-of durableCount firstHeld
+  log-run s es r er = er ∙ ap (runIn v) es ∙ ap (λ (x : scan.Section). run-of x (frontIn v (logSection g))) log-section
 
   pub note-run : (s : Section) → s ≡ noteSection g → (r : Run) → r ≡ runIn v s → r ≡ noteRun g v
-  note-run s es r er =
-      er ∙ ap (runIn v) es ∙ (λ i. record {
-        first = (ap (firstIn v (noteSection g)) note-count ∙ note-first (noteCount g v)) i;
-        count = note-count i;
-        front = frontIn v (noteSection g);
-      })
+  unfolding run-of noteCount firstNote
+  note-run s es r er = er ∙ ap (runIn v) es ∙ ap (λ (x : scan.Section). run-of x (frontIn v (noteSection g))) note-section
 
   -- a number's slot at the front is whole
   pub record-known : (n : ℕ) → slotOf (g .records) n ≤ frontIn v (logSection g) → sealed 60 (item g v (logSlot g n)) ≡ true
@@ -114,26 +103,16 @@ module _ (g : Geometry) (v : List ℕ) where
     record-length n = let m : (n - 1) % g .records < g .records = mod-lt (n - 1) (s .some) in
         item-length g v (s .size) (logSlot g n) (omega arith, omega arith)
 
-  -- the run starts at 1 or later
-  pub first-low : (n : ℕ) → 1 ≤ firstHeld g v n
-  unfolding firstHeld
-  first-low n =
-      byCases (ring g)
-      (λ t. rw t (byCases (sealed 60 (item g v (logSlot g (suc (n - g .records))))) (λ u. rw u (omega arith)) (λ u. rw u (omega arith))))
-      (λ t. rw t (omega arith))
-
+  -- the run of notes starts at 1 or later
   pub first-note-low : (n : ℕ) → 1 ≤ firstNote g v n
   unfolding firstNote
-  first-note-low n =
-      byCases (noteRing g)
-      (λ t. rw t (byCases (sealed 12 (item g v (noteSlot g (suc (n - g .notes))))) (λ u. rw u (omega arith)) (λ u. rw u (omega arith))))
-      (λ t. rw t (omega arith))
+  first-note-low n = first-low (noteSlots g v) n
 
   -- where there is a note, there is a slot for it
   pub notes-some : 1 ≤ noteCount g v → 1 ≤ g .notes
-  unfolding noteCount highest
+  unfolding noteCount countIn highest
   notes-some h = elim (ℕ-discrete (g .notes) 0) [
-    | yes z ↦ let e : noteCount g v ≡ 0 = byCases (noteRing g) (λ t. rw (t, z)) (λ t. rw (t, z) (run-none 12 v (start g (noteAt 1)))) in
+    | yes z ↦ let e : noteCount g v ≡ 0 = byCases (ring g) (λ t. rw (t, z)) (λ t. rw (t, z) (run-none 12 v (start g (noteAt 1)))) in
         absurd (omega arith)
     | no z ↦ omega arith
   ]

@@ -8,24 +8,25 @@ use native.Mathlib.Omega.{arith}
 use lib.Dec.{eqb}
 use lib.ListN.{length, getD, set, replicate, length-set, length-replicate, List·getD-map}
 use Rattle.laws.proofs.Tables.{all-at, within-bounds, every-none, every-more, every-fails}
+use Rattle.laws.proofs.Scanned.{held-low}
 use Rattle.model.specs.Tables.{every, within}
 use Rattle.model.specs.Checksum.{sealed}
 use Rattle.model.specs.Geometry.{recordAt, logSlot, item}
 use Rattle.model.specs.Item.{recordOf, recordLayout, firstIsFormat}
 use Rattle.model.specs.Index.{emptyEntry, entryOf}
-use Rattle.model.specs.Scan.{logRecord, durableCount, firstHeld, logIndex, runIndex, recordFits, linked, endsAt, restZero, validLog}
+use Rattle.model.specs.Scan.{logRecord, durableCount, firstHeld, logIndex, runIndex, recordFits, linked, endsIn, validLog}
 use Rattle.model.specs.declared.geometry.Geometry.{Geometry}
 use Rattle.model.specs.declared.item.LogRecord.{LogRecord}
 use Rattle.model.specs.declared.state.Entry.{Entry}
 use Rattle.index.specs.Rows.{rowOf}
 use Rattle.index.specs.Columns.{lasts}
 use Rattle.index.specs.Sections.{logSection, logRun, recordFollows}
-use Rattle.section.specs.Section.{endsIn, frontIn}
+use Rattle.section.specs.Section.{slotsIn, frontIn}
 use Rattle.section.specs.declared.Run.{Run}
 use Rattle.section.specs.declared.Section.{Section}
 use Rattle.index.proofs.ColumnLaws.{column-set, log-none}
-use Rattle.index.proofs.Entries.{row-is}
-use Rattle.index.proofs.Located.{record-known, record-slot, first-low}
+use Rattle.index.proofs.EntryLaws.{row-is}
+use Rattle.index.proofs.Located.{record-known, log-section}
 use Rattle.index.proofs.Conjunctions.{guarded}
 
 module _ (g : Geometry) (v : List ℕ) where
@@ -38,9 +39,9 @@ module _ (g : Geometry) (v : List ℕ) where
       rw (every-fails (λ j. recordFits g v f (logIndex g v f j) (f + j)) (suc n - f) i b h)
 
   ends : let n = durableCount g v in let f = firstHeld g v n in
-      every (suc n - f) (λ j. recordFits g v f (logIndex g v f j) (f + j)) ≡ true → endsIn v (logSection g) f n ≡ validLog g v
-  unfolding validLog endsIn
-  ends h = rw (h, record-slot g v (durableCount g v))
+      every (suc n - f) (λ j. recordFits g v f (logIndex g v f j) (f + j)) ≡ true → endsIn v (slotsIn v (logSection g)) f n ≡ validLog g v
+  unfolding validLog
+  ends h = rw (h, log-section g v)
 
   -- the first i records of a run from f on fit, and gave the column of last numbers
   pub record Judged (f i : ℕ) (last : List ℕ) : Type 0 where
@@ -55,7 +56,7 @@ module _ (g : Geometry) (v : List ℕ) where
   -- the log's run
   module _ (r : Run) (er : r ≡ logRun g v) where
     pub run-low : 1 ≤ r .first
-    run-low = rw er (first-low g v (durableCount g v))
+    run-low = rw er (held-low g v (durableCount g v))
 
     -- a record at the whole front
     pub log-known : (n slot : ℕ) (x : List ℕ) → x ≡ item g v (logSlot g n) → slot ≡ (n - 1) % g .records
@@ -75,12 +76,12 @@ module _ (g : Geometry) (v : List ℕ) where
     -- all fit
     pub log-ends : (i : ℕ) (last : List ℕ) → Judged (r .first) i last → i ≡ suc (r .count) - r .first
         → (s : Section) → s ≡ logSection g → (b : Bool)
-        → b ≡ endsIn v s (r .first) (r .count) → b ≡ validLog g v
+        → b ≡ endsIn v (slotsIn v s) (r .first) (r .count) → b ≡ validLog g v
     log-ends i last j ei s es b eb =
-        eb ∙ ap (λ (x : Section). endsIn v x (r .first) (r .count)) es
+        eb ∙ ap (λ (x : Section). endsIn v (slotsIn v x) (r .first) (r .count)) es
         ∙ subst (λ (x : Run). every (suc (x .count) - x .first)
         (λ k. recordFits g v (x .first) (logIndex g v (x .first) k) (x .first + k)) ≡ true
-        → endsIn v (logSection g) (x .first) (x .count) ≡ validLog g v) (sym er) ends (rw ei at (j .held))
+        → endsIn v (slotsIn v (logSection g)) (x .first) (x .count) ≡ validLog g v) (sym er) ends (rw ei at (j .held))
 
     pub log-columns : (i : ℕ) (last : List ℕ) → Judged (r .first) i last → i ≡ suc (r .count) - r .first → last ≡ lasts (runIndex g v)
     log-columns i last j ei = j .same ∙ ap (λ (k : ℕ). lasts (logIndex g v (r .first) k)) ei

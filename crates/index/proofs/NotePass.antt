@@ -1,6 +1,6 @@
 -- Laws of the notes' scan: one note as it was judged and entered, and what all notes come to.
 use mathlib.Core.Path.{_≡_, refl, sym, ap, _∙_, subst}
-use mathlib.Core.Bool.{Bool, true, false, _&&_, _||_, not, and-assoc}
+use mathlib.Core.Bool.{Bool, true, false, _&&_, _||_, not}
 use mathlib.Core.List.{List, [], _∷_, map}
 use Prim.Native.Nat.{ℕ, zero, suc, _+_, _-_, _*_, _%_, _≤_, _<_}
 use native.Mathlib.Numerals.{add-one}
@@ -11,22 +11,22 @@ use borrow.Author.Tests.{le-leb}
 use Rattle.laws.proofs.Tables.{all-at, within-bounds, every-none, every-more, every-fails}
 use Rattle.model.specs.Tables.{every, within}
 use Rattle.model.specs.Checksum.{sealed}
-use Rattle.model.specs.Geometry.{noteAt, noteSlot, start, item}
+use Rattle.model.specs.Geometry.{noteSlot, item}
 use Rattle.model.specs.Item.{noteOf, noteLayout}
 use Rattle.model.specs.Index.{emptyEntry, entryRow, entryOf, withNote, enterNote, slotUsed, settled}
-use Rattle.model.specs.Scan.{logRecord, noteRecord, durableCount, firstHeld, noteCount, firstNote, runIndex, noteIndex, noteFollows, noteFits, endsAt, restZero, validNotes, indexOf}
+use Rattle.model.specs.Scan.{logRecord, noteRecord, durableCount, firstHeld, noteCount, firstNote, runIndex, noteIndex, noteFollows, noteFits, endsIn, validNotes, indexOf}
 use Rattle.model.specs.declared.geometry.Geometry.{Geometry}
 use Rattle.model.specs.declared.item.Note.{Note}
 use Rattle.model.specs.declared.state.Entry.{Entry}
 use Rattle.index.specs.Rows.{rowOf}
 use Rattle.index.specs.Columns.{Noted, Blank, earlierEntry, slotIn}
 use Rattle.index.specs.Sections.{noteSection, noteRun, noteAfter, noteAgrees, notedIndex, notesKept}
-use Rattle.section.specs.Section.{frontIn, endsIn}
+use Rattle.section.specs.Section.{slotsIn, frontIn}
 use Rattle.section.specs.declared.Run.{Run}
 use Rattle.section.specs.declared.Section.{Section}
 use Rattle.index.proofs.ColumnLaws.{column-set, slot-in, log-written, log-slots, log-backup, noted-written, noted-slot, noted-backup, Long, blank-long, long-set}
-use Rattle.index.proofs.Entries.{row-is}
-use Rattle.index.proofs.Located.{note-known, note-slot, first-note-low, notes-some}
+use Rattle.index.proofs.EntryLaws.{row-is}
+use Rattle.index.proofs.Located.{note-known, note-section, first-note-low, notes-some}
 use Rattle.index.proofs.Conjunctions.{guarded}
 
 -- slot 0 is in no range, whatever a search says of it
@@ -44,9 +44,9 @@ module _ (g : Geometry) (v : List ℕ) where
       rw (every-fails (λ j. noteFits g v (noteIndex g v f j) (f + j)) (suc k - f) i b h)
 
   ends : let k = noteCount g v in let f = firstNote g v k in
-      every (suc k - f) (λ j. noteFits g v (noteIndex g v f j) (f + j)) ≡ true → endsIn v (noteSection g) f k ≡ notesKept g v
+      every (suc k - f) (λ j. noteFits g v (noteIndex g v f j) (f + j)) ≡ true → endsIn v (slotsIn v (noteSection g)) f k ≡ notesKept g v
   unfolding notesKept
-  ends h = rw h
+  ends h = rw (h, note-section g v)
 
   -- the first i notes of a run from f on fit, and gave the columns
   pub record Entered (f i : ℕ) (written slots backup : List ℕ) : Type 0 where
@@ -81,11 +81,12 @@ module _ (g : Geometry) (v : List ℕ) where
     -- all fit
     module _ (i : ℕ) (written slots backup : List ℕ) (j : Entered (r .first) i written slots backup)
         (ei : i ≡ suc (r .count) - r .first) where
-      pub notes-end : (s : Section) → s ≡ noteSection g → (b : Bool) → b ≡ endsIn v s (r .first) (r .count) → b ≡ notesKept g v
+      pub notes-end : (s : Section) → s ≡ noteSection g → (b : Bool) → b ≡ endsIn v (slotsIn v s) (r .first) (r .count)
+          → b ≡ notesKept g v
       notes-end s es b eb =
-          eb ∙ ap (λ (x : Section). endsIn v x (r .first) (r .count)) es
+          eb ∙ ap (λ (x : Section). endsIn v (slotsIn v x) (r .first) (r .count)) es
           ∙ subst (λ (x : Run). every (suc (x .count) - x .first) (λ k. noteFits g v (noteIndex g v (x .first) k) (x .first + k)) ≡ true
-          → endsIn v (noteSection g) (x .first) (x .count) ≡ notesKept g v) (sym er) ends (rw ei at (j .held))
+          → endsIn v (slotsIn v (noteSection g)) (x .first) (x .count) ≡ notesKept g v) (sym er) ends (rw ei at (j .held))
 
       pub notes-columns : Noted (notedIndex g v) written slots backup
       notes-columns =
@@ -95,18 +96,8 @@ module _ (g : Geometry) (v : List ℕ) where
   -- the rule of the notes, with what is judged at the end
   pub notes-valid : validNotes g v
       ≡ (notesKept g v && every 64 (λ i. leb (entryRow (indexOf g v) i .written) (entryRow (indexOf g v) i .last)))
-  unfolding validNotes notesKept endsIn
-  notes-valid =
-      let k = noteCount g v in
-      let f = firstNote g v k in
-      rw (note-slot g v k)
-      (regroup (every (suc k - f) (λ j. noteFits g v (noteIndex g v f j) (f + j)))
-      (endsAt (g .notes) k f (sealed 12 (item g v (noteAt (suc k)))))
-      (restZero 16 (g .notes) v (start g (noteAt 1)) k)
-      (every 64 (λ i. leb (entryRow (indexOf g v) i .written) (entryRow (indexOf g v) i .last))))
-    where
-      regroup : (a b c d : Bool) → (a && (b && (c && d))) ≡ ((a && (b && c)) && d)
-      regroup a b c d = ap (λ (t : Bool). a && t) (sym (and-assoc b c d)) ∙ sym (and-assoc a (b && c) d)
+  unfolding validNotes notesKept
+  notes-valid = refl
 
   -- the columns before any note
   note-none : (f : ℕ) (written slots backup : List ℕ) → Blank written slots backup → Noted (noteIndex g v f 0) written slots backup

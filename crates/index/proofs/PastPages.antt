@@ -14,12 +14,11 @@ use Rattle.model.specs.Checksum.{sealed}
 use Rattle.model.specs.Geometry.{noteSlot, item}
 use Rattle.model.specs.Item.{noteLayout}
 use Rattle.model.specs.Index.{entryOf, withNote, enterNote}
-use Rattle.model.specs.Scan.{logRecord, noteRecord, durableCount, firstHeld, noteCount, firstNote, noteIndex, noteFollows, noteFits}
+use Rattle.model.specs.Scan.{endsIn, noteSlots, logRecord, noteRecord, durableCount, firstHeld, noteCount, firstNote, noteIndex, noteFollows, noteFits}
 use Rattle.model.specs.declared.geometry.Geometry.{Geometry}
 use Rattle.model.specs.declared.state.Entry.{Entry}
 use Rattle.index.specs.Columns.{writtens, Noted, Unwritten}
-use Rattle.index.specs.Sections.{noteSection, notedIndex, notesKept}
-use Rattle.section.specs.Section.{endsIn}
+use Rattle.index.specs.Sections.{notedIndex, notesKept}
 use Rattle.index.proofs.ColumnLaws.{column-set, log-written}
 
 zero-row : (n i : ℕ) → _≡_ {A = ℕ} (getD (replicate n 0) i 0) 0
@@ -62,5 +61,5 @@ unfolding notesKept
 unwritten g v written slots backup t n =
     let k = noteCount g v in
     let f = firstNote g v k in
-    let h = and-left (every (suc k - f) (fitsAt g v f)) (endsIn v (noteSection g) f k) t in
+    let h = and-left (every (suc k - f) (fitsAt g v f)) (endsIn v (noteSlots g v) f k) t in
     record { unwritten = λ i b. ap (λ (l : List ℕ). getD l i 0) (sym (n .written-is)) ∙ row-past g v f i b (suc k - f) h }

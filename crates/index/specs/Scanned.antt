@@ -1,7 +1,8 @@
 -- The scan of a volume, with its refusals, and what a clean one gives.
 use Prim.Native.Nat.{ℕ}
-use mathlib.Core.Bool.{not}
+use mathlib.Core.Bool.{Bool, _&&_, not}
 use mathlib.Core.List.{List, [], _∷_}
+use lib.Dec.{ltb}
 use Rattle.model.specs.Tables.{Row, firstOf}
 use Rattle.model.specs.Geometry.{geometryOf, validVolume}
 use Rattle.model.specs.Index.{entryOf}
@@ -32,6 +33,10 @@ abbrev pub countsOf : List ℕ → Counts
 countsOf v =
     let g = geometryOf v in
     record { refusal = 0; first = firstHeld g v (durableCount g v); durable = durableCount g v; notes = noteCount g v }
+
+-- record 1 has left a log of these counts
+abbrev pub goneIn : Counts → Bool
+goneIn c = ltb 0 (c .durable) && ltb 1 (c .first)
 
 abbrev pub scannedOf : List ℕ → Scanned
 scannedOf v =

@@ -5,15 +5,15 @@ use mathlib.Core.Bool.{Bool, cond, _&&_, _||_, not}
 use mathlib.Core.List.{List, [], _∷_}
 use lib.Dec.{eqb, leb}
 use lib.ListN.{length}
-use Rattle.model.specs.Tables.{all, every, within}
-use Rattle.model.specs.Geometry.{lengthFor, recordAt, noteAt, start, ring, noteRing}
+use Rattle.model.specs.Tables.{all, within}
+use Rattle.model.specs.Geometry.{lengthFor, recordAt, noteAt, start, ring}
 use Rattle.model.specs.Item.{firstIsFormat, noteLayout, isWritten}
-use Rattle.model.specs.Scan.{durableCount, firstHeld, noteCount, firstNote, noteIndex, noteFits}
+use Rattle.model.specs.Scan.{validRun, noteSlots, durableCount, firstHeld, noteCount, firstNote, noteIndex, noteFits}
 use Rattle.model.specs.declared.geometry.Geometry.{Geometry}
 use Rattle.model.specs.declared.item.LogRecord.{LogRecord}
 use Rattle.model.specs.declared.item.Note.{Note}
 use Rattle.model.specs.declared.state.Entry.{Entry}
-use Rattle.section.specs.Section.{frontIn, endsIn}
+use Rattle.section.specs.Section.{frontIn}
 use Rattle.section.specs.declared.Section.{Section}
 use Rattle.section.specs.declared.Run.{Run}
 
@@ -32,7 +32,7 @@ abbrev pub logSection : Geometry → Section
 logSection g = record { ring = ring g; at = start g (recordAt 1); size = 60; slots = g .records }
 
 abbrev pub noteSection : Geometry → Section
-noteSection g = record { ring = noteRing g; at = start g (noteAt 1); size = 12; slots = g .notes }
+noteSection g = record { ring = ring g; at = start g (noteAt 1); size = 12; slots = g .notes }
 
 abbrev pub logRun : Geometry → List ℕ → Run
 logRun g v =
@@ -50,7 +50,7 @@ unfoldable pub notesKept : Geometry → List ℕ → Bool
 notesKept g v =
     let k = noteCount g v in
     let f = firstNote g v k in
-    every (suc k - f) (λ i. noteFits g v (noteIndex g v f i) (f + i)) && endsIn v (noteSection g) f k
+    validRun v (noteSlots g v) f k (λ i. noteFits g v (noteIndex g v f i) (f + i))
 
 -- ---- an item's test and its entry, of what was read for them
 

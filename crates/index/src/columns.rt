@@ -9,7 +9,7 @@ ghost use lib.ListN.{length};
 ghost use Rattle.model.specs.Index.{settled};
 ghost use Rattle.model.specs.declared.state.Entry as entries;
 ghost use Rattle.index.specs.Columns.{Columns, Wide, columnRow, columnsOrdered, slotIn, Unwritten};
-use crate::rows;
+use crate::entries;
 use model::state::Entry;
 
 // A slot's number.
@@ -73,9 +73,9 @@ pub fn entry(last: &[u32], written: &[u32], slots: &[u8], backup: &[u32], page: 
         ≡ columnRow (now (last .entry)) (now (written .entry)) (now (slots .entry)) (now (backup .entry)) (page - 1) ⌝ }
 {
     if page <= 64 {
-        row(last, written, slots, backup, rows::row(page))
+        row(last, written, slots, backup, entries::row(page))
     } else {
-        rows::EMPTY
+        entries::EMPTY
     }
 }
 
@@ -103,7 +103,7 @@ pub fn gather(last: &[u32], written: &[u32], slots: &[u8], backup: &[u32]) -> [E
         → Columns x (now (last .entry)) (now (written .entry)) (now (slots .entry)) (now (backup .entry))
         → r ≡ map settled x) ⌝ }
 {
-    let mut index = [rows::EMPTY; 64];
+    let mut index = [entries::EMPTY; 64];
     let mut i: usize = 0;
     while i < 64 {
         index[i] = row(last, written, slots, backup, i);

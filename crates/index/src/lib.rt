@@ -4,12 +4,12 @@ ghost use mathlib.Core.Bool.{true};
 ghost use lib.ListN.{replicate};
 ghost use Rattle.model.specs.Geometry.{knownMagic, geometryOf};
 ghost use Rattle.index.specs.Columns.{Blank, Columns};
-ghost use Rattle.index.specs.Scanned.{scanRefusal, columnIndex, foundOf, countsOf, scannedOf};
+ghost use Rattle.index.specs.Scanned.{scanRefusal, columnIndex, foundOf, countsOf, goneIn, scannedOf};
 
 pub mod columns;
+pub mod entries;
 pub mod log;
 pub mod notes;
-pub mod rows;
 
 use model::geometry::Geometry;
 use model::state::Entry;
@@ -37,6 +37,13 @@ pub struct Found {
     pub refusal: u32,
     pub first: u64,
     pub entry: Entry,
+}
+
+// Record 1 has left a log of these counts.
+pub fn gone(c: Counts) -> bool
+    ensures { λ r. ⌜ r ≡ goneIn c ⌝ }
+{
+    (0 < c.durable) & (1 < c.first)
 }
 
 fn refused(n: u32) -> Counts

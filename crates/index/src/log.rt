@@ -5,7 +5,7 @@ ghost use lib.ListN.{replicate};
 ghost use Rattle.model.specs.Scan as scans;
 ghost use Rattle.index.specs.Columns.{lasts};
 ghost use Rattle.index.specs.Sections.{Sized, logSection, logRun, recordFollows};
-use crate::rows;
+use crate::entries;
 use item::record;
 use model::geometry::Geometry;
 use model::item::LogRecord;
@@ -74,7 +74,7 @@ pub fn scan(volume: &[u8], g: Geometry, run: Run, last: &mut [u32]) -> bool
         let n = section::nth(first, i);
         let r = section::item(volume, s, slot);
         let e = record::read(r);
-        let k = rows::row(e.page as u32);
+        let k = entries::row(e.page as u32);
         let was = last[k];
         let whole = section::whole(r, 60, slot, front);
         if !fits(whole, record::layout(r), e, g.pages, below, was, n) {

@@ -6,7 +6,7 @@ ghost use Rattle.model.specs.Scan.{logRecord};
 ghost use Rattle.index.specs.Columns.{Blank, Noted, earlierEntry};
 ghost use Rattle.index.specs.Sections.{Sized, noteSection, logRun, noteRun, noteAfter, noteAgrees, notedIndex, notesKept};
 use crate::columns;
-use crate::rows;
+use crate::entries;
 use codec::field;
 use item::note;
 use model::geometry::Geometry;
@@ -108,33 +108,26 @@ pub fn scan(
     ensures columns { λ r. ⌜ (r ≡ true
         → Noted (notedIndex g (now (volume .entry))) (now (written .exit)) (now (slots .exit)) (now (backup .exit))) ⌝ }
 {
-    let pages = g.pages;
-    let count = g.slots;
-    let first = run.first;
-    let front = run.front;
     let span = section::span(run);
     let s = locate(g);
-    let mut slot = section::start(first, s.slots);
-    let mut i: u32 = 0;
-    while i < span {
-        let k = section::nth(first, i);
+    let mut slot = section::start(run.first, s.slots);
+    for i in 0..span {
+        let k = section::nth(run.first, i);
         let r = section::item(volume, s, slot);
         let n = note::read(r);
-        let j = rows::row(n.page as u32);
+        let j = entries::row(n.page as u32);
         let was = earlier(written[j], slots[j], backup[j]);
-        let used = columns::taken(slots, n.slot as u32);
-        let follows = follows(was, n, count, used);
+        let follows = follows(was, n, g.slots, columns::taken(slots, n.slot as u32));
         let named = agrees(volume, g, log.first, n);
-        let whole = section::whole(r, 12, slot, front);
-        if !fits(whole, n, k, pages, log.count, named, follows) {
+        let whole = section::whole(r, 12, slot, run.front);
+        if !fits(whole, n, k, g.pages, log.count, named, follows) {
             return false;
         }
-        let e = rows::noted(was, n);
+        let e = entries::noted(was, n);
         written[j] = e.written;
         slots[j] = e.slot;
         backup[j] = e.backup;
         slot = section::after(slot, s.slots);
-        i += 1;
     }
     section::ends(volume, s, run)
 }

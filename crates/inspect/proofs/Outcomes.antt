@@ -18,7 +18,7 @@ use Rattle.model.specs.Index.{entryOf}
 use Rattle.model.specs.Scan.{validLog, validNotes, indexOf}
 use Rattle.model.specs.Repair.{viewOf, walkOf, isBelow, repairOf, rebuilt}
 use Rattle.model.specs.Refusals.{inspectRows, foundBelow}
-use Rattle.model.specs.Calls.{Inspected, inspectOf}
+use Rattle.model.specs.Restart.{inspectOf}
 use Rattle.model.specs.declared.geometry.Geometry.{Geometry}
 use Rattle.model.specs.declared.state.Entry.{Entry}
 use Rattle.model.specs.declared.answer.Answer.{Answer}

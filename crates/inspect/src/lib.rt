@@ -3,15 +3,14 @@ ghost use mathlib.Core.Path.{_≡_};
 ghost use mathlib.Core.Bool.{cond, not};
 ghost use lib.Dec.{eqb};
 ghost use Rattle.model.specs.Tables.{within};
-ghost use Rattle.model.specs.Calls.{inspectOf, refusalOf};
-
-pub mod examine;
-
+ghost use Rattle.model.specs.Outcome.{refusalOf};
+ghost use Rattle.model.specs.Restart.{inspectOf};
 use item::image;
 use model::answer::Answer;
 use repair::answer;
 use repair::rebuild;
 use repair::walk;
+use repair::walk::Target;
 use volume::heading;
 use volume::rows;
 
@@ -53,9 +52,15 @@ pub fn inspect(volume: &[u8], page: u32, buffer: &mut [u8]) -> Answer
     if walk::below(stop) {
         return Answer::Refused(23);
     }
-    rebuild::rebuild(volume, g, first, e, page, walked, buffer);
+    let t = Target {
+        g,
+        first,
+        entry: e,
+        page,
+    };
+    rebuild::rebuild(volume, t, walked, buffer);
     image::seal(buffer, g);
-    Answer::Repaired(answer::answer(volume, g, first, e, page, walked))
+    Answer::Repaired(answer::answer(walked))
 }
 
 // The number that stands for an answer.

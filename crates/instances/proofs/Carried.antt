@@ -13,7 +13,7 @@ use Rattle.model.specs.Claim.{reached, Safe}
 use Rattle.cases.specs.Opened.{opened}
 use Rattle.cases.specs.Worked.{historyOf, Computed}
 use Rattle.cases.specs.CarriedOver.{carriedHistories, forgeryCarried, notCarried}
-use Rattle.worked.proofs.Histories.{carried-worked}
+use Rattle.cases_carry.proofs.Carry.{carried-worked}
 use Rattle.history.proofs.Lost.{made-safe}
 use Rattle.history.proofs.CarryClaims.{carry-history}
 use Rattle.instances.proofs.Instances.{AllFollow, follow, AllAgree}

@@ -11,18 +11,20 @@ use native.Mathlib.Decide.{decLt}
 use lib.Dec.{T, eqb→eq}
 use lib.ListN.{length, getD, replicate, length-replicate}
 use Rattle.laws.proofs.Parts.{splice-length, splice-at, splice-before, splice-after}
-use Rattle.laws.proofs.Forecast.{forecast}
+use Rattle.reports_laws.proofs.Forecast.{forecast}
 use Rattle.laws.proofs.Demand1.{demand1}
 use Rattle.model.specs.Tables.{Row, within}
 use Rattle.model.specs.Bytes.{field, splice}
 use Rattle.model.specs.Checksum.{sealImage, imageSealed}
 use Rattle.model.specs.Geometry.{Place, pageAt, slotAt, recordAt, noteAt, itemOf, width, start, geometryOf, validVolume, emptyVolume, item, store}
 use Rattle.model.specs.Item.{imagePage, imageLsn, validImage, frameImage}
-use Rattle.model.specs.Calls.{Call, volumeAfter, outcomeOf}
+use Rattle.model.specs.Outcome.{volumeAfter}
+use Rattle.model.specs.Calls.{Call, outcomeOf}
 use Rattle.model.specs.Claim.{reached}
 use Rattle.model.specs.Demand1.{DiffersAt, AtMostOneItem, Arrays}
-use Rattle.model.specs.Forecast.{forecastOf, forecastRow, JudgedAlike}
-use Rattle.model.specs.Precedence.{inspectExceptions, archiveExceptions, ordered}
+use Rattle.reports.specs.Forecast.{forecastOf, forecastRow, JudgedAlike}
+use Rattle.model.specs.Precedence.{inspectExceptions, ordered}
+use Rattle.reports.specs.ReportsOrdered.{archiveExceptions}
 use Rattle.model.specs.declared.geometry.Heading.the-variants.{First, Second}
 use Rattle.model.specs.declared.state.State.{State}
 use Rattle.cases.specs.Opened.{opened}
@@ -36,12 +38,12 @@ holds false t = absurd t
 -- ---- one item, and one byte more
 
 -- the bytes right before and right behind a stored item, of every kind, are as they were
-pub before-kept : (v w : List ℕ) (at : Place) → DiffersAt v w at → (i : ℕ) → suc i ≡ start (geometryOf v) at → getD w i 0 ≡ getD v i 0
-before-kept v w at d i e = d .outside i (inl (omega (arith, e)))
+pub before-same : (v w : List ℕ) (at : Place) → DiffersAt v w at → (i : ℕ) → suc i ≡ start (geometryOf v) at → getD w i 0 ≡ getD v i 0
+before-same v w at d i e = d .outside i (inl (omega (arith, e)))
 
-pub behind-kept : (v w : List ℕ) (at : Place) → DiffersAt v w at
+pub behind-same : (v w : List ℕ) (at : Place) → DiffersAt v w at
     → getD w (start (geometryOf v) at + width at) 0 ≡ getD v (start (geometryOf v) at + width at) 0
-behind-kept v w at d = d .outside (start (geometryOf v) at + width at) (inr (omega arith))
+behind-same v w at d = d .outside (start (geometryOf v) at + width at) (inr (omega arith))
 
 width-most : (at : Place) → width at ≤ 256
 width-most (pageAt i) = omega arith

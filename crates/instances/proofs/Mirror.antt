@@ -9,15 +9,15 @@ use lib.Dec.{T, eqb→eq}
 use lib.ListN.{length, length-append}
 use Rattle.model.specs.AbstractLog.{Logged}
 use Rattle.model.specs.Claim.{History, reached, durableOf, Agree}
-use Rattle.model.specs.Mirror.{commonOf, mirrorOf, kindNumber, countNumber, mirrorRefusal, listed, LongestCommon}
+use Rattle.reports.specs.Mirror.{commonOf, mirrorOf, kindNumber, countNumber, mirrorRefusal, listed, LongestCommon}
 use Rattle.model.specs.declared.geometry.Heading.the-variants.{First, Second}
-use Rattle.model.specs.declared.reading.Comparison.{Comparison}
-use Rattle.model.specs.declared.reading.Comparison.the-variants.{Refused, FirstLacks, SecondLacks, Differs}
+use Rattle.reports.specs.declared.reading.Comparison.{Comparison}
+use Rattle.reports.specs.declared.reading.Comparison.the-variants.{Refused, FirstLacks, SecondLacks, Differs}
 use Rattle.cases.specs.Opened.{opened}
 use Rattle.cases.specs.Worked.{historyOf}
 use Rattle.cases.specs.Histories.{forcesCut, backupReplaced, twoForced}
 use Rattle.cases.specs.Slides.{slid}
-use Rattle.history.proofs.Mirror.{mirror}
+use Rattle.reports_theory.proofs.Mirror.{mirror}
 use Rattle.instances.proofs.Instances.{cut-computed, replaced-computed, forced-computed}
 
 agrees : (c : Comparison) → kindNumber c ≡ 1 → c ≡ Comparison.Agree
@@ -69,8 +69,8 @@ taken : mirrorRefusal (mirrorOf (reached replaced .volume) (reached cut .volume)
 taken = ap mirrorRefusal first-lacks
 
 -- the answer is that of the two kept lists
-pub kept-lists : LongestCommon (commonOf (reached replaced .volume) (reached cut .volume)) (durableOf replaced) (durableOf cut)
-kept-lists = mirror .kept replaced cut (replaced-computed .legal) (cut-computed .legal) taken .0
+pub durable-lists : LongestCommon (commonOf (reached replaced .volume) (reached cut .volume)) (durableOf replaced) (durableOf cut)
+durable-lists = mirror .kept replaced cut (replaced-computed .legal) (cut-computed .legal) taken .0
 
 -- which have two changes in common; one is too short, though both lists begin with it, and three are too many
 pub common-two : commonOf (reached replaced .volume) (reached cut .volume) ≡ 2

@@ -1,27 +1,29 @@
 -- The facts of the rings at three histories, so that their hypotheses are met: record 1 has left and is spare; a note is about to overwrite
 -- one that stands whole, which has a later one of its page and kind; and a page whose backup was damaged cannot be rebuilt.
-use Prim.Native.Nat.{ℕ, _≤_, _<_}
+use Prim.Native.Nat.{ℕ, _<_}
 use mathlib.Core.Path.{_≡_, refl}
-use mathlib.Core.Bool.{Bool, true, false, _&&_}
+use mathlib.Core.Bool.{Bool, true, false}
 use mathlib.Core.List.{List, [], _∷_, _++_}
 use native.Mathlib.Omega.{arith}
 use lib.Dec.{T, eqb, leb, eqb→eq}
 use lib.ListN.{length, take, replicate}
 use borrow.Author.Tests.{leb-true}
 use Rattle.model.specs.Checksum.{sealed}
-use Rattle.model.specs.Geometry.{Place, pageAt, slotAt, recordAt, noteAt, lengthFor, geometryOf, item}
+use Rattle.model.specs.Geometry.{pageAt, slotAt, recordAt, noteAt, lengthFor, geometryOf, item}
 use Rattle.model.specs.Item.{noteOf}
 use Rattle.model.specs.State.{zeroState}
-use Rattle.model.specs.Calls.{StoredItem, nothing, oneItem, newHeading, begin, force, write, backup, note, makeOf, outcomeOf, refusalOf}
+use Rattle.model.specs.Outcome.{StoredItem, nothing, oneItem, newHeading, refusalOf}
+use Rattle.model.specs.Calls.{outcomeOf}
+use Rattle.model.specs.Restart.{makeOf}
+use Rattle.cases.specs.Calls.{note}
 use Rattle.model.specs.AbstractLog.{lastPlace}
-use Rattle.model.specs.History.{Power, off, on, Event, restart, perform, damage, isOn, allAllowed}
+use Rattle.model.specs.History.{Power, off, on, damage, isOn, allAllowed}
 use Rattle.model.specs.Claim.{History, Legal, fresh, reached, durableOf, inspection}
 use Rattle.model.specs.RingClaim.{ChangeOf, SpareRecord, SpareNote, runStart, Unrepairable}
 use Rattle.model.specs.declared.geometry.Heading.the-variants.{Second}
 use Rattle.model.specs.declared.state.State.{State}
 use Rattle.cases.specs.Opened.{opened}
-use Rattle.cases.specs.Build.{memory}
-use Rattle.cases.specs.Rings.{put, turned}
+use Rattle.cases.specs.Rings.{turned, notesTurn}
 use Rattle.history.proofs.Rings.{rings}
 use Rattle.instances.proofs.Rings.{ringHistory, legal}
 
@@ -49,8 +51,8 @@ spare-record = rings .lost ringHistory legal 1 1 first-change starts-later
 
 -- ---- two written notes stand, and a backup's note is to overwrite the first
 
-abbrev pub notesTurn : History
-notesTurn =
+abbrev pub notesTurned : History
+notesTurned =
     record {
       heading = Second;
       found = replicate (lengthFor 1 1 4 2) 0xDD;
@@ -58,17 +60,15 @@ notesTurn =
       slots = 1;
       records = 4;
       notes = 2;
-      events =
-          restart (memory 1) ∷ perform (begin 1 1 7) ∷ perform force ∷ perform (write 1) ∷ perform note ∷ perform (put 2)
-          ∷ perform force ∷ perform (write 1) ∷ perform note ∷ perform (backup 1 1) ∷ [];
+      events = notesTurn;
     }
 
-turn-legal : Legal notesTurn
+turn-legal : Legal notesTurned
 unfolding opened
 turn-legal =
     record {
       make = eqb→eq (refusalOf (makeOf Second (replicate (lengthFor 1 1 4 2) 0xDD) 1 1 4 2 .answer)) 0 tt;
-      events = holds (allAllowed (fresh notesTurn) (notesTurn .events)) tt;
+      events = holds (allAllowed (fresh notesTurned) (notesTurned .events)) tt;
     }
 
 abbrev memoryIn : Power → List ℕ
@@ -105,28 +105,28 @@ note-is i (oneItem (noteAt j) xs) t = let e : j ≡ i = eqb→eq j i t in rw e
 note-is i (newHeading tag) t = absurd t
 
 abbrev m : List ℕ
-m = memoryIn (reached notesTurn .power)
+m = memoryIn (reached notesTurned .power)
 
 abbrev s : State
-s = stateIn (reached notesTurn .power)
+s = stateIn (reached notesTurned .power)
 
-turn-on : reached notesTurn .power ≡ on m s
+turn-on : reached notesTurned .power ≡ on m s
 unfolding opened
-turn-on = power-is (reached notesTurn .power) tt
+turn-on = power-is (reached notesTurned .power) tt
 
-overwrites : outcomeOf note (reached notesTurn .volume) m s .stored
-    ≡ oneItem (noteAt 1) (bytesIn (outcomeOf note (reached notesTurn .volume) m s .stored))
+overwrites : outcomeOf note (reached notesTurned .volume) m s .stored
+    ≡ oneItem (noteAt 1) (bytesIn (outcomeOf note (reached notesTurned .volume) m s .stored))
 unfolding opened
-overwrites = note-is 1 (outcomeOf note (reached notesTurn .volume) m s .stored) tt
+overwrites = note-is 1 (outcomeOf note (reached notesTurned .volume) m s .stored) tt
 
-stands : sealed 12 (item (geometryOf (reached notesTurn .volume)) (reached notesTurn .volume) (noteAt 1)) ≡ true
+stands : sealed 12 (item (geometryOf (reached notesTurned .volume)) (reached notesTurned .volume) (noteAt 1)) ≡ true
 unfolding opened
-stands = holds (sealed 12 (item (geometryOf (reached notesTurn .volume)) (reached notesTurn .volume) (noteAt 1))) tt
+stands = holds (sealed 12 (item (geometryOf (reached notesTurned .volume)) (reached notesTurned .volume) (noteAt 1))) tt
 
-pub spare-note : SpareNote (reached notesTurn .volume) 1
-    (noteOf (item (geometryOf (reached notesTurn .volume)) (reached notesTurn .volume) (noteAt 1)))
+pub spare-note : SpareNote (reached notesTurned .volume) 1
+    (noteOf (item (geometryOf (reached notesTurned .volume)) (reached notesTurned .volume) (noteAt 1)))
 spare-note =
-    rings .notes notesTurn turn-legal m s turn-on note 1 (bytesIn (outcomeOf note (reached notesTurn .volume) m s .stored)) overwrites stands
+    rings .notes notesTurned turn-legal m s turn-on note 1 (bytesIn (outcomeOf note (reached notesTurned .volume) m s .stored)) overwrites stands
 
 -- ---- the ring that has turned, its backup damaged
 

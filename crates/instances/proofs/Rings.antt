@@ -10,7 +10,8 @@ use lib.Dec.{T, eqb, eqb→eq}
 use lib.ListN.{length, replicate}
 use borrow.Author.Tests.{eqb-false}
 use Rattle.model.specs.Geometry.{lengthFor}
-use Rattle.model.specs.Calls.{makeOf, refusalOf}
+use Rattle.model.specs.Outcome.{refusalOf}
+use Rattle.model.specs.Restart.{makeOf}
 use Rattle.model.specs.AbstractLog.{lastPlace}
 use Rattle.model.specs.History.{allAllowed}
 use Rattle.model.specs.Claim.{History, Legal, Gone, Safe, fresh, durableOf, ShowsReplay}

@@ -8,7 +8,7 @@ use native.Mathlib.Decide.{decLt}
 use lib.Dec.{eqb, ltb, lit≤}
 use lib.ListN.{length, take, getD}
 use lib.Seq.{length-take-le}
-use borrow.Author.Tests.{eqb-true, eqb-false, eq-eqb, lt-ltb, ltb-true}
+use borrow.Author.Tests.{eqb-true, eqb-false, eq-eqb, lt-ltb, ltb-true, le-ltb}
 use Rattle.laws.proofs.Tables.{byCases, and-left, and-right, and-both, or-left, or-right, within-bounds, within-holds, true-not-false}
 use Rattle.laws.proofs.Checksums.{take-with, sum-holds, byteSum-most}
 use Rattle.laws.proofs.Items.{by-words, by-bytes, by-either, bytes-set, sealImage-field}
@@ -158,11 +158,8 @@ image-place g (noteAt n) i = absurd (true-not-false i refl)
 pub image-in : (g : Geometry) (i : ℕ) → i < imageCount g → isImage g (imagePlace g i) ≡ true
 image-in g i b = elim (decLt i (g .pages)) [
   | yes y ↦ rw (lt-ltb i (g .pages) y) (within-holds (g .pages) (suc i) (omega arith) (omega arith))
-  | no z ↦ rw (not-below i (g .pages) z) (within-holds (g .slots) (suc (i - g .pages)) (omega arith) (omega arith))
+  | no z ↦ rw (le-ltb i (g .pages) (omega arith)) (within-holds (g .slots) (suc (i - g .pages)) (omega arith) (omega arith))
 ]
-  where
-    not-below : (i n : ℕ) → (i < n → ⊥) → ltb i n ≡ false
-    not-below i n z = byCases (ltb i n) (λ t. absurd (z (ltb-true i n t))) (λ t. t)
 
 -- an image that names a page to which the index gives the slot is one for it
 pub named-noted : (b : ℕ) (x : List ℕ) (index : List Entry) (n i : ℕ) → i < length index → getD index i emptyEntry .slot ≡ b

@@ -3,7 +3,7 @@
 use mathlib.Core.Path.{_≡_, refl}
 use mathlib.Core.Bool.{Bool, true, false, cond}
 use mathlib.Core.List.{List, [], _∷_}
-use Prim.Native.Nat.{ℕ, zero, suc, _-_, _≤_, _<_}
+use Prim.Native.Nat.{ℕ, zero, suc, _+_, _-_, _≤_, _<_}
 use native.Mathlib.Omega.{arith}
 use lib.Dec.{eqb, ltb}
 use lib.ListN.{length}
@@ -12,7 +12,7 @@ use Rattle.laws.proofs.Tables.{byCases, all-at}
 use Rattle.model.specs.Checksum.{sealed}
 use Rattle.model.specs.Geometry.{ring, most, item, logSlot}
 use Rattle.model.specs.Item.{recordOf, recordLayout, isFormat, firstIsFormat}
-use Rattle.model.specs.Scan.{firstHeld}
+use Rattle.model.specs.Scan.{firstHeld, firstIn}
 use Rattle.model.specs.Repair.{View, chainRecord, walkFrom, walkOf, ownStart, backupStart}
 use Rattle.model.specs.declared.geometry.Geometry.{Geometry}
 
@@ -42,12 +42,16 @@ chain-few (suc steps) log first p own backup n =
     rw c (byCases (isFormat (recordOf (log n))) (λ f. rw f (omega arith)) (λ f. rw f (omega arith))))
     (λ c. rw c (omega arith))))))))
 
+-- a run of n records is no longer than the log
+pub run-room : (g : Geometry) (v : List ℕ) (n : ℕ) → (ring g ≡ false → n ≤ g .records) → n < firstHeld g v n + g .records
+unfolding firstHeld firstIn
+run-room g v n h = byCases (ring g)
+    (λ t. rw t (byCases (sealed 60 (item g v (logSlot g (suc (n - g .records))))) (λ u. rw u (omega arith)) (λ u. rw u (omega arith))))
+    (λ t. let b : n ≤ g .records = h t in rw t (omega arith))
+
 -- the run that a state of n durable records sees
 pub run-few : (g : Geometry) (v : List ℕ) (n : ℕ) → n ≤ most g → suc n - firstHeld g v n ≤ g .records
-unfolding firstHeld
-run-few g v n h = byCases (ring g)
-    (λ t. rw t (byCases (sealed 60 (item g v (logSlot g (suc (n - g .records))))) (λ u. rw u (omega arith)) (λ u. rw u (omega arith))))
-    (λ t. let e : n ≤ g .records = rw t at h in rw t (omega arith))
+run-few g v n h = omega (arith, run-room g v n (λ t. rw t at h))
 
 pub walk-few : (g : Geometry) (v : List ℕ) (n p : ℕ) (w : View) → n ≤ most g → w .durable ≤ n → w .first ≡ firstHeld g v n
     → length (walkOf g p w .chain) ≤ g .records

@@ -17,7 +17,7 @@ use Rattle.laws.proofs.Headings.{geometry-heading, differs-in-tag}
 use Rattle.model.specs.Tables.{Row, firstOf}
 use Rattle.model.specs.Geometry.{Place, width, start, store, geometryOf, withTag, validVolume}
 use Rattle.model.specs.Refusals.{stateRows}
-use Rattle.model.specs.Calls.{StoredItem, nothing, oneItem, newHeading, Outcome, volumeAfter, unchanged, decided, refusalOf}
+use Rattle.model.specs.Outcome.{StoredItem, nothing, oneItem, newHeading, Outcome, volumeAfter, unchanged, decided, refusalOf}
 use Rattle.model.specs.Demand1.{Decides, ByTable, StoresItem, AtMostOneItem}
 use Rattle.model.specs.declared.geometry.Geometry.{Geometry}
 use Rattle.model.specs.declared.state.State.{State}
@@ -83,15 +83,18 @@ by-table rs h n e =
 module _ (rows : List Row) (m : List ℕ) (s : State) (done : Outcome) (accepted : refusalOf (done .answer) ≡ 0) where
   -- its answer's number is the table's
   pub number-is : refusalOf (decided rows m s done .answer) ≡ firstOf rows
+  unfolding decided
   number-is =
       byCases (eqb (firstOf rows) 0) (λ t. rw t (accepted ∙ sym (eqb-true _ _ t))) (λ t. rw t)
 
   -- refused, it changes nothing
   refused-is : refusalOf (decided rows m s done .answer) ≢ 0 → decided rows m s done ≡ unchanged (Refused (firstOf rows)) m s
+  unfolding decided
   refused-is h = when-false _ _ (ne-eqb _ _ (λ z. h (number-is ∙ z)))
 
   -- what it stores
   pub stores : (P : StoredItem → Type 0) → P nothing → (firstOf rows ≡ 0 → P (done .stored)) → P (decided rows m s done .stored)
+  unfolding decided
   stores P a b = byCases (eqb (firstOf rows) 0) (λ t. rw t (b (eqb-true _ _ t))) (λ t. rw t a)
 
 -- one item stored in its place

@@ -24,7 +24,11 @@ use Rattle.model.specs.State.{frameCount, frameBytes, pendingBytes, holder, hel
 use Rattle.model.specs.Refusals.{pageDirty, notDurable, makeRows, restartRows, beginRows, loadRows, changeRows, forceRows, writeRows, backupRows, releaseRows, noteRows, startCarryRows, restampRows, finishCarryRows, inspectRows}
 use Rattle.model.specs.Index.{slotUsed}
 use Rattle.model.specs.Passes.{imageCount, imagePlace, firstOld, oldLeft}
-use Rattle.model.specs.Calls.{nothing, beginOf, loadOf, changeCall, forceOf, writeOf, backupOf, releaseOf, noteCall, noteStored, startCarryOf, restampOf, finishCarryOf, restartOf, makeOf, inspectOf, refusalOf, Call, begin, load, change, force, write, backup, release, note, startCarry, restamp, finishCarry, rowsOf, outcomeOf, Made, Inspected}
+use Rattle.model.specs.Outcome.{nothing, refusalOf, decided}
+use Rattle.model.specs.Effects.{noteStored, backupDone, beginDone, changeDone, forceDone, loadDone, releaseDone, restampDone, writeDone}
+use Rattle.model.specs.Calls.{beginOf, loadOf, changeCall, forceOf, writeOf, backupOf, releaseOf, noteCall, startCarryOf, restampOf, finishCarryOf, Call, rowsOf, outcomeOf}
+use Rattle.model.specs.Restart.{restartOf, makeOf, inspectOf, Made, Inspected}
+use Rattle.model.specs.declared.command.Command.the-variants.{Begin, Load, Change as ChangeCall, Force, Write, Backup, Release, Note, StartCarry, Restamp, FinishCarry}
 use Rattle.model.specs.Demand1.{ByTable, StoresItem, Keeps, Arrays, Demand1}
 use Rattle.model.specs.declared.geometry.Heading.{Heading}
 use Rattle.model.specs.declared.geometry.Heading.the-variants.{First}
@@ -36,14 +40,14 @@ use Rattle.model.specs.declared.state.PendingNote.the-variants.{Absent, Present
 -- ---- the calls that store nothing
 
 begin-keeps : (v m : List ℕ) (s : State) (page frame fill : ℕ) → KeepsBy (beginRows v m s page frame) v m s (beginOf v m s page frame fill)
-unfolding beginOf beginRows
+unfolding decided beginDone beginRows
 begin-keeps v m s page frame fill =
     let own : Numbered (beginRows v m s page frame) =
     (eqb-false 1 0 refl, (eqb-false 2 0 refl, (eqb-false 2 0 refl, (eqb-false 3 0 refl, (eqb-false 4 0 refl, (eqb-false 9 0 refl, (eqb-false 10 0 refl, (eqb-false 11 0 refl, (eqb-false 12 0 refl, tt))))))))) in
     keeps-by _ v m s _ own refl (λ _. tt)
 
 load-keeps : (v m : List ℕ) (s : State) (page frame : ℕ) → KeepsBy (loadRows v m s page frame) v m s (loadOf v m s page frame)
-unfolding loadOf loadRows
+unfolding decided loadDone loadRows
 load-keeps v m s page frame =
     let own : Numbered (loadRows v m s page frame) =
     (eqb-false 1 0 refl, (eqb-false 2 0 refl, (eqb-false 2 0 refl, (eqb-false 3 0 refl, (eqb-false 4 0 refl, (eqb-false 7 0 refl, (eqb-false 9 0 refl, (eqb-false 10 0 refl, (eqb-false 19 0 refl, (eqb-false 23 0 refl, tt)))))))))) in
@@ -51,14 +55,14 @@ load-keeps v m s page frame =
 
 change-keeps : (v m : List ℕ) (s : State) (page : ℕ) (c : Change) (payload : List ℕ)
     → KeepsBy (changeRows v m s page c) v m s (changeCall v m s page c payload)
-unfolding changeCall changeRows
+unfolding decided changeDone changeRows
 change-keeps v m s page c payload =
     let own : Numbered (changeRows v m s page c) =
     (eqb-false 1 0 refl, (eqb-false 2 0 refl, (eqb-false 2 0 refl, (eqb-false 3 0 refl, (eqb-false 6 0 refl, (eqb-false 8 0 refl, (eqb-false 11 0 refl, (eqb-false 12 0 refl, tt)))))))) in
     keeps-by _ v m s _ own refl (λ _. tt)
 
 release-keeps : (v m : List ℕ) (s : State) (page : ℕ) → KeepsBy (releaseRows v m s page) v m s (releaseOf v m s page)
-unfolding releaseOf releaseRows
+unfolding decided releaseDone releaseRows
 release-keeps v m s page =
     let own : Numbered (releaseRows v m s page) = (
       eqb-false 1 0 refl,
@@ -69,7 +73,7 @@ release-keeps v m s page =
 -- ---- the calls that store an item
 
 force-keeps : (v m : List ℕ) (s : State) → KeepsBy (forceRows v m s) v m s (forceOf v m s)
-unfolding forceOf forceRows
+unfolding decided forceDone forceRows
 force-keeps v m s =
     keeps-by _ v m s _ (numbered-state v m s [] tt)
     (either (eqb (s .pending) 0) _ _ (λ o. refusalOf (o .answer) ≡ 0) (λ _. refl) (λ _. refl))
@@ -92,7 +96,7 @@ image-length v m s rows r a p one h =
     (holder-within (geometryOf v) (frameCount (length m)) s (r .state) (a .frames) p h one))
 
 write-keeps : (v m : List ℕ) (s : State) (page : ℕ) → Arrays s → KeepsBy (writeRows v m s page) v m s (writeOf v m s page)
-unfolding writeOf writeRows
+unfolding decided writeDone writeRows
 write-keeps v m s page a =
     let g = geometryOf v in
     let d = pageDirty s page in
@@ -112,7 +116,7 @@ write-keeps v m s page a =
     (λ _. tt))
 
 backup-keeps : (v m : List ℕ) (s : State) (page slot : ℕ) → Arrays s → KeepsBy (backupRows v m s page slot) v m s (backupOf v m s page slot)
-unfolding backupOf backupRows
+unfolding decided backupDone backupRows
 backup-keeps v m s page slot a =
     let g = geometryOf v in
     let rest : List Row = (not (within (g .pages) page), 3) ∷ (not (within (g .slots) slot), 5) ∷ (not (held s page), 8)
@@ -148,7 +152,7 @@ note-stored-one v m s ok (Present n) h =
     (omega arith, mod-lt (s .notes + 1 - 1) (f .slots)) (note-length n)
 
 note-keeps : (v m : List ℕ) (s : State) → KeepsBy (noteRows v m s) v m s (noteCall v m s)
-unfolding noteCall noteRows
+unfolding decided noteRows
 note-keeps v m s =
     keeps-by _ v m s _ (numbered-state v m s [] tt) (note-stored-accepts v m s (s .note))
     (λ h. let r = ready v m s [] h in note-stored-one v m s (r .volume) (s .note) (r .state .note))
@@ -156,20 +160,20 @@ note-keeps v m s =
 -- ---- the calls that carry a volume over
 
 start-keeps : (v m : List ℕ) (s : State) → KeepsBy (startCarryRows v m s) v m s (startCarryOf v m s)
-unfolding startCarryOf startCarryRows
+unfolding decided startCarryRows
 start-keeps v m s =
     keeps-by _ v m s _ (eqb-false 1 0 refl, numbered-state v m s [] tt) refl
     (λ h. (ready-behind (not (headed (tagOf First) v)) v m s [] h .1 .volume, inl refl))
 
 finish-keeps : (v m : List ℕ) (s : State) → KeepsBy (finishCarryRows v m s) v m s (finishCarryOf v m s)
-unfolding finishCarryOf finishCarryRows
+unfolding decided finishCarryRows
 finish-keeps v m s =
     let rest : List Row = (oldLeft (geometryOf v) v (s .index), 20) ∷ [] in
     keeps-by _ v m s _ (eqb-false 1 0 refl, numbered-state v m s rest (eqb-false 20 0 refl, tt)) refl
     (λ h. (ready-behind (not (headed carryTag v)) v m s rest h .1 .volume, inr refl))
 
 restamp-keeps : (v m : List ℕ) (s : State) → KeepsBy (restampRows v m s) v m s (restampOf v m s)
-unfolding restampOf restampRows
+unfolding decided restampDone restampRows
 restamp-keeps v m s =
     let g = geometryOf v in
     let i = firstOld g v (s .index) in
@@ -198,17 +202,17 @@ keeps {c} {v} {m} {s} k = record {
 }
 
 pub call-keeps : (c : Call) (v m : List ℕ) (s : State) → Arrays s → KeepsBy (rowsOf c v m s) v m s (outcomeOf c v m s)
-call-keeps (begin page frame fill) v m s a = begin-keeps v m s page frame fill
-call-keeps (load page frame) v m s a = load-keeps v m s page frame
-call-keeps (change page c payload) v m s a = change-keeps v m s page c payload
-call-keeps force v m s a = force-keeps v m s
-call-keeps (write page) v m s a = write-keeps v m s page a
-call-keeps (backup page slot) v m s a = backup-keeps v m s page slot a
-call-keeps (release page) v m s a = release-keeps v m s page
-call-keeps note v m s a = note-keeps v m s
-call-keeps startCarry v m s a = start-keeps v m s
-call-keeps restamp v m s a = restamp-keeps v m s
-call-keeps finishCarry v m s a = finish-keeps v m s
+call-keeps (Begin page frame fill, _) v m s a = begin-keeps v m s page frame fill
+call-keeps (Load page frame, _) v m s a = load-keeps v m s page frame
+call-keeps (ChangeCall page c, payload) v m s a = change-keeps v m s page c payload
+call-keeps (Force, _) v m s a = force-keeps v m s
+call-keeps (Write page, _) v m s a = write-keeps v m s page a
+call-keeps (Backup page slot, _) v m s a = backup-keeps v m s page slot a
+call-keeps (Release page, _) v m s a = release-keeps v m s page
+call-keeps (Note, _) v m s a = note-keeps v m s
+call-keeps (StartCarry, _) v m s a = start-keeps v m s
+call-keeps (Restamp, _) v m s a = restamp-keeps v m s
+call-keeps (FinishCarry, _) v m s a = finish-keeps v m s
 
 make-keeps : (h : Heading) (v : List ℕ) (p b l n : ℕ) → ByTable (makeRows v p b l n) (refusalOf (makeOf h v p b l n .answer))
     × (refusalOf (makeOf h v p b l n .answer) ≢ 0 → makeOf h v p b l n .volume ≡ v)
@@ -225,7 +229,7 @@ restart-keeps : (v m : List ℕ)
     → ByTable (restartRows v m) (refusalOf (restartOf v m .answer))
     × (refusalOf (restartOf v m .answer) ≢ 0 → (restartOf v m .state ≡ zeroState) × (restartOf v m .memory ≡ m))
     × (restartOf v m .stored ≡ nothing)
-unfolding restartOf restartRows
+unfolding restartOf decided restartRows
 restart-keeps v m =
     let own : Numbered (restartRows v m) = (eqb-false 1 0 refl, (eqb-false 2 0 refl, (eqb-false 17 0 refl, (eqb-false 18 0 refl, tt)))) in
     let k = keeps-by (restartRows v m) v m zeroState _ own refl (λ _. tt) in

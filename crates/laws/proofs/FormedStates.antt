@@ -22,7 +22,7 @@ use Rattle.model.specs.Item.{noteLayout}
 use Rattle.model.specs.Index.{emptyEntry, entryOf, withLast}
 use Rattle.model.specs.State.{frameCount, frameRow, holder, held, lastNumber, logFull, notesFull, pendingNoteFits, frameFits, entryFits, pageFits, wellFormed}
 use Rattle.model.specs.Refusals.{frameBlocked}
-use Rattle.model.specs.Calls.{withFrame, withFrames, appendedState, nextNote}
+use Rattle.model.specs.Effects.{withFrame, withFrames, appendedState, nextNote}
 use Rattle.model.specs.Demand1.{Arrays}
 use Rattle.model.specs.declared.geometry.Geometry.{Geometry}
 use Rattle.model.specs.declared.state.PendingNote.{PendingNote}

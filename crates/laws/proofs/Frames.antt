@@ -11,7 +11,7 @@ use lib.Dec.{eqb, leb, ltb}
 use lib.ListN.{length, getD, set, length-set}
 use lib.Seq.{getD-set-same, getD-set-other}
 use borrow.Author.Tests.{leb-true, le-leb, ltb-true, ltb-false, lt-ltb, le-ltb, eqb-true, eqb-false, eq-eqb, ne-eqb, not-false}
-use Rattle.laws.proofs.Tables.{all-at, all-holds, every-at, every-all, or-cases, or-left, or-right, not-true, byCases, when-true, when-false, true-not-false}
+use Rattle.laws.proofs.Tables.{all-at, all-holds, every-at, every-all, or-cases, or-left, or-right, or-other, not-true, byCases, when-true, when-false, true-not-false}
 use Rattle.laws.proofs.WellFormed.{Formed, holder-finds}
 use Rattle.model.specs.Tables.{all, every}
 use Rattle.model.specs.Geometry.{most, mostNotes}
@@ -53,11 +53,6 @@ pub record RowFits (g : Geometry) (frames : ℕ) (s : State) (i : ℕ) : Type 0 
   pub idle : frameRow s i .page ≡ 0 → frameRow s i .dirty ≡ false
   pub inside : frameRow s i .page ≢ 0 → i < frames
 
--- one side of a test that holds, where the other does not
-other-side : (a b : Bool) → (a || b) ≡ true → a ≡ false → b ≡ true
-other-side true b h f = absurd (true-not-false refl f)
-other-side false b h f = h
-
 pub row-fits : (g : Geometry) (frames : ℕ) (s : State) (i : ℕ) → frameFits g frames s i ≡ true → RowFits g frames s i
 unfolding frameFits
 row-fits g frames s i h =
@@ -68,9 +63,9 @@ row-fits g frames s i h =
     record {
       high = leb-true _ _ (all-at tests 0 h);
       once = λ nz j l. eqb-false _ _ (not-true _ (every-at (λ k. not (eqb (frameRow s k .page) (f .page))) i
-          (other-side empty (firstHolder s i) (all-at tests 1 h) (ne-eqb (f .page) 0 nz)) j l));
-      some = λ nz. eqb-false _ _ (not-true _ (other-side empty (not (blank s (f .page))) (all-at tests 2 h) (ne-eqb (f .page) 0 nz)));
-      idle = λ z. not-true (f .dirty) (other-side (not empty) (not (f .dirty)) (all-at tests 3 h) (rw (eq-eqb (f .page) 0 z)));
+          (or-other empty (firstHolder s i) (all-at tests 1 h) (ne-eqb (f .page) 0 nz)) j l));
+      some = λ nz. eqb-false _ _ (not-true _ (or-other empty (not (blank s (f .page))) (all-at tests 2 h) (ne-eqb (f .page) 0 nz)));
+      idle = λ z. not-true (f .dirty) (or-other (not empty) (not (f .dirty)) (all-at tests 3 h) (rw (eq-eqb (f .page) 0 z)));
       inside = λ nz. ⊎-elim (λ t. ltb-true i frames t) (λ t. absurd (nz (eqb-true (f .page) 0 t)))
           (or-cases (ltb i frames) empty (all-at tests 4 h));
     }
@@ -124,7 +119,7 @@ entry-fits g s p e h =
         backup = leb-true _ _ (all-at tests 4 h);
         slot = leb-true _ _ (all-at tests 5 h);
       };
-      away = λ t. eqb-true _ _ (other-side (held s p) (eqb (e .last) (e .durable)) (all-at tests 6 h) t);
+      away = λ t. eqb-true _ _ (or-other (held s p) (eqb (e .last) (e .durable)) (all-at tests 6 h) t);
     }
 
 pub fits-entry : (g : Geometry) (s : State) (p : ℕ) (e : Entry) → EntryFits g s p e → entryFits g s p e ≡ true

@@ -71,12 +71,6 @@ item-tag g tag v (slotAt i) = refl
 item-tag g tag v (recordAt i) = refl
 item-tag g tag v (noteAt i) = refl
 
-pub in-tag : (g : Geometry) (tag : ℕ) (at : Place) → In g at → In (withTag g tag) at
-in-tag g tag (pageAt i) h = h
-in-tag g tag (slotAt i) h = h
-in-tag g tag (recordAt i) h = h
-in-tag g tag (noteAt i) h = h
-
 -- a tag other than the second is no ring's
 pub no-ring : (g : Geometry) → eqb (g .tag) (tagOf Second) ≡ false → ring g ≡ false
 no-ring g e = rw e

@@ -15,11 +15,14 @@ use Rattle.model.specs.Tables.{Row, firstOf, within}
 use Rattle.model.specs.Geometry.{geometryOf}
 use Rattle.model.specs.Item.{imageLsn, validImage, isFormat, recordOf}
 use Rattle.model.specs.Index.{entryRow, entryOf}
-use Rattle.model.specs.Scan.{durableCount, firstHeld, indexOf}
-use Rattle.model.specs.Repair.{View, Walk, stopAt, behind, walkOf, walkFrom, startOf, classOf, classIn, ownStart, backupStart, chainRecord, viewOf, repairOf}
+use Rattle.model.specs.Scan.{indexOf}
+use Rattle.model.specs.Repair.{View, Walk, stopAt, behind, walkOf, walkFrom, startOf, classOf, classIn, ownStart, backupStart, chainRecord, repairOf, stateView, scannedView}
 use Rattle.model.specs.State.{frameCount, held, blank, lastNumber, entryFits, pageFits}
 use Rattle.model.specs.Refusals.{loadRows, inspectRows, frameBlocked, chainBroken, chainBelow}
-use Rattle.model.specs.Calls.{loadOf, inspectOf}
+use Rattle.model.specs.Outcome.{decided}
+use Rattle.model.specs.Effects.{loadDone}
+use Rattle.model.specs.Calls.{loadOf}
+use Rattle.model.specs.Restart.{inspectOf}
 use Rattle.model.specs.Health.{Untouched, Health}
 use Rattle.model.specs.declared.geometry.Geometry.{Geometry}
 use Rattle.model.specs.declared.state.State.{State}
@@ -124,11 +127,11 @@ entry-durable g s p e t h nz =
 
 module _ (v m : List ℕ) (s : State) (p f : ℕ) where
   abbrev view : View
-  view = viewOf (geometryOf v) v (firstHeld (geometryOf v) v (s .durable)) (entryOf (s .index) p) p
+  view = stateView (geometryOf v) v s p
 
   pub load-repairs : (r : Repair) → loadOf v m s p f .answer ≡ Repaired r
       → (firstOf (loadRows v m s p f) ≡ 0) × (repairOf (geometryOf v) p view ≡ r)
-  unfolding loadOf
+  unfolding decided loadDone
   load-repairs r e =
       let no = firstOf (loadRows v m s p f) in
       let q = repaired-by (eqb no 0) (repairOf (geometryOf v) p view) r no
@@ -157,7 +160,7 @@ module _ (v m : List ℕ) (s : State) (p f : ℕ) where
 
 module _ (v : List ℕ) (p : ℕ) (buffer : List ℕ) where
   abbrev seen : View
-  seen = viewOf (geometryOf v) v (firstHeld (geometryOf v) v (durableCount (geometryOf v) v)) (entryOf (indexOf (geometryOf v) v) p) p
+  seen = scannedView (geometryOf v) v p
 
   pub inspect-repairs : (r : Repair) → inspectOf v p buffer .answer ≡ Repaired r
       → (firstOf (inspectRows v p (length buffer)) ≡ 0) × (repairOf (geometryOf v) p seen ≡ r)

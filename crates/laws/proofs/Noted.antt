@@ -8,7 +8,7 @@ use Prim.Native.Nat.{ℕ, zero, suc, _+_, _-_, _≤_, _<_}
 use native.Mathlib.Omega.{arith}
 use native.Mathlib.Decide.{decLt, ℕ-discrete}
 use lib.Dec.{eqb, leb, ltb}
-use lib.ListN.{length, getD, length-set}
+use lib.ListN.{length, length-set, List·getD-map}
 use lib.Seq.{getD-set-same, getD-set-other}
 use borrow.Author.Tests.{eqb-true, eq-eqb, ltb-true}
 use Rattle.laws.proofs.Tables.{byCases, all-at, and-left, or-cases, every-at, within-bounds, true-not-false}
@@ -62,9 +62,8 @@ unfolding validNotes
 notes-fit g v h i b =
     let k = noteCount g v in
     let f = firstNote g v k in
-    let each = every (suc k - f) (λ i. noteFits g v (noteIndex g v f i) (f + i)) in
     note-fit g v (noteIndex g v f i) (f + i)
-    (every-at (λ i. noteFits g v (noteIndex g v f i) (f + i)) (suc k - f) (and-left each _ h) i b)
+    (every-at (λ i. noteFits g v (noteIndex g v f i) (f + i)) (suc k - f) (and-left _ _ (and-left _ _ h)) i b)
 
 -- ---- the index with notes entered
 
@@ -122,11 +121,6 @@ module _ (g : Geometry) (v : List ℕ) (few : g .pages ≤ 64) (f most : ℕ) (o
             rw (getD-set-other (noteIndex g v f c) (x .page - 1) (p - 1)
             (withNote (entryOf (noteIndex g v f c) (x .page)) x) emptyEntry d) k
       ]
-
-pub map-at : (f : Entry → Entry) (l : List Entry) (i : ℕ) → i < length l → getD (map f l) i emptyEntry ≡ f (getD l i emptyEntry)
-map-at f [] i b = absurd (omega arith)
-map-at f (x ∷ l) zero b = refl
-map-at f (x ∷ l) (suc i) b = map-at f l i (omega arith)
 
 -- ---- a volume that restarts
 
@@ -202,6 +196,5 @@ module _ (g : Geometry) (v : List ℕ) (few : g .pages ≤ 64) (log : validLog g
   entered hi =
       let k = noteCount g v in
       let s = firstNote g v k in
-      let i = notes-length g v s (suc k - s) in
-      rw (map-at settled (noteIndex g v s (suc k - s)) (p - 1) (omega (arith, i)))
+      rw (List·getD-map settled (noteIndex g v s (suc k - s)) (p - 1) emptyEntry)
       (settle (entryOf (noteIndex g v s (suc k - s)) p) before hi)

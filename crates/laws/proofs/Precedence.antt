@@ -11,12 +11,9 @@ use Rattle.laws.proofs.Tables.{byCases, and-left, and-right}
 use Rattle.laws.proofs.Decided.{later}
 use Rattle.model.specs.Tables.{Row}
 use Rattle.model.specs.Refusals.{makeRows, restartRows, beginRows, loadRows, changeRows, forceRows, writeRows, backupRows, releaseRows, noteRows, startCarryRows, restampRows, finishCarryRows, inspectRows}
-use Rattle.model.specs.Calls.{Call, begin, load, change, force, write, backup, release, note, startCarry, restamp, finishCarry, rowsOf}
+use Rattle.model.specs.Calls.{Call, rowsOf}
+use Rattle.model.specs.declared.command.Command.the-variants.{Begin, Load, Change, Force, Write, Backup, Release, Note, StartCarry, Restamp, FinishCarry}
 use Rattle.model.specs.Demand1.{Decides}
-use Rattle.model.specs.Health.{examineRows}
-use Rattle.model.specs.Archive.{archiveRows, readRows}
-use Rattle.model.specs.Mirror.{mirrorRows, compareRows}
-use Rattle.model.specs.Rehearsal.{rehearsalRows}
 use Rattle.model.specs.Precedence.{Exception, excepted, precedes, precedesAll, ordered, TablesOrdered, LowestWins}
 use Rattle.model.specs.declared.state.State.{State}
 
@@ -24,35 +21,26 @@ use Rattle.model.specs.declared.state.State.{State}
 
 calls-ordered : (c : Call) (v m : List ℕ) (s : State) → ordered [] (rowsOf c v m s) ≡ true
 unfolding beginRows loadRows changeRows forceRows writeRows backupRows releaseRows noteRows startCarryRows restampRows finishCarryRows
-calls-ordered (begin page frame fill) v m s = refl
-calls-ordered (load page frame) v m s = refl
-calls-ordered (change page c payload) v m s = refl
-calls-ordered force v m s = refl
-calls-ordered (write page) v m s = refl
-calls-ordered (backup page slot) v m s = refl
-calls-ordered (release page) v m s = refl
-calls-ordered note v m s = refl
-calls-ordered startCarry v m s = refl
-calls-ordered restamp v m s = refl
-calls-ordered finishCarry v m s = refl
+calls-ordered (Begin page frame fill, _) v m s = refl
+calls-ordered (Load page frame, _) v m s = refl
+calls-ordered (Change page c, payload) v m s = refl
+calls-ordered (Force, _) v m s = refl
+calls-ordered (Write page, _) v m s = refl
+calls-ordered (Backup page slot, _) v m s = refl
+calls-ordered (Release page, _) v m s = refl
+calls-ordered (Note, _) v m s = refl
+calls-ordered (StartCarry, _) v m s = refl
+calls-ordered (Restamp, _) v m s = refl
+calls-ordered (FinishCarry, _) v m s = refl
 
 pub tables-ordered : TablesOrdered
-unfolding makeRows restartRows inspectRows examineRows archiveRows readRows mirrorRows compareRows rehearsalRows
+unfolding makeRows restartRows inspectRows
 tables-ordered =
     record {
       calls = calls-ordered;
       make = λ v p b l n. refl;
       restart = λ v m. refl;
       inspect = λ v page size. refl;
-      examine = λ v page size count. refl;
-      forecast = λ v. refl;
-      tell = λ v size. refl;
-      size = λ v. refl;
-      archive = λ v size. refl;
-      read = λ a size. refl;
-      mirror = λ v w. refl;
-      compare = λ v w size. refl;
-      rehearsal = λ events t. refl;
     }
 
 -- ---- the lowest wins

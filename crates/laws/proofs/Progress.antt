@@ -20,7 +20,9 @@ use Rattle.model.specs.Geometry.{tagOf, carryTag, headed, geometryOf, validVolu
 use Rattle.model.specs.Passes.{isImage, byBytes, onlyOld, imageCount, oldAt, firstOld, oldLeft}
 use Rattle.model.specs.State.{frameCount, validMemory, wellFormed}
 use Rattle.model.specs.Refusals.{restampRows, finishCarryRows}
-use Rattle.model.specs.Calls.{nothing, newHeading, volumeAfter, storing, restampOf, finishCarryOf, refusalOf}
+use Rattle.model.specs.Outcome.{nothing, newHeading, volumeAfter, storing, refusalOf, decided}
+use Rattle.model.specs.Effects.{restampDone}
+use Rattle.model.specs.Calls.{restampOf, finishCarryOf}
 use Rattle.model.specs.Carry.{oldCount, restamps, AllDone, Progress, passesOn, DropsNone}
 use Rattle.model.specs.declared.geometry.Heading.the-variants.{Second}
 use Rattle.model.specs.declared.state.State.{State}
@@ -91,13 +93,13 @@ twenty false false false false false = (λ e. absurd (eqb-false 0 20 refl e), λ
 restamp-answer : (v m : List ℕ) (s : State) → restampOf v m s .answer
     ≡ cond (eqb (firstOf (restampRows v m s)) 0) (cond (oldLeft (geometryOf v) v (s .index)) Done Nothing)
     (Refused (firstOf (restampRows v m s)))
-unfolding restampOf
+unfolding decided restampDone
 restamp-answer v m s = rw (left-found v m s) (byCases (eqb (firstOf (restampRows v m s)) 0)
     (λ t. rw t (byCases (ltb (firstOld (geometryOf v) v (s .index)) (imageCount (geometryOf v))) (λ u. rw u) (λ u. rw u)))
     (λ t. rw t))
 
 pub finish-refusal : (v m : List ℕ) (s : State) → refusalOf (finishCarryOf v m s .answer) ≡ firstOf (finishCarryRows v m s)
-unfolding finishCarryOf
+unfolding decided
 finish-refusal v m s = number-is (finishCarryRows v m s) m s (storing (newHeading (tagOf Second)) m s) refl
 
 finish-left : (v m : List ℕ) (s : State) → (refusalOf (finishCarryOf v m s .answer) ≡ 20) ↔ (restampOf v m s .answer ≡ Done)
@@ -127,7 +129,7 @@ pub record Finishes (v m : List ℕ) (s : State) : Type 0 where
   pub stored : finishCarryOf v m s .stored ≡ newHeading (tagOf Second)
 
 pub finishes : (v m : List ℕ) (s : State) → firstOf (finishCarryRows v m s) ≡ 0 → Finishes v m s
-unfolding finishCarryOf finishCarryRows
+unfolding decided finishCarryRows
 finishes v m s h =
     let rest : List Row = (oldLeft (geometryOf v) v (s .index), 20) ∷ [] in
     let r = ready-behind (not (headed carryTag v)) v m s rest h in
@@ -174,7 +176,7 @@ finish-drops v m s z at i =
     tagged (noteAt n) i = i
 
 pub restamp-refusal : (v m : List ℕ) (s : State) → refusalOf (restampOf v m s .answer) ≡ firstOf (restampRows v m s)
-unfolding restampOf
+unfolding decided restampDone
 restamp-refusal v m s = number-is (restampRows v m s) m s _
     (byCases (ltb (firstOld (geometryOf v) v (s .index)) (imageCount (geometryOf v))) (λ t. rw t) (λ t. rw t))
 

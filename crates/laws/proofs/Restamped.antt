@@ -8,7 +8,7 @@ use native.Mathlib.Omega.{arith}
 use native.Mathlib.Decide.{decLt, ℕ-discrete}
 use lib.Dec.{eqb, ltb}
 use lib.ListN.{length, take}
-use borrow.Author.Tests.{eqb-true, eqb-false, lt-ltb, ltb-true, not-false}
+use borrow.Author.Tests.{eqb-true, eqb-false, lt-ltb, ltb-true, le-ltb, not-false}
 use Rattle.laws.proofs.Tables.{byCases, within-bounds, true-not-false}
 use Rattle.laws.proofs.Places.{In, valid-facts, item-length, item-store-same, item-store-other, geometry-store, valid-store}
 use Rattle.laws.proofs.Headings.{headed-tag, tag-headed}
@@ -21,7 +21,9 @@ use Rattle.model.specs.Checksum.{sealImage}
 use Rattle.model.specs.Geometry.{tagOf, carryTag, headed, geometryOf, validVolume, Place, pageAt, slotAt, recordAt, noteAt, width, start, item, store}
 use Rattle.model.specs.Passes.{passesAt, isImage, onlyOld, imageCount, imagePlace, oldAt, firstOld, oldLeft}
 use Rattle.model.specs.Refusals.{restampRows}
-use Rattle.model.specs.Calls.{nothing, oneItem, restampOf}
+use Rattle.model.specs.Outcome.{nothing, oneItem, decided}
+use Rattle.model.specs.Effects.{restampDone}
+use Rattle.model.specs.Calls.{restampOf}
 use Rattle.model.specs.Carry.{countOf}
 use Rattle.model.specs.declared.geometry.Geometry.{Geometry}
 use Rattle.model.specs.declared.geometry.Heading.the-variants.{First}
@@ -59,16 +61,13 @@ pub images-apart : (g : Geometry) (i j : ℕ) → i < imageCount g → j < image
 images-apart g i j a b ne = elim (decLt i (g .pages)) [
   | yes y ↦ rw (lt-ltb i (g .pages) y) (elim (decLt j (g .pages)) [
     | yes z ↦ rw (lt-ltb j (g .pages) z) (λ e. ne (omega arith))
-    | no z ↦ rw (not-below j (g .pages) z) (λ e. omega arith)
+    | no z ↦ rw (le-ltb j (g .pages) (omega arith)) (λ e. omega arith)
   ])
-  | no y ↦ rw (not-below i (g .pages) y) (elim (decLt j (g .pages)) [
+  | no y ↦ rw (le-ltb i (g .pages) (omega arith)) (elim (decLt j (g .pages)) [
     | yes z ↦ rw (lt-ltb j (g .pages) z) (λ e. omega arith)
-    | no z ↦ rw (not-below j (g .pages) z) (λ e. ne (omega arith))
+    | no z ↦ rw (le-ltb j (g .pages) (omega arith)) (λ e. ne (omega arith))
   ])
 ]
-  where
-    not-below : (i n : ℕ) → (i < n → ⊥) → ltb i n ≡ false
-    not-below i n z = byCases (ltb i n) (λ t. absurd (z (ltb-true i n t))) (λ t. t)
 
 -- every place of an image has a number
 pub record Numbered (g : Geometry) (at : Place) : Type 0 where
@@ -136,21 +135,21 @@ module _ (v m : List ℕ) (s : State) where
 
   -- by answer
   pub answer-found : firstOf (restampRows v m s) ≡ 0 → restampOf v m s .answer ≡ cond (ltb first (imageCount g)) Done Nothing
-  unfolding restampOf
+  unfolding decided restampDone
   answer-found h = rw h (byCases (ltb first (imageCount g)) (λ t. rw t) (λ t. rw t))
 
   pub done-rows : restampOf v m s .answer ≡ Done → (firstOf (restampRows v m s) ≡ 0) × (ltb first (imageCount g) ≡ true)
-  unfolding restampOf isDone
+  unfolding decided restampDone isDone
   done-rows e = byCases (eqb (firstOf (restampRows v m s)) 0)
       (λ t. (eqb-true _ _ t, byCases (ltb first (imageCount g)) (λ u. u) (λ u. absurd (not-done _ (rw (t, u) refl) e))))
       (λ t. absurd (not-done _ (rw t refl) e))
 
   pub stored-is : firstOf (restampRows v m s) ≡ 0 → ltb first (imageCount g) ≡ true → restampOf v m s .stored ≡ oneItem at stamped
-  unfolding restampOf
+  unfolding decided restampDone
   stored-is h t = rw (h, t)
 
   pub stored-none : firstOf (restampRows v m s) ≡ 0 → ltb first (imageCount g) ≡ false → restampOf v m s .stored ≡ nothing
-  unfolding restampOf
+  unfolding decided restampDone
   stored-none h t = rw (h, t)
 
   -- the volume after it

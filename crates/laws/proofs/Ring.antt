@@ -12,10 +12,11 @@ use native.Mathlib.Decide.{decLt, ℕ-discrete}
 use lib.Dec.{leb}
 use borrow.Author.Tests.{leb-true, leb-false}
 use Rattle.laws.proofs.Tables.{byCases, true-not-false}
+use Rattle.model.specs.Tables.{larger}
 use Rattle.model.specs.Bytes.{le, field}
 use Rattle.model.specs.Checksum.{sealed}
 use Rattle.model.specs.Geometry.{slotOf}
-use Rattle.model.specs.Scan.{larger, highest}
+use Rattle.model.specs.Scan.{highest}
 
 -- ---- slots
 
@@ -125,9 +126,6 @@ module _ (ring : Bool) (L n : ℕ) (W T S W′ T′ S′ : ℕ → Type 0) (up :
 pub run-plain : (ring : Bool) (L n : ℕ) (W T S : ℕ → Type 0) → Run false L n W T S → Run ring L n W T S
 run-plain ring L n W T S r =
     record { held = r .held; oldest = λ i b e. ⊎-elim inl (λ h. absurd (true-not-false (h .0) refl)) (r .oldest i b e); lost = r .lost }
-
-pub displaced-none : (L n t : ℕ) (S : ℕ → Type 0) → t ≤ L → Displaced L n t S
-displaced-none L n t S h i a = absurd (omega arith)
 
 -- DISPLACED: one more joins, the first that waits is kept, and a restart
 module _ (L n t : ℕ) (S S′ : ℕ → Type 0) (up : (i : ℕ) → i < n → S i → S′ i) where
@@ -263,10 +261,3 @@ highest-ge c slot (suc n) s b t = elim (ℕ-discrete s n) [
       let ih : field 4 0 (slot (suc s)) ≤ highest c slot n = highest-ge c slot n s (omega arith) t in
       omega (arith, larger-left (highest c slot n) (cond (sealed c (slot (suc n))) (field 4 0 (slot (suc n))) 0))
 ]
-
--- the highest number looks at the slots alone
-pub highest-same : (c : ℕ) (slot slot′ : ℕ → List ℕ) (n : ℕ) → ((i : ℕ) → i < n → slot (suc i) ≡ slot′ (suc i))
-    → highest c slot n ≡ highest c slot′ n
-unfolding highest
-highest-same c slot slot′ zero h = refl
-highest-same c slot slot′ (suc n) h = rw (h n (omega arith), highest-same c slot slot′ n (λ i b. h i (omega arith)))

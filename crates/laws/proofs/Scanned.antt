@@ -13,15 +13,16 @@ use lib.Seq.{getD-set-same, getD-set-other}
 use borrow.Author.Tests.{eqb-true, eq-eqb, ne-eqb, ltb-true, ltb-false, le-ltb, lt-ltb}
 use Rattle.laws.proofs.Tables.{byCases, all-at, and-left, and-right, or-cases, every-at, within-bounds, when-true, when-false, true-not-false, none-at}
 use Rattle.laws.proofs.Places.{valid-facts}
-use Rattle.laws.proofs.Checksums.{run-none, run-stops, run-goes}
+use Rattle.laws.proofs.Tabulated.{replicate-at}
+use Rattle.laws.proofs.Checksums.{run-most}
 use Rattle.model.specs.Tables.{every, within}
-use Rattle.model.specs.Bytes.{part}
-use Rattle.model.specs.Checksum.{sealed, sealedRun}
-use Rattle.model.specs.Geometry.{geometryOf, validVolume, recordAt, start, item, logSlot, ring}
+use Rattle.model.specs.Checksum.{sealed}
+use Rattle.model.specs.Geometry.{geometryOf, validVolume, recordAt, start, item, slotOf, logSlot, ring}
 use Rattle.model.specs.Item.{recordOf, recordLayout, firstIsFormat}
 use Rattle.model.specs.Index.{emptyEntry, emptyIndex, entryOf}
-use Rattle.model.specs.Scan.{logRecord, durableCount, firstHeld, logIndex, linked, recordFits, endsAt, restZero, validLog, gone}
+use Rattle.model.specs.Scan.{Section, countIn, firstIn, logSlots, logRecord, durableCount, firstHeld, logIndex, linked, recordFits, validLog, gone}
 use Rattle.model.specs.declared.geometry.Geometry.{Geometry}
+use Rattle.model.specs.declared.item.LogRecord.{LogRecord}
 use Rattle.model.specs.declared.state.Entry.{Entry}
 
 -- ---- the records of a run from number f on
@@ -50,6 +51,22 @@ fit g v f i h =
       links = all-at tests 4 h;
     }
 
+-- what a record's previous number is, of its page's last earlier record in a run from f on
+abbrev pub Linked : ℕ → ℕ → ℕ → Type 0
+Linked f last prev = (prev ≡ last) ⊎ ((last ≡ 0) × (1 ≤ prev) × (prev ≤ f - 1))
+
+pub link-cases : (f last : ℕ) (e : LogRecord) → linked f last e ≡ true → Linked f last (e .prev)
+link-cases f last e h =
+    let other = eqb last 0 && within (f - 1) (e .prev) in
+    ⊎-elim (λ t. inl (eqb-true _ _ t))
+    (λ t.
+    let w = within-bounds (f - 1) (e .prev) (and-right (eqb last 0) (within (f - 1) (e .prev)) t) in
+    inr (eqb-true _ _ (and-left (eqb last 0) (within (f - 1) (e .prev)) t), w .0, w .1))
+    (or-cases (eqb (e .prev) last) other (and-left (eqb (e .prev) last || other) (firstIsFormat e) h))
+
+pub link-first : (f last : ℕ) (e : LogRecord) → linked f last e ≡ true → firstIsFormat e ≡ true
+link-first f last e h = and-right (eqb (e .prev) last || (eqb last 0 && within (f - 1) (e .prev))) (firstIsFormat e) h
+
 -- of a valid log
 pub log-fits : (g : Geometry) (v : List ℕ) → validLog g v ≡ true → (i : ℕ) → i < suc (durableCount g v) - firstHeld g v (durableCount g v)
     → Fit g v (firstHeld g v (durableCount g v)) i
@@ -57,10 +74,7 @@ unfolding validLog
 log-fits g v h i b =
     let n = durableCount g v in
     let f = firstHeld g v n in
-    let t : every (suc n - f) (λ i. recordFits g v f (logIndex g v f i) (f + i)) ≡ true =
-    and-left _ (endsAt (g .records) n f (sealed 60 (item g v (recordAt (suc n))))
-    && restZero 64 (g .records) v (start g (recordAt 1)) n) h in
-    fit g v f i (every-at (λ i. recordFits g v f (logIndex g v f i) (f + i)) (suc n - f) t i b)
+    fit g v f i (every-at (λ i. recordFits g v f (logIndex g v f i) (f + i)) (suc n - f) (and-left _ _ h) i b)
 
 -- ---- a page's records, the newest first
 
@@ -77,23 +91,28 @@ unfolding logIndex emptyIndex
 index-length g v f zero = length-replicate {A = Entry} 64 emptyEntry
 index-length g v f (suc c) = length-set (logIndex g v f c) (logRecord g v (f + c) .page - 1) _ ∙ index-length g v f c
 
-pub empty-row : (n i : ℕ) → getD (replicate n emptyEntry) i emptyEntry ≡ emptyEntry
-empty-row zero i = refl
-empty-row (suc n) zero = refl
-empty-row (suc n) (suc i) = empty-row n i
-
 -- what the index says of page p after c records of the run
 pub record Newest (g : Geometry) (v : List ℕ) (f c p : ℕ) (e : Entry) : Type 0 where
   pub last-is : e .last ≡ firstLsn (down g v p f c)
   pub same : e .durable ≡ e .last
+  pub low : e .last ≢ 0 → f ≤ e .last
   pub high : e .last < f + c
+  pub page : e .last ≢ 0 → logRecord g v (e .last) .page ≡ p
   pub unmarked : (e .written ≡ 0) × (e .slot ≡ 0) × (e .backup ≡ 0)
 
 module _ (g : Geometry) (v : List ℕ) (f : ℕ) (some : 1 ≤ f) (few : g .pages ≤ 64) (most : ℕ) (ok : (i : ℕ) → i < most → Fit g v f i) where
   pub newest : (c p : ℕ) → c ≤ most → 1 ≤ p → Newest g v f c p (entryOf (logIndex g v f c) p)
   unfolding logIndex emptyIndex down firstLsn
   newest zero p h l =
-      rw (empty-row 64 (p - 1)) (record { last-is = refl; same = refl; high = omega arith; unmarked = (refl, refl, refl) })
+      rw (replicate-at 64 (p - 1) emptyEntry)
+      (record {
+        last-is = refl;
+        same = refl;
+        low = λ z. absurd (z refl);
+        high = omega arith;
+        page = λ z. absurd (z refl);
+        unmarked = (refl, refl, refl);
+      })
   newest (suc c) p h l =
       let fi = ok c h in
       let q = logRecord g v (f + c) .page in
@@ -108,7 +127,9 @@ module _ (g : Geometry) (v : List ℕ) (f : ℕ) (some : 1 ≤ f) (few : g .page
             (record {
               last-is = sym (ap firstLsn (when-true (item g v (logSlot g (f + c)) ∷ down g v p f c) (down g v p f c) t) ∙ fi .lsn-is);
               same = refl;
+              low = λ z. omega arith;
               high = omega arith;
+              page = λ z. sym y;
               unmarked = s;
             })
         | no z ↦
@@ -118,25 +139,26 @@ module _ (g : Geometry) (v : List ℕ) (f : ℕ) (some : 1 ≤ f) (few : g .page
             (record {
               last-is = k .last-is ∙ sym (ap firstLsn (when-false (item g v (logSlot g (f + c)) ∷ down g v p f c) (down g v p f c) t));
               same = k .same;
+              low = k .low;
               high = omega (arith, k .high);
+              page = k .page;
               unmarked = k .unmarked;
             })
       ]
 
 -- ---- a log whose record 1 is there
 
-pub held-low : (g : Geometry) (v : List ℕ) (n : ℕ) → 1 ≤ firstHeld g v n
-unfolding firstHeld
-held-low g v n =
-    byCases (ring g)
-    (λ t. rw t (byCases (sealed 60 (item g v (logSlot g (suc (n - g .records))))) (λ u. rw u (omega arith)) (λ u. rw u (omega arith))))
+-- a section's run starts at 1 or later
+pub first-low : (s : Section) (n : ℕ) → 1 ≤ firstIn s n
+unfolding firstIn
+first-low s n =
+    byCases (s .ring)
+    (λ t. rw t (byCases (sealed (s .size) (s .slot (slotOf (s .slots) (suc (n - s .slots))))) (λ u. rw u (omega arith)) (λ u. rw u (omega arith))))
     (λ t. rw t (omega arith))
 
-pub run-most : (n : ℕ) (v : List ℕ) (most at : ℕ) → sealedRun n most v at ≤ most
-run-most n v zero at = omega (arith, run-none n v at)
-run-most n v (suc most) at =
-    let ih : sealedRun n most v (at + (n + 4)) ≤ most = run-most n v most (at + (n + 4)) in
-    byCases (sealed n (part v at (n + 4))) (λ t. omega (arith, run-goes n v most at t)) (λ t. omega (arith, run-stops n v (suc most) at t))
+pub held-low : (g : Geometry) (v : List ℕ) (n : ℕ) → 1 ≤ firstHeld g v n
+unfolding firstHeld
+held-low g v n = first-low (logSlots g v) n
 
 module _ (g : Geometry) (v : List ℕ) (here : gone g v ≡ false) where
   pub whole-start : 1 ≤ durableCount g v → firstHeld g v (durableCount g v) ≡ 1
@@ -154,7 +176,7 @@ module _ (g : Geometry) (v : List ℕ) (here : gone g v ≡ false) where
   ]
 
   ring-few : ring g ≡ true → 1 ≤ durableCount g v → durableCount g v ≤ g .records
-  unfolding firstHeld
+  unfolding firstHeld firstIn
   ring-few t a =
       let n = durableCount g v in
       let s = sealed 60 (item g v (logSlot g (suc (n - g .records)))) in
@@ -163,7 +185,7 @@ module _ (g : Geometry) (v : List ℕ) (here : gone g v ≡ false) where
       (λ u. let q : suc (suc (n - g .records)) ≡ 1 = rw u at e in absurd (omega arith))
 
   plain-few : ring g ≡ false → durableCount g v ≤ g .records
-  unfolding durableCount
+  unfolding durableCount countIn
   plain-few t = rw t (run-most 60 v (g .records) (start g (recordAt 1)))
 
   pub whole-few : durableCount g v ≤ g .records

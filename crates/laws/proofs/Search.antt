@@ -2,12 +2,13 @@
 use mathlib.Core.Path.{_≡_, refl, sym}
 use mathlib.Core.Logic.{_≢_}
 use mathlib.Core.Bool.{Bool, true, false, not}
-use Prim.Native.Nat.{ℕ, zero, suc, _+_, _≤_, _<_}
+use Prim.Native.Nat.{ℕ, zero, suc, _+_, _-_, _≤_, _<_}
+use native.Mathlib.Numerals.{add-one}
 use native.Mathlib.Omega.{arith}
 use native.Mathlib.Decide.{decLt, ℕ-discrete}
 use lib.Dec.{ltb}
 use borrow.Author.Tests.{lt-ltb, ltb-true}
-use Rattle.laws.proofs.Tables.{byCases, every-all, every-fails}
+use Rattle.laws.proofs.Tables.{byCases, every-all, every-fails, true-not-false}
 use Rattle.model.specs.Tables.{every}
 use Rattle.model.specs.Passes.{firstFrom}
 use Rattle.model.specs.Carry.{countOf}
@@ -34,11 +35,34 @@ first-from p (suc n) i = byCases (p i)
       hit = λ h. r .hit (omega arith);
     }))
 
--- tests that agree have the same first
-pub first-same : (p q : ℕ → Bool) (n i : ℕ) → ((j : ℕ) → i ≤ j → j < i + n → p j ≡ q j) → firstFrom n p i ≡ firstFrom n q i
-unfolding firstFrom
-first-same p q zero i h = refl
-first-same p q (suc n) i h = rw (h i (omega arith) (omega arith), first-same p q n (suc i) (λ j a b. h j (omega arith) (omega arith)))
+-- where p holds of k, the first is there or before, and p holds of it
+pub first-found : (p : ℕ → Bool) (n i k : ℕ) → i ≤ k → k < i + n → p k ≡ true → (firstFrom n p i ≤ k) × (p (firstFrom n p i) ≡ true)
+first-found p n i k a b t =
+    let r = first-from p n i in
+    let l : firstFrom n p i ≤ k =
+    elim (decLt k (firstFrom n p i)) [ yes y ↦ absurd (true-not-false t (r .before k a y)) | no z ↦ omega arith ] in
+    (l, r .hit (omega arith))
+
+-- and is k where p holds of none before
+pub first-is : (p : ℕ → Bool) (n i k : ℕ) → i ≤ k → k < i + n → p k ≡ true → ((j : ℕ) → i ≤ j → j < k → p j ≡ false) → firstFrom n p i ≡ k
+first-is p n i k a b t f =
+    let r = first-found p n i k a b t in
+    let l = first-from p n i .low in
+    elim (decLt (firstFrom n p i) k) [ yes y ↦ absurd (true-not-false (r .1) (f (firstFrom n p i) l y)) | no z ↦ omega (arith, r .0) ]
+
+-- a search to n that goes on from number i
+module _ (p : ℕ → Bool) (n i : ℕ) where
+  pub first-here : i < n → p i ≡ true → firstFrom (n - i) p i ≡ i
+  unfolding firstFrom
+  first-here h t = let k : n - i ≡ suc (n - suc i) = omega arith in rw (k, t)
+
+  pub first-on : i < n → p i ≡ false → firstFrom (n - i) p i ≡ firstFrom (n - (i + 1)) p (i + 1)
+  unfolding firstFrom
+  first-on h f = let k : n - i ≡ suc (n - suc i) = omega arith in rw (add-one, k, f)
+
+  pub first-end : n ≤ i → firstFrom (n - i) p i ≡ i
+  unfolding firstFrom
+  first-end h = let z : n - i ≡ 0 = omega arith in rw z
 
 -- one is found exactly if not every one fails
 pub found-some : (p : ℕ → Bool) (n : ℕ) → not (every n (λ i. not (p i))) ≡ ltb (firstFrom n p 0) n

@@ -25,7 +25,10 @@ use Rattle.model.specs.Index.{entryOf, slotUsed}
 use Rattle.model.specs.Passes.{imageCount, firstOld, oldLeft}
 use Rattle.model.specs.State.{frameCount, frameBytes, holder, held, blank, logFull, notesFull, notePending, wellFormed}
 use Rattle.model.specs.Refusals.{frameBlocked, pageDirty, notDurable, chainBroken, chainBelow, beginRows, loadRows, changeRows, writeRows, backupRows, releaseRows, startCarryRows, restampRows, finishCarryRows}
-use Rattle.model.specs.Calls.{newHeading, Outcome, decided, beginOf, loadOf, changeCall, writeOf, backupOf, releaseOf, startCarryOf, restampOf, finishCarryOf, Call, begin, load, change, force, write, backup, release, note, startCarry, restamp, finishCarry, outcomeOf}
+use Rattle.model.specs.Outcome.{newHeading, Outcome, decided}
+use Rattle.model.specs.Effects.{backupDone, beginDone, changeDone, loadDone, releaseDone, restampDone, writeDone}
+use Rattle.model.specs.Calls.{beginOf, loadOf, changeCall, writeOf, backupOf, releaseOf, startCarryOf, restampOf, finishCarryOf, Call, outcomeOf}
+use Rattle.model.specs.declared.command.Command.the-variants.{Begin, Load, Change as ChangeCall, Force, Write, Backup, Release, Note, StartCarry, Restamp, FinishCarry}
 use Rattle.model.specs.Demand1.{Arrays}
 use Rattle.model.specs.WellFormed.{entersIndex, KeepsWellFormed}
 use Rattle.model.specs.declared.geometry.Geometry.{Geometry}
@@ -41,6 +44,7 @@ record Stays (g : Geometry) (frames : ℕ) (o : Outcome) : Type 0 where
 stays-by : (g : Geometry) (frames : ℕ) (rows : List Row) (m : List ℕ) (s : State) (done : Outcome) → Good g frames s
     → (firstOf rows ≡ 0 → Good (geometryWith g (done .stored)) frames (done .state))
     → Stays g frames (decided rows m s done)
+unfolding decided
 stays-by g frames rows m s done a b = record { good = byCases (eqb (firstOf rows) 0) (λ t. rw t (b (eqb-true _ _ t))) (λ t. rw t a) }
 
 -- ---- the calls
@@ -54,7 +58,7 @@ module _ (v m : List ℕ) (s : State) (a : Arrays s) (ok : wellFormed (geometryO
 
   -- the rows of a call after 1 and 2, in which none holds
   begin-stays : (page f fill : ℕ) → StaysHere (beginOf v m s page f fill)
-  unfolding beginOf beginRows
+  unfolding decided beginDone beginRows
   begin-stays page f fill = stays-by (geometryOf v) (frameCount (length m)) (beginRows v m s page f) m s _ same-good (λ h.
       let gv = geometryOf v in
       let rest : List Row = (not (within (gv .pages) page), 3) ∷ (not (within (frameCount (length m)) f), 4) ∷ (not (blank s page), 9)
@@ -72,7 +76,7 @@ module _ (v m : List ℕ) (s : State) (a : Arrays s) (ok : wellFormed (geometryO
       (λ nz ne. unblocked v m s a rest r f (u .0) (u .1) (none 3) nz) (none 4) (none 5))
 
   load-stays : (page f : ℕ) → StaysHere (loadOf v m s page f)
-  unfolding loadOf loadRows
+  unfolding decided loadDone loadRows
   load-stays page f = stays-by (geometryOf v) (frameCount (length m)) (loadRows v m s page f) m s _ same-good (λ h.
       let gv = geometryOf v in
       let rest : List Row = (not (within (gv .pages) page), 3) ∷ (not (within (frameCount (length m)) f), 4)
@@ -92,7 +96,7 @@ module _ (v m : List ℕ) (s : State) (a : Arrays s) (ok : wellFormed (geometryO
       (λ nz ne. unblocked v m s a rest r f (u .0) (u .1) (none 4) nz) _ (s .note) (eqb-false _ _ (none 2)) (r .state .note))
 
   change-stays : (page : ℕ) (c : Change) (payload : List ℕ) → StaysHere (changeCall v m s page c payload)
-  unfolding changeCall changeRows
+  unfolding decided changeDone changeRows
   change-stays page c payload = stays-by (geometryOf v) (frameCount (length m)) (changeRows v m s page c) m s _ same-good (λ h.
       let gv = geometryOf v in
       let rest : List Row = (not (within (gv .pages) page), 3) ∷ (not (fits c), 6) ∷ (not (held s page), 8) ∷ (eqb (s .pending) 16, 11)
@@ -107,7 +111,7 @@ module _ (v m : List ℕ) (s : State) (a : Arrays s) (ok : wellFormed (geometryO
       (λ nz ne. absurd (ne (at-page v m s a rest r page (w .0) t))) (none 3) (none 4))
 
   write-stays : (page : ℕ) → StaysHere (writeOf v m s page)
-  unfolding writeOf writeRows noteLayout
+  unfolding decided writeDone writeRows noteLayout
   write-stays page = stays-by (geometryOf v) (frameCount (length m)) (writeRows v m s page) m s _ same-good (λ h.
       let gv = geometryOf v in
       let d = pageDirty s page in
@@ -135,7 +139,7 @@ module _ (v m : List ℕ) (s : State) (a : Arrays s) (ok : wellFormed (geometryO
           (r .state .table (holder s p - 1) (at-place v m s a rest r p lo t)) .some (λ q. omega arith) (rw pg z)
 
   backup-stays : (page slot : ℕ) → StaysHere (backupOf v m s page slot)
-  unfolding backupOf backupRows noteLayout
+  unfolding decided backupDone backupRows noteLayout
   backup-stays page slot = stays-by (geometryOf v) (frameCount (length m)) (backupRows v m s page slot) m s _ same-good (λ h.
       let gv = geometryOf v in
       let rest : List Row = (not (within (gv .pages) page), 3) ∷ (not (within (gv .slots) slot), 5) ∷ (not (held s page), 8)
@@ -155,7 +159,7 @@ module _ (v m : List ℕ) (s : State) (a : Arrays s) (ok : wellFormed (geometryO
       (not-false _ (none 1))))
 
   release-stays : (page : ℕ) → StaysHere (releaseOf v m s page)
-  unfolding releaseOf releaseRows
+  unfolding decided releaseDone releaseRows
   release-stays page = stays-by (geometryOf v) (frameCount (length m)) (releaseRows v m s page) m s _ same-good (λ h.
       let gv = geometryOf v in
       let rest : List Row = (not (within (gv .pages) page), 3) ∷ (not (held s page), 8) ∷ (frameBlocked s (holder s page), 10) ∷ [] in
@@ -177,37 +181,37 @@ module _ (v m : List ℕ) (s : State) (a : Arrays s) (ok : wellFormed (geometryO
       }
 
   start-stays : StaysHere (startCarryOf v m s)
-  unfolding startCarryOf startCarryRows
+  unfolding decided startCarryRows
   start-stays = stays-by (geometryOf v) (frameCount (length m)) (startCarryRows v m s) m s _ same-good (λ h.
       let r = ready-behind (not (headed (tagOf First) v)) v m s [] h in
       headed-good (tagOf First) carryTag [] refl (not-false _ (r .0)) (r .1))
 
   restamp-stays : StaysHere (restampOf v m s)
-  unfolding restampOf
+  unfolding decided restampDone
   restamp-stays = stays-by (geometryOf v) (frameCount (length m)) (restampRows v m s) m s _ same-good (λ h.
       either (ltb (firstOld (geometryOf v) v (s .index)) (imageCount (geometryOf v))) _ _
       (λ o. Good (geometryWith (geometryOf v) (o .stored)) (frameCount (length m)) (o .state))
       (λ y. same-good) (λ y. same-good))
 
   finish-stays : StaysHere (finishCarryOf v m s)
-  unfolding finishCarryOf finishCarryRows
+  unfolding decided finishCarryRows
   finish-stays = stays-by (geometryOf v) (frameCount (length m)) (finishCarryRows v m s) m s _ same-good (λ h.
       let rest : List Row = (oldLeft (geometryOf v) v (s .index), 20) ∷ [] in
       let r = ready-behind (not (headed carryTag v)) v m s rest h in
       headed-good carryTag (tagOf Second) rest refl (not-false _ (r .0)) (r .1))
 
   call-stays : (c : Call) → entersIndex c ≡ false → StaysHere (outcomeOf c v m s)
-  call-stays (begin page f fill) n = begin-stays page f fill
-  call-stays (load page f) n = load-stays page f
-  call-stays (change page c payload) n = change-stays page c payload
-  call-stays force n = absurd (true-not-false refl n)
-  call-stays (write page) n = write-stays page
-  call-stays (backup page slot) n = backup-stays page slot
-  call-stays (release page) n = release-stays page
-  call-stays note n = absurd (true-not-false refl n)
-  call-stays startCarry n = start-stays
-  call-stays restamp n = restamp-stays
-  call-stays finishCarry n = finish-stays
+  call-stays (Begin page f fill, _) n = begin-stays page f fill
+  call-stays (Load page f, _) n = load-stays page f
+  call-stays (ChangeCall page c, payload) n = change-stays page c payload
+  call-stays (Force, _) n = absurd (true-not-false refl n)
+  call-stays (Write page, _) n = write-stays page
+  call-stays (Backup page slot, _) n = backup-stays page slot
+  call-stays (Release page, _) n = release-stays page
+  call-stays (Note, _) n = absurd (true-not-false refl n)
+  call-stays (StartCarry, _) n = start-stays
+  call-stays (Restamp, _) n = restamp-stays
+  call-stays (FinishCarry, _) n = finish-stays
 
 pub keeps-well-formed : KeepsWellFormed
 keeps-well-formed c n v m s a ok =

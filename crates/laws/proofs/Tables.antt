@@ -36,6 +36,9 @@ pub or-right : (a : Bool) {b : Bool} → b ≡ true → (a || b) ≡ true
 or-right true q = refl
 or-right false q = q
 
+pub or-other : (a b : Bool) → (a || b) ≡ true → a ≡ false → b ≡ true
+or-other a b h e = rw e at h
+
 pub or-neither : (a b : Bool) → (a || b) ≡ false → (a ≡ false) × (b ≡ false)
 or-neither true b h = let z : _≡_ {A = ℕ} 0 1 = cc in absurd (omega arith)
 or-neither false b h = (refl, h)
@@ -43,11 +46,6 @@ or-neither false b h = (refl, h)
 pub not-true : (a : Bool) → not a ≡ true → a ≡ false
 not-true true h = sym h
 not-true false h = refl
-
--- a Bool is true or false
-pub bool-cases : (b : Bool) → (b ≡ true) ⊎ (b ≡ false)
-bool-cases true = inl refl
-bool-cases false = inr refl
 
 pub true-not-false : {b : Bool} → b ≡ true → b ≡ false → ⊥
 true-not-false p q = let z : _≡_ {A = ℕ} 0 1 = cc in omega arith
@@ -58,6 +56,10 @@ when-true a b h = rw h
 
 pub when-false {ℓ} : {A : Type ℓ} {t : Bool} (a b : A) → t ≡ false → cond t a b ≡ b
 when-false a b h = rw h
+
+pub cond-same {ℓ} : {A : Type ℓ} (t : Bool) (a : A) → cond t a a ≡ a
+cond-same true a = refl
+cond-same false a = refl
 
 -- a test decides a goal
 pub byCases {ℓ} : {P : Type ℓ} (b : Bool) → (b ≡ true → P) → (b ≡ false → P) → P
@@ -126,10 +128,6 @@ module _ (p : ℕ → Bool) where
   pub every-more : (i : ℕ) → every i p ≡ true → p i ≡ true → every (i + 1) p ≡ true
   unfolding every
   every-more i h e = rw (add-one, h, e)
-
-  pub every-suc : (i : ℕ) → every i p ≡ true → p i ≡ true → every (suc i) p ≡ true
-  unfolding every
-  every-suc i h e = rw (h, e)
 
   pub every-fails : (n i : ℕ) → i < n → p i ≡ false → every n p ≡ false
   unfolding every

@@ -8,24 +8,26 @@ use lib.ListN.{length, take, drop, getD}
 use borrow.Author.Tests.{eq-eqb, ne-eqb, eqb-false, not-false}
 use borrow.Rule.Slice.PartMut.{putMid}
 use Rattle.laws.proofs.Tables.{none-at, within-bounds}
-use Rattle.laws.proofs.Parts.{put-splice, part-lent, part-length}
+use Rattle.laws.proofs.Parts.{put-item, lent-length}
 use Rattle.laws.proofs.Places.{valid-facts}
 use Rattle.laws.proofs.Chain.{run-few}
 use Rattle.index.specs.Sections.{Sized}
 use Rattle.index.proofs.Whole.{sized}
 use Rattle.laws.proofs.WellFormed.{ready, frame-within}
-use Rattle.state.proofs.Facts.{formed-page}
-use Rattle.load.specs.Rows.{loadTail, earlyRows, walkTail}
+use Rattle.laws.proofs.Frames.{entry-of}
+use Rattle.load.specs.Rows.{earlyRows}
 use Rattle.load.proofs.Rows.{early-refuses, walk-decides}
 use Rattle.model.specs.Tables.{firstOf}
 use Rattle.model.specs.Bytes.{splice}
 use Rattle.model.specs.Geometry.{geometryOf, most}
 use Rattle.model.specs.Index.{entryOf}
 use Rattle.model.specs.Scan.{firstHeld}
-use Rattle.model.specs.Repair.{viewOf, walkOf, classIn, repairOf, rebuilt}
+use Rattle.model.specs.Repair.{viewOf, walkOf, classIn, repairOf, rebuilt, stateView}
 use Rattle.model.specs.State.{frameCount, frameAt}
-use Rattle.model.specs.Refusals.{loadRows}
-use Rattle.model.specs.Calls.{withFrame, withFrames, isGood, loadOf, replyOf}
+use Rattle.model.specs.Refusals.{loadRows, loadTail, walkTail}
+use Rattle.model.specs.Outcome.{replyOf, decided}
+use Rattle.model.specs.Effects.{withFrame, withFrames, isGood, loadDone}
+use Rattle.model.specs.Calls.{loadOf}
 use Rattle.model.specs.declared.geometry.Geometry.{Geometry}
 use Rattle.model.specs.declared.state.Entry.{Entry}
 use Rattle.model.specs.declared.state.State.{State}
@@ -37,21 +39,19 @@ use Rattle.repair.specs.declared.walk.Walked.{Walked}
 
 -- ---- the frame's bytes as they are lent
 
-pub lent-length : (m : List ℕ) (at frame : ℕ) → at ≡ frameAt frame → frameAt frame + 256 ≤ length m
+pub frame-length : (m : List ℕ) (at frame : ℕ) → at ≡ frameAt frame → frameAt frame + 256 ≤ length m
     → length (take (at + 256 - at) (drop at m)) ≡ 256
-lent-length m at frame ea h = ap length (part-lent m at 256 (at + 256) refl) ∙ part-length m at 256 (omega arith)
+frame-length m at frame ea h = lent-length m at 256 (omega arith)
 
 pub put-back : (m x y : List ℕ) (at frame : ℕ) → at ≡ frameAt frame → length x ≡ 256 → x ≡ y
     → putMid at (at + 256 - at) m x ≡ splice m (frameAt frame) y
-put-back m x y at frame ea l ex =
-    let k : at + 256 - at ≡ 256 = omega arith in
-    put-splice m at (at + 256 - at) x (l ∙ sym k) ∙ ap (splice m at) ex ∙ ap (λ (i : ℕ). splice m i y) ea
+put-back m x y at frame ea l ex = put-item m at 256 x y (ap length (sym ex) ∙ l) ex ∙ ap (λ (i : ℕ). splice m i y) ea
 
 module _ (v m : List ℕ) (s : State) (page frame : ℕ) where
   refuses : (n : ℕ) → n ≡ firstOf (loadRows v m s page frame) → (n ≡ 0 → ⊥)
       → (_≡_ {A = Reply} (record { answer = Refused n; state = s }) (replyOf (loadOf v m s page frame)))
       × (m ≡ loadOf v m s page frame .memory)
-  unfolding loadOf
+  unfolding decided loadDone
   refuses n e ne =
       rw (ne-eqb (firstOf (loadRows v m s page frame)) 0 (λ z. ne (e ∙ z)))
       (ap (λ (k : ℕ). record { answer = Refused k; state = s }) e, refl)
@@ -87,7 +87,7 @@ module _ (v m : List ℕ) (s : State) (page frame : ℕ) where
       let p = within-bounds (geometryOf v .pages) page (not-false _ (at 0)) in
       let w = within-bounds (frameCount (length m)) frame (not-false _ (at 1)) in
       let high : page ≤ 64 = omega (arith, p .1, f .p-high) in
-      let q = formed-page (geometryOf v) (frameCount (length m)) s (k .state) page (p .0) (p .1) high in
+      let q = entry-of (geometryOf v) (frameCount (length m)) s (k .state) (f .p-high) page (p .0) (p .1) .numbers in
       let few : s .durable ≤ most (geometryOf v) = omega (arith, k .state .room) in
       let run : suc (s .durable) - firstHeld (geometryOf v) v (s .durable) ≤ geometryOf v .records =
       run-few (geometryOf v) v (s .durable) few in
@@ -101,7 +101,7 @@ module _ (v m : List ℕ) (s : State) (page frame : ℕ) where
           geometry = eg;
           low = p .0;
           high = rw eg (p .1);
-          durable = rw (ee, ei, eg) (omega (arith, q .counted));
+          durable = rw (ee, ei, eg) (omega (arith, q .count));
           slot = rw (ee, eg) (q .slot);
         };
         page-high = high;
@@ -142,9 +142,9 @@ module _ (v m : List ℕ) (s : State) (page frame : ℕ) where
         → t ≡ withFrames s (withFrame s frame page (not clean)) (s .note)
         → (_≡_ {A = Reply} (record { answer = Repaired r; state = t }) (replyOf (loadOf v m s page frame)))
         × (w ≡ loadOf v m s page frame .memory)
-    unfolding loadOf repairOf
+    unfolding decided loadDone repairOf
     done c n clean r w t ec en z er ew eq et =
-        let view = viewOf (geometryOf v) v (firstHeld (geometryOf v) v (s .durable)) (entryOf (s .index) page) page in
+        let view = stateView (geometryOf v) v s page in
         let r′ : r ≡ repairOf (geometryOf v) page view = er ∙ same (λ k x y. repairOf k page (viewOf k v x y page)) in
         let q : clean ≡ isGood (classIn (geometryOf v) page view) = eq ∙ ap (λ (x : Repair). isGood (x .class)) r′ in
         rw (eq-eqb (firstOf (loadRows v m s page frame)) 0 (decides c n ec en ∙ z)) (

@@ -11,12 +11,13 @@ use Rattle.laws.proofs.Tables.{none-at, within-bounds}
 use Rattle.laws.proofs.Places.{valid-facts}
 use Rattle.laws.proofs.WellFormed.{ready, holder-low, holder-high}
 use Rattle.state.proofs.Fits.{refusal-then}
-use Rattle.load.specs.Rows.{releaseTail}
 use Rattle.model.specs.Tables.{firstOf, within}
 use Rattle.model.specs.Geometry.{geometryOf}
 use Rattle.model.specs.State.{frameCount, holder}
-use Rattle.model.specs.Refusals.{frameBlocked, stateRows, releaseRows}
-use Rattle.model.specs.Calls.{withFrame, withFrames, releaseOf, replyOf}
+use Rattle.model.specs.Refusals.{frameBlocked, stateRows, releaseRows, releaseTail}
+use Rattle.model.specs.Outcome.{replyOf, decided}
+use Rattle.model.specs.Effects.{withFrame, withFrames, releaseDone}
+use Rattle.model.specs.Calls.{releaseOf}
 use Rattle.model.specs.declared.geometry.Geometry.{Geometry}
 use Rattle.model.specs.declared.state.State.{State}
 use Rattle.model.specs.declared.answer.Answer.the-variants.{Refused, Done}
@@ -42,7 +43,7 @@ module _ (v m : List ℕ) (s : State) (page : ℕ) where
 
   pub release-refused : (n : ℕ) → n ≡ firstOf (releaseRows v m s page) → (n ≡ 0 → ⊥)
       → _≡_ {A = Reply} (record { answer = Refused n; state = s }) (replyOf (releaseOf v m s page))
-  unfolding releaseOf
+  unfolding decided releaseDone
   release-refused n e ne =
       rw (ne-eqb (firstOf (releaseRows v m s page)) 0 (λ z. ne (e ∙ z))) (ap (λ (k : ℕ). record { answer = Refused k; state = s }) e)
 
@@ -66,7 +67,7 @@ module _ (v m : List ℕ) (s : State) (page : ℕ) where
   pub release-done : (f : ℕ) (t : State) → firstOf (releaseRows v m s page) ≡ 0 → f ≡ holder s page
       → t ≡ withFrames s (withFrame s f 0 false) (s .note)
       → _≡_ {A = Reply} (record { answer = Done; state = t }) (replyOf (releaseOf v m s page))
-  unfolding releaseOf
+  unfolding decided releaseDone
   release-done f t z ef et =
       rw (eq-eqb (firstOf (releaseRows v m s page)) 0 z)
       (ap (λ (x : State). record { answer = Done; state = x }) (et ∙ ap (λ (i : ℕ). withFrames s (withFrame s i 0 false) (s .note)) ef))

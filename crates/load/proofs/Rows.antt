@@ -9,14 +9,12 @@ use borrow.Author.Tests.{eqb-false, eq-eqb, ne-eqb}
 use Rattle.laws.proofs.Tables.{Numbered, when-true, when-false}
 use Rattle.repair.proofs.Rows.{first-then}
 use Rattle.state.proofs.Fits.{refusal-then}
-use Rattle.load.specs.Rows.{loadTail, earlyRows, walkTail}
+use Rattle.load.specs.Rows.{earlyRows}
 use Rattle.model.specs.Tables.{Row, firstOf, within}
 use Rattle.model.specs.Geometry.{geometryOf}
-use Rattle.model.specs.Index.{entryOf}
-use Rattle.model.specs.Scan.{firstHeld}
-use Rattle.model.specs.Repair.{viewOf, walkOf, isBroken, isBelow}
+use Rattle.model.specs.Repair.{walkOf, isBroken, isBelow, stateView}
 use Rattle.model.specs.State.{frameCount, held, blank}
-use Rattle.model.specs.Refusals.{frameBlocked, stateRows, loadRows}
+use Rattle.model.specs.Refusals.{frameBlocked, stateRows, loadRows, loadTail, walkTail}
 use Rattle.model.specs.declared.geometry.Geometry.{Geometry}
 use Rattle.model.specs.declared.state.State.{State}
 use Rattle.model.specs.declared.answer.Stop.{Stop}
@@ -60,7 +58,7 @@ module _ (v m : List ℕ) (s : State) (page frame : ℕ) where
   -- where the walk for the page stops
   abbrev pub stopOf : Stop
   stopOf =
-      walkOf (geometryOf v) page (viewOf (geometryOf v) v (firstHeld (geometryOf v) v (s .durable)) (entryOf (s .index) page) page) .stop
+      walkOf (geometryOf v) page (stateView (geometryOf v) v s page) .stop
 
   whole : firstOf (loadRows v m s page frame)
       ≡ cond (eqb (firstOf (earlyRows v m s page frame)) 0) (firstOf (walkTail stopOf)) (firstOf (earlyRows v m s page frame))

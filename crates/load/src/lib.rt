@@ -7,13 +7,16 @@ ghost use mathlib.Core.Path.{_≡_};
 ghost use mathlib.Core.List.{List};
 ghost use Prim.Native.Nat.{ℕ, _+_, _≤_};
 ghost use lib.ListN.{length};
-ghost use Rattle.load.specs.Rows.{loadTail, earlyRows, walkTail};
+ghost use Rattle.load.specs.Rows.{earlyRows};
+ghost use Rattle.model.specs.Refusals.{loadTail, walkTail};
 ghost use Rattle.model.specs.Tables.{firstOf};
 ghost use Rattle.model.specs.Bytes.{splice};
-ghost use Rattle.model.specs.Repair.{viewOf, repairOf, rebuilt};
+ghost use Rattle.model.specs.Repair.{repairOf, rebuilt};
 ghost use Rattle.model.specs.State.{frameAt};
-ghost use Rattle.model.specs.Calls.{isGood, loadOf, replyOf};
-ghost use Rattle.repair.specs.Walked.{Ready, walkedOf};
+ghost use Rattle.model.specs.Outcome.{replyOf};
+ghost use Rattle.model.specs.Effects.{isGood};
+ghost use Rattle.model.specs.Calls.{loadOf};
+ghost use Rattle.repair.specs.Walked.{ReadyFor, viewFor, walkedOf};
 use index::log;
 use model::answer::Answer;
 use model::answer::Class;
@@ -21,11 +24,11 @@ use model::answer::Repair;
 use model::answer::Reply;
 use model::answer::Stop;
 use model::geometry::Geometry;
-use model::state::Entry;
 use model::state::State;
 use repair::answer;
 use repair::rebuild;
 use repair::walk;
+use repair::walk::Target;
 use repair::walk::Walked;
 use state::entries;
 use state::frames;
@@ -51,7 +54,7 @@ fn own(g: Geometry, count: usize, s: State, page: u32, frame: u32) -> u32
 fn refusal(s: State, volume: &[u8], size: usize, page: u32, frame: u32) -> u32
     ensures { λ r. ⌜ ((m : List ℕ) → length m ≡ size → r ≡ firstOf (earlyRows (now (volume .entry)) m s page frame)) ⌝ }
 {
-    let no = state::rows::refusal(s, volume, size);
+    let no = state::refusal::refusal(s, volume, size);
     let g = heading::geometry(volume);
     let count = memory::frames(size);
     let rest = own(g, count, s, page, frame);
@@ -83,28 +86,19 @@ fn clean(c: Class) -> bool
 }
 
 // Rebuilds the page in the frame's bytes, and answers.
-fn restore(
-    volume: &[u8],
-    memory: &mut [u8],
-    g: Geometry,
-    first: u64,
-    e: Entry,
-    page: u32,
-    frame: u32,
-    w: Walked,
-) -> Repair
-    requires { ⌜ Ready (now volume) g first e page ⌝ }
-    requires { ⌜ (w ≡ walkedOf g page (viewOf g (now volume) first e page))
+fn restore(volume: &[u8], memory: &mut [u8], t: Target, frame: u32, w: Walked) -> Repair
+    requires { ⌜ ReadyFor (now volume) t ⌝ }
+    requires { ⌜ (w ≡ walkedOf (t .g) (t .page) (viewFor (now volume) t))
         × (frameAt frame + 256 ≤ length (now memory)) ⌝ }
-    ensures answer { λ r. ⌜ r ≡ repairOf g page (viewOf g (now (volume .entry)) first e page) ⌝ }
+    ensures answer { λ r. ⌜ r ≡ repairOf (t .g) (t .page) (viewFor (now (volume .entry)) t) ⌝ }
     ensures memory { λ _. ⌜ now (memory .exit)
         ≡ splice (now (memory .entry)) (frameAt frame)
-        (rebuilt g page (viewOf g (now (volume .entry)) first e page)) ⌝ }
+        (rebuilt (t .g) (t .page) (viewFor (now (volume .entry)) t)) ⌝ }
 {
     let at = memory::frame_at(frame);
     let end = at + 256;
-    rebuild::rebuild(volume, g, first, e, page, w, &mut memory[at..end]);
-    answer::answer(volume, g, first, e, page, w)
+    rebuild::rebuild(volume, t, w, &mut memory[at..end]);
+    answer::answer(w)
 }
 
 // Loads a page; a page in the frame whose changes are durable makes way.
@@ -134,7 +128,13 @@ pub fn load(s: State, volume: &[u8], memory: &mut [u8], page: u32, frame: u32) -
             state: s,
         };
     }
-    let repair = restore(volume, memory, g, first, e, page, frame, walked);
+    let t = Target {
+        g,
+        first,
+        entry: e,
+        page,
+    };
+    let repair = restore(volume, memory, t, frame, walked);
     let class = repair.class;
     let dirty = !clean(class);
     Reply {

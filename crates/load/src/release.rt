@@ -1,9 +1,9 @@
 // Release: a page leaves its frame without being written; its image on disk stays old, and a later Load repairs it.
 ghost use mathlib.Core.Path.{_≡_};
-ghost use Rattle.load.specs.Rows.{releaseTail};
 ghost use Rattle.model.specs.Tables.{firstOf};
-ghost use Rattle.model.specs.Refusals.{releaseRows};
-ghost use Rattle.model.specs.Calls.{releaseOf, replyOf};
+ghost use Rattle.model.specs.Refusals.{releaseRows, releaseTail};
+ghost use Rattle.model.specs.Outcome.{replyOf};
+ghost use Rattle.model.specs.Calls.{releaseOf};
 use model::answer::Answer;
 use model::answer::Reply;
 use model::geometry::Geometry;
@@ -27,7 +27,7 @@ fn own(s: State, g: Geometry, page: u32, f: u32) -> u32
 fn refusal(s: State, volume: &[u8], memory: &[u8], page: u32) -> u32
     ensures { λ r. ⌜ r ≡ firstOf (releaseRows (now (volume .entry)) (now (memory .entry)) s page) ⌝ }
 {
-    let no = state::rows::refusal(s, volume, memory.len());
+    let no = state::refusal::refusal(s, volume, memory.len());
     let g = heading::geometry(volume);
     let f = frames::holder(s, page);
     let rest = own(s, g, page, f);

@@ -12,7 +12,9 @@ use Rattle.model.specs.Tables.{firstOf}
 use Rattle.model.specs.Geometry.{tagOf, carryTag, Place, geometryOf, item}
 use Rattle.model.specs.Passes.{passesAt, isImage, imageCount, oldAt}
 use Rattle.model.specs.Refusals.{restampRows}
-use Rattle.model.specs.Calls.{volumeAfter, inspectOf, startCarryOf, restampOf, finishCarryOf, refusalOf, Call, begin, load, change, force, write, backup, release, note, startCarry, restamp, finishCarry, outcomeOf}
+use Rattle.model.specs.Outcome.{volumeAfter, refusalOf}
+use Rattle.model.specs.Calls.{startCarryOf, restampOf, finishCarryOf, Call, outcomeOf, isCall}
+use Rattle.model.specs.Restart.{inspectOf}
 use Rattle.model.specs.History.{on, Event, restart, perform, crash, crashIn, damage, isStartCarry, allowed}
 use Rattle.model.specs.Claim.{History, Legal, reached, durableOf, Safe, Agree}
 use Rattle.model.specs.Health.{Same}
@@ -72,19 +74,9 @@ pub record DropsNone : Type 0 where
 
 -- ---- in a history
 
--- the three calls
+-- the three calls: Start, Restamp and Finish
 abbrev pub carries : Call → Bool
-carries (begin page frame fill) = false
-carries (load page frame) = false
-carries (change page c payload) = false
-carries force = false
-carries (write page) = false
-carries (backup page slot) = false
-carries (release page) = false
-carries note = false
-carries startCarry = true
-carries restamp = true
-carries finishCarry = true
+carries c = isCall 18 c || (isCall 19 c || isCall 20 c)
 
 -- Each of the three calls, performed, leaves every inspection the same, class, start and count included. (Cut and left
 -- new it leaves the same volume.)

@@ -17,7 +17,9 @@ use Rattle.model.specs.Scan.{indexOf, gone}
 use Rattle.model.specs.declared.geometry.Geometry.{Geometry}
 use Rattle.model.specs.declared.state.Entry.{Entry}
 use Rattle.model.specs.State.{frameBytes}
-use Rattle.model.specs.Calls.{makeOf, inspectOf, loadOf, refusalOf}
+use Rattle.model.specs.Outcome.{refusalOf}
+use Rattle.model.specs.Calls.{loadOf}
+use Rattle.model.specs.Restart.{makeOf, inspectOf}
 use Rattle.model.specs.AbstractLog.{Logged, AbstractLog, emptyLog, replay, lastPlace}
 use Rattle.model.specs.History.{Power, off, on, Machine, Event, freshMachine, allAllowed, run, logAfter}
 use Rattle.model.specs.declared.geometry.Heading.{Heading}

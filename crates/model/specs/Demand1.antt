@@ -12,7 +12,9 @@ use Rattle.model.specs.Tables.{Row}
 use Rattle.model.specs.Geometry.{tagOf, carryTag, Place, itemOf, width, start, geometryOf, validVolume}
 use Rattle.model.specs.State.{zeroState}
 use Rattle.model.specs.Refusals.{makeRows, restartRows, inspectRows}
-use Rattle.model.specs.Calls.{StoredItem, nothing, oneItem, newHeading, Outcome, volumeAfter, refusalOf, Call, rowsOf, outcomeOf, makeOf, restartOf, inspectOf}
+use Rattle.model.specs.Outcome.{StoredItem, nothing, oneItem, newHeading, Outcome, volumeAfter, refusalOf}
+use Rattle.model.specs.Calls.{Call, rowsOf, outcomeOf}
+use Rattle.model.specs.Restart.{makeOf, restartOf, inspectOf}
 use Rattle.model.specs.declared.geometry.Heading.{Heading}
 use Rattle.model.specs.declared.geometry.Heading.the-variants.{Second}
 use Rattle.model.specs.declared.state.State.{State}
@@ -30,6 +32,12 @@ pub record ByTable (rows : List Row) (n : ℕ) : Type 0 where
   pub refused : n ≢ 0 → Decides rows n
   pub only : (k : ℕ) → Decides rows k → n ≡ k
   pub numbered : (k : ℕ) → Decides rows k → k ≢ 0
+
+-- The number is the table's, and where it is one the call leaves `given`: what it was lent or, of a call that gives an
+-- array back, zeros.
+pub record Refuses {A : Type 0} (rows : List Row) (number : ℕ) (left given : A) : Type 0 where
+  pub table : ByTable rows number
+  pub leaves : number ≢ 0 → left ≡ given
 
 -- what a call may store: nothing; one item of a valid volume, as many bytes as the item has; or, of a valid volume, the
 -- heading of one that is being carried over or the second one

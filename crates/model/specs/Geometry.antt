@@ -129,13 +129,10 @@ storeHeading v tag = splice v 0 (magicOf tag)
 
 -- ---- rings
 
--- the log is a ring: the second heading and at least two slots; a volume that is being carried over is none
+-- the log and the notes are rings: the second heading and at least two log slots; not while a volume is being carried
+-- over
 abbrev pub ring : Geometry → Bool
-ring g = eqb (g .tag) 0x32 && leb 2 (g .records)
-
--- the notes are a ring where the log is (a name of its own: the proofs of the log's half set it to false)
-abbrev pub noteRing : Geometry → Bool
-noteRing g = ring g
+ring g = eqb (g .tag) (tagOf Second) && leb 2 (g .records)
 
 -- the last number that a record, and a note, may have
 abbrev pub topNumber : ℕ
@@ -145,7 +142,7 @@ abbrev pub most : Geometry → ℕ
 most g = cond (ring g) topNumber (g .records)
 
 abbrev pub mostNotes : Geometry → ℕ
-mostNotes g = cond (noteRing g) topNumber (g .notes)
+mostNotes g = cond (ring g) topNumber (g .notes)
 
 -- "slot ((n − 1) modulo L) + 1": numbers at most L stay where they are
 abbrev pub slotOf : ℕ → ℕ → ℕ

@@ -17,8 +17,10 @@ use Rattle.model.specs.Index.{entryRow}
 use Rattle.model.specs.Passes.{passesAt, isImage, onlyNew}
 use Rattle.model.specs.Scan.{indexOf}
 use Rattle.model.specs.Refusals.{restartRows, startCarryRows}
-use Rattle.model.specs.Calls.{StoredItem, nothing, oneItem, newHeading, volumeAfter, restartOf, makeOf, Call, begin, load, change, force, write, backup, release, note, startCarry, restamp, finishCarry, rowsOf, outcomeOf}
-use Rattle.model.specs.AbstractLog.{AbstractLog, Left, old, new, torn, forget, stepCall, stepCut}
+use Rattle.model.specs.Outcome.{StoredItem, nothing, oneItem, newHeading, volumeAfter}
+use Rattle.model.specs.Calls.{Call, rowsOf, outcomeOf, isCall}
+use Rattle.model.specs.Restart.{restartOf, makeOf}
+use Rattle.model.specs.AbstractLog.{AbstractLog, Left, old, new, torn, leftNew, forget, stepCall, stepCut}
 use Rattle.model.specs.declared.geometry.Geometry.{Geometry}
 use Rattle.model.specs.declared.geometry.Heading.{Heading}
 use Rattle.model.specs.declared.state.PendingNote.{PendingNote}
@@ -50,23 +52,16 @@ pub data Event : Type 0 where
 
 -- ---- what counts as stored
 
+-- a place as two numbers: its kind, and its number among its kind
+abbrev pub placeNumbers : Place → ℕ × ℕ
+placeNumbers (pageAt i) = (0, i)
+placeNumbers (slotAt i) = (1, i)
+placeNumbers (recordAt i) = (2, i)
+placeNumbers (noteAt i) = (3, i)
+
 abbrev pub samePlace : Place → Place → Bool
-samePlace (pageAt i) (pageAt j) = eqb i j
-samePlace (pageAt i) (slotAt j) = false
-samePlace (pageAt i) (recordAt j) = false
-samePlace (pageAt i) (noteAt j) = false
-samePlace (slotAt i) (pageAt j) = false
-samePlace (slotAt i) (slotAt j) = eqb i j
-samePlace (slotAt i) (recordAt j) = false
-samePlace (slotAt i) (noteAt j) = false
-samePlace (recordAt i) (pageAt j) = false
-samePlace (recordAt i) (slotAt j) = false
-samePlace (recordAt i) (recordAt j) = eqb i j
-samePlace (recordAt i) (noteAt j) = false
-samePlace (noteAt i) (pageAt j) = false
-samePlace (noteAt i) (slotAt j) = false
-samePlace (noteAt i) (recordAt j) = false
-samePlace (noteAt i) (noteAt j) = eqb i j
+samePlace a b =
+    eqb (placeNumbers a .0) (placeNumbers b .0) && eqb (placeNumbers a .1) (placeNumbers b .1)
 
 -- these bytes were stored in that place by a call
 unfoldable pub storedBefore : Place → List ℕ → List StoredItem → Bool
@@ -83,17 +78,7 @@ restampCounts v (oneItem at xs) past = storedBefore at (item (geometryOf v) v at
 restampCounts v (newHeading tag) past = true
 
 abbrev pub isRestamp : Call → Bool
-isRestamp (begin page frame fill) = false
-isRestamp (load page frame) = false
-isRestamp (change page c payload) = false
-isRestamp force = false
-isRestamp (write page) = false
-isRestamp (backup page slot) = false
-isRestamp (release page) = false
-isRestamp note = false
-isRestamp startCarry = false
-isRestamp restamp = true
-isRestamp finishCarry = false
+isRestamp c = isCall 19 c
 
 -- what calls stored, once the call has stored x in volume v
 abbrev pub pastAfter : Call → List ℕ → StoredItem → List StoredItem → List StoredItem
@@ -172,17 +157,7 @@ tornFits g (newHeading tag) (torn xs) = false
 
 -- a payload is an array of 44; other arguments are any numbers
 abbrev pub payloadFits : Call → Bool
-payloadFits (begin page frame fill) = true
-payloadFits (load page frame) = true
-payloadFits (change page c payload) = eqb (length payload) 44
-payloadFits force = true
-payloadFits (write page) = true
-payloadFits (backup page slot) = true
-payloadFits (release page) = true
-payloadFits note = true
-payloadFits startCarry = true
-payloadFits restamp = true
-payloadFits finishCarry = true
+payloadFits c = not (isCall 5 c) || eqb (length (c .1)) 44
 
 abbrev pub crashFits : Power → List ℕ → Call → Left → Bool
 crashFits off v c l = false
@@ -206,28 +181,13 @@ unfoldable pub carriable : Geometry → List ℕ → State → Bool
 carriable g v s = every (g .pages) (pageCarries g v s) && pendingCarries g v (s .note)
 
 abbrev pub isStartCarry : Call → Bool
-isStartCarry (begin page frame fill) = false
-isStartCarry (load page frame) = false
-isStartCarry (change page c payload) = false
-isStartCarry force = false
-isStartCarry (write page) = false
-isStartCarry (backup page slot) = false
-isStartCarry (release page) = false
-isStartCarry note = false
-isStartCarry startCarry = true
-isStartCarry restamp = false
-isStartCarry finishCarry = false
+isStartCarry c = isCall 18 c
 
 -- a Start that its table does not refuse is made where the volume is carriable
 abbrev pub startFits : Power → List ℕ → Call → Bool
 startFits off v c = true
 startFits (on m s) v c =
     not (isStartCarry c) || (not (eqb (firstOf (startCarryRows v m s)) 0) || carriable (geometryOf v) v s)
-
-abbrev pub leftNew : Left → Bool
-leftNew old = false
-leftNew new = true
-leftNew (torn xs) = false
 
 -- damage leaves an image that does not pass, or one that was stored earlier in that place. "For damage, the index is
 -- what the volume's notes give."

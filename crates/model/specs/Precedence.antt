@@ -1,7 +1,7 @@
 -- In which order the rows of a table stand. States document 01, "The lowest number wins, but in inspect 17 and 18 come
 -- before 7", and document 02's "before" and "after": 20 "after 2", 21 "after 18", 22 "after 21" and 23 "after 19" are
--- that order too, 24 "before 21" is the other exception. 25, "before all others", has no other beside it. The values of
--- the types are proved in the crate `laws`.
+-- that order too. The tables of the reports, with 24 "before 21" as the other exception, stand in `reports`, that of the
+-- rehearsal in `planning`. The values of the types are proved in the crate `laws`.
 use Prim.Native.Nat.{ℕ, _<_}
 use mathlib.Core.Path.{_≡_}
 use mathlib.Core.Bool.{Bool, true, false, _&&_, _||_, not}
@@ -9,16 +9,9 @@ use mathlib.Core.List.{List, [], _∷_}
 use lib.Dec.{eqb, leb}
 use lib.ListN.{length, getD}
 use Rattle.model.specs.Tables.{Row}
-use Rattle.model.specs.Reading.{scanRows, wholeRows}
 use Rattle.model.specs.Refusals.{makeRows, restartRows, inspectRows}
 use Rattle.model.specs.Calls.{Call, rowsOf}
 use Rattle.model.specs.Demand1.{ByTable}
-use Rattle.model.specs.Health.{examineRows}
-use Rattle.model.specs.Forecast.{tellRows}
-use Rattle.model.specs.Archive.{archiveRows, readRows}
-use Rattle.model.specs.Mirror.{mirrorRows, compareRows}
-use Rattle.model.specs.Rehearsal.{rehearsalRows}
-use Rattle.model.specs.declared.rehearsal.Settings.{Settings}
 use Rattle.model.specs.declared.state.State.{State}
 
 -- ---- the exceptions
@@ -30,10 +23,6 @@ Exception = ℕ × ℕ
 -- "in inspect 17 and 18 come before 7"
 abbrev pub inspectExceptions : List Exception
 inspectExceptions = (17, 7) ∷ (18, 7) ∷ []
-
--- "24, the whole history is wanted and record 1 has left the log, before 21"
-abbrev pub archiveExceptions : List Exception
-archiveExceptions = (24, 21) ∷ []
 
 -- ---- the order
 
@@ -64,19 +53,6 @@ pub record TablesOrdered : Type 0 where
   pub make : (v : List ℕ) (p b l n : ℕ) → ordered [] (makeRows v p b l n) ≡ true
   pub restart : (v m : List ℕ) → ordered [] (restartRows v m) ≡ true
   pub inspect : (v : List ℕ) (page size : ℕ) → ordered inspectExceptions (inspectRows v page size) ≡ true
-  -- the same for C, with class, start and count
-  pub examine : (v : List ℕ) (page size count : ℕ) → ordered inspectExceptions (examineRows v page size count) ≡ true
-  -- the forecast, and the same for C
-  pub forecast : (v : List ℕ) → ordered [] (scanRows v) ≡ true
-  pub tell : (v : List ℕ) (size : ℕ) → ordered [] (tellRows v size) ≡ true
-  -- the archive's length, writer and reader
-  pub size : (v : List ℕ) → ordered [] (wholeRows v []) ≡ true
-  pub archive : (v : List ℕ) (size : ℕ) → ordered archiveExceptions (archiveRows v size) ≡ true
-  pub read : (a : List ℕ) (size : ℕ) → ordered [] (readRows a size) ≡ true
-  -- two logs compared, and the same for C
-  pub mirror : (v w : List ℕ) → ordered [] (mirrorRows v w) ≡ true
-  pub compare : (v w : List ℕ) (size : ℕ) → ordered [] (compareRows v w size) ≡ true
-  pub rehearsal : (events : List ℕ) (t : Settings) → ordered [] (rehearsalRows events t) ≡ true
 
 -- "The lowest number wins": a call by a table in this order answers, where a row holds, that row's number or one that
 -- comes before it

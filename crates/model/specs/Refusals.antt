@@ -2,7 +2,7 @@
 -- in the order in which they are tested. The answer is the first row that holds.
 use Prim.Native.Nat.{ℕ, _+_}
 use mathlib.Core.Bool.{Bool, true, false, _&&_, not}
-use mathlib.Core.List.{List, [], _∷_}
+use mathlib.Core.List.{List, [], _∷_, _++_}
 use lib.Dec.{eqb, leb, ltb}
 use lib.ListN.{length}
 use Rattle.model.specs.Tables.{Row, within}
@@ -11,14 +11,18 @@ use Rattle.model.specs.Change.{fits}
 use Rattle.model.specs.Item.{imageLsn}
 use Rattle.model.specs.Index.{entryOf, slotUsed}
 use Rattle.model.specs.Passes.{oldLeft}
-use Rattle.model.specs.Scan.{durableCount, firstHeld, indexOf}
-use Rattle.model.specs.Repair.{viewOf, walkOf, isBroken, isBelow}
-use Rattle.model.specs.Reading.{logRows}
+use Rattle.model.specs.Scan.{indexOf, validLog, validNotes}
+use Rattle.model.specs.Repair.{scannedView, stateView, walkOf, isBroken, isBelow}
 use Rattle.model.specs.State.{frameCount, validMemory, frameBytes, frameOf, logFull, notesFull, notePending, holder, held, blank, wellFormed}
 use Rattle.model.specs.declared.geometry.Geometry.{Geometry}
 use Rattle.model.specs.declared.geometry.Heading.the-variants.{First}
 use Rattle.model.specs.declared.change.Change.{Change}
 use Rattle.model.specs.declared.state.State.{State}
+use Rattle.model.specs.declared.answer.Stop.{Stop}
+
+-- the rows 17 and 18 of a call that scans a volume, before its own
+abbrev pub logRows : List ℕ → List Row → List Row
+logRows v rows = (not (validLog (geometryOf v) v), 17) ∷ (not (validNotes (geometryOf v) v), 18) ∷ rows
 
 -- ---- the rows' conditions, one name each
 
@@ -41,15 +45,14 @@ notDurable m s p = ltb (s .durable) (imageLsn (frameBytes m (holder s p)))
 
 -- 19: the walk for page p breaks
 abbrev pub chainBroken : Geometry → List ℕ → State → ℕ → Bool
-chainBroken g v s p = isBroken (walkOf g p (viewOf g v (firstHeld g v (s .durable)) (entryOf (s .index) p) p) .stop)
+chainBroken g v s p = isBroken (walkOf g p (stateView g v s p) .stop)
 
 -- 23: the walk for page p goes below the run, by the live count and by the count found
 abbrev pub chainBelow : Geometry → List ℕ → State → ℕ → Bool
-chainBelow g v s p = isBelow (walkOf g p (viewOf g v (firstHeld g v (s .durable)) (entryOf (s .index) p) p) .stop)
+chainBelow g v s p = isBelow (walkOf g p (stateView g v s p) .stop)
 
 abbrev pub foundBelow : Geometry → List ℕ → ℕ → Bool
-foundBelow g v p =
-    isBelow (walkOf g p (viewOf g v (firstHeld g v (durableCount g v)) (entryOf (indexOf g v) p) p) .stop)
+foundBelow g v p = isBelow (walkOf g p (scannedView g v p) .stop)
 
 -- ---- the tables
 
@@ -65,55 +68,76 @@ makeRows v p b l n = (not (validCounts p b l n && eqb (length v) (lengthFor p b 
 unfoldable pub restartRows : List ℕ → List ℕ → List Row
 restartRows v m = (not (validVolume v), 1) ∷ (not (validMemory (length m)), 2) ∷ logRows v []
 
+-- The rows of a call's own, behind those, are named `..Tail`: of a geometry, and of what the code finds once and hands
+-- on, as the number of frames, or the frame that holds the page (0: none) and the page lsn in it.
+
+-- of a call that appends a record
+abbrev pub appendTail : Geometry → List ℕ → State → List Row
+appendTail g v s = (eqb (s .pending) 16, 11) ∷ (logFull g v s, 12) ∷ []
+
+abbrev pub beginTail : Geometry → List ℕ → ℕ → State → ℕ → ℕ → List Row
+beginTail g v frames s page frame =
+    (not (within (g .pages) page), 3) ∷ (not (within frames frame), 4) ∷ (not (blank s page), 9)
+    ∷ (frameBlocked s frame, 10) ∷ appendTail g v s
+
 unfoldable pub beginRows : List ℕ → List ℕ → State → ℕ → ℕ → List Row
-beginRows v m s page frame =
-    let g = geometryOf v in
-    stateRows v m s
-    ((not (within (g .pages) page), 3) ∷ (not (within (frameCount (length m)) frame), 4)
-    ∷ (not (blank s page), 9) ∷ (frameBlocked s frame, 10)
-    ∷ (eqb (s .pending) 16, 11) ∷ (logFull g v s, 12) ∷ [])
+beginRows v m s page frame = stateRows v m s (beginTail (geometryOf v) v (frameCount (length m)) s page frame)
+
+-- Load's before the walk, and behind it, of where the walk stopped
+abbrev pub loadTail : Geometry → ℕ → State → ℕ → ℕ → List Row
+loadTail g frames s page frame =
+    (not (within (g .pages) page), 3) ∷ (not (within frames frame), 4) ∷ (blank s page, 7) ∷ (held s page, 9)
+    ∷ (frameBlocked s frame, 10) ∷ []
+
+abbrev pub walkTail : Stop → List Row
+walkTail stop = (isBroken stop, 19) ∷ (isBelow stop, 23) ∷ []
 
 unfoldable pub loadRows : List ℕ → List ℕ → State → ℕ → ℕ → List Row
 loadRows v m s page frame =
     let g = geometryOf v in
-    stateRows v m s
-    ((not (within (g .pages) page), 3) ∷ (not (within (frameCount (length m)) frame), 4)
-    ∷ (blank s page, 7) ∷ (held s page, 9)
-    ∷ (frameBlocked s frame, 10) ∷ (chainBroken g v s page, 19) ∷ (chainBelow g v s page, 23) ∷ [])
+    let walk = walkOf g page (stateView g v s page) in
+    stateRows v m s (loadTail g (frameCount (length m)) s page frame ++ walkTail (walk .stop))
+
+abbrev pub changeTail : Geometry → List ℕ → State → ℕ → Change → List Row
+changeTail g v s page c =
+    (not (within (g .pages) page), 3) ∷ (not (fits c), 6) ∷ (not (held s page), 8) ∷ appendTail g v s
 
 unfoldable pub changeRows : List ℕ → List ℕ → State → ℕ → Change → List Row
-changeRows v m s page c =
-    let g = geometryOf v in
-    stateRows v m s
-    ((not (within (g .pages) page), 3)
-    ∷ (not (fits c), 6) ∷ (not (held s page), 8) ∷ (eqb (s .pending) 16, 11) ∷ (logFull g v s, 12) ∷ [])
+changeRows v m s page c = stateRows v m s (changeTail (geometryOf v) v s page c)
 
 unfoldable pub forceRows : List ℕ → List ℕ → State → List Row
 forceRows v m s = stateRows v m s []
 
+-- of a call that leaves a note pending, where t holds
+abbrev pub noteTail : Geometry → List ℕ → State → Bool → ℕ → List Row → List Row
+noteTail g v s t lsn rest =
+    (t && notePending (s .note), 13) ∷ (t && notesFull g v s, 14) ∷ (t && ltb (s .durable) lsn, 15) ∷ rest
+
 -- 13 to 15 are for a dirty page: "On a clean page it answers Nothing"
+abbrev pub writeTail : Geometry → List ℕ → State → ℕ → ℕ → ℕ → List Row
+writeTail g v s page f lsn =
+    (not (within (g .pages) page), 3) ∷ (not (ltb 0 f), 8) ∷ noteTail g v s (frameOf s f .dirty) lsn []
+
 unfoldable pub writeRows : List ℕ → List ℕ → State → ℕ → List Row
 writeRows v m s page =
-    let g = geometryOf v in
-    let d = pageDirty s page in
-    stateRows v m s
-    ((not (within (g .pages) page), 3) ∷ (not (held s page), 8)
-    ∷ (d && notePending (s .note), 13) ∷ (d && notesFull g v s, 14)
-    ∷ (d && notDurable m s page, 15) ∷ [])
+    let f = holder s page in
+    stateRows v m s (writeTail (geometryOf v) v s page f (imageLsn (frameBytes m f)))
+
+abbrev pub backupTail : Geometry → List ℕ → State → ℕ → ℕ → ℕ → ℕ → List Row
+backupTail g v s page slot f lsn =
+    (not (within (g .pages) page), 3) ∷ (not (within (g .slots) slot), 5) ∷ (not (ltb 0 f), 8)
+    ∷ noteTail g v s true lsn ((slotUsed slot (s .index), 16) ∷ [])
 
 unfoldable pub backupRows : List ℕ → List ℕ → State → ℕ → ℕ → List Row
 backupRows v m s page slot =
-    let g = geometryOf v in
-    stateRows v m s
-    ((not (within (g .pages) page), 3) ∷ (not (within (g .slots) slot), 5) ∷ (not (held s page), 8)
-    ∷ (notePending (s .note), 13) ∷ (notesFull g v s, 14) ∷ (notDurable m s page, 15)
-    ∷ (slotUsed slot (s .index), 16) ∷ [])
+    let f = holder s page in
+    stateRows v m s (backupTail (geometryOf v) v s page slot f (imageLsn (frameBytes m f)))
+
+abbrev pub releaseTail : Geometry → State → ℕ → ℕ → List Row
+releaseTail g s page f = (not (within (g .pages) page), 3) ∷ (not (ltb 0 f), 8) ∷ (frameBlocked s f, 10) ∷ []
 
 unfoldable pub releaseRows : List ℕ → List ℕ → State → ℕ → List Row
-releaseRows v m s page =
-    let g = geometryOf v in
-    stateRows v m s
-    ((not (within (g .pages) page), 3) ∷ (not (held s page), 8) ∷ (frameBlocked s (holder s page), 10) ∷ [])
+releaseRows v m s page = stateRows v m s (releaseTail (geometryOf v) s page (holder s page))
 
 unfoldable pub noteRows : List ℕ → List ℕ → State → List Row
 noteRows v m s = stateRows v m s []

@@ -10,8 +10,11 @@ use Rattle.model.specs.Checksum.{sealed}
 use Rattle.model.specs.Geometry.{Place, pageAt, slotAt, item, logSlot}
 use Rattle.model.specs.Change.{zeroBody}
 use Rattle.model.specs.Item.{imageLsn, imageBody, validImage, recordOf, recordLayout, isFormat, firstIsFormat, applyRecord, frameImage}
+use Rattle.model.specs.Index.{entryOf}
+use Rattle.model.specs.Scan.{durableCount, firstHeld, indexOf}
 use Rattle.model.specs.declared.geometry.Geometry.{Geometry}
 use Rattle.model.specs.declared.state.Entry.{Entry}
+use Rattle.model.specs.declared.state.State.{State}
 use Rattle.model.specs.declared.answer.Class.{Class}
 use Rattle.model.specs.declared.answer.Class.the-variants.{Good, Behind, Stale, Failed, Ahead}
 use Rattle.model.specs.declared.answer.Start.{Start}
@@ -49,6 +52,13 @@ viewOf g v f e p =
       log = λ n. item g v (logSlot g n);
       first = f;
     }
+
+-- by the index that the log and the notes give, for Inspect; by the state's, for Load
+abbrev pub scannedView : Geometry → List ℕ → ℕ → View
+scannedView g v p = viewOf g v (firstHeld g v (durableCount g v)) (entryOf (indexOf g v) p) p
+
+abbrev pub stateView : Geometry → List ℕ → State → ℕ → View
+stateView g v s p = viewOf g v (firstHeld g v (s .durable)) (entryOf (s .index) p) p
 
 abbrev pub classIn : Geometry → ℕ → View → Class
 classIn g p w = classOf (validImage g p (w .own)) (imageLsn (w .own)) (w .durable) (w .written)

@@ -13,7 +13,8 @@ use Rattle.model.specs.Item.{imageLsn, validImage, recordOf, isFormat, n
 use Rattle.model.specs.Index.{entryOf}
 use Rattle.model.specs.Scan.{logRecord, durableCount, firstHeld, noteRecord, noteCount, indexOf}
 use Rattle.model.specs.State.{noteWhole}
-use Rattle.model.specs.Calls.{Call, oneItem, outcomeOf, loadOf, refusalOf}
+use Rattle.model.specs.Outcome.{oneItem, refusalOf}
+use Rattle.model.specs.Calls.{Call, outcomeOf, loadOf}
 use Rattle.model.specs.AbstractLog.{Logged, lastPlace, Left, old, new, torn}
 use Rattle.model.specs.History.{Power, on, Event, restart, perform, crash, crashIn, damage, isRestamp}
 use Rattle.model.specs.Claim.{History, Legal, reached, logOf, durableOf, Safe, inspection, Alike}

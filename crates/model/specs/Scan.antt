@@ -5,10 +5,10 @@ use mathlib.Core.Bool.{Bool, true, false, cond, _&&_, _||_, not}
 use mathlib.Core.List.{List, [], _∷_, map}
 use lib.Dec.{eqb, leb, ltb}
 use lib.ListN.{replicate}
-use Rattle.model.specs.Tables.{all, every, within}
+use Rattle.model.specs.Tables.{all, every, within, larger}
 use Rattle.model.specs.Bytes.{le, field, part, allZero}
 use Rattle.model.specs.Checksum.{sealed, sealedRun}
-use Rattle.model.specs.Geometry.{Place, recordAt, noteAt, width, start, item, ring, noteRing, logSlot, noteSlot}
+use Rattle.model.specs.Geometry.{Place, recordAt, noteAt, width, start, item, ring, slotOf, logSlot, noteSlot}
 use Rattle.model.specs.Item.{recordOf, recordLayout, firstIsFormat, noteOf, noteLayout, isWritten}
 use Rattle.model.specs.Index.{emptyIndex, entryRow, entryOf, setEntry, enterNote, slotUsed, settled}
 use Rattle.model.specs.declared.geometry.Geometry.{Geometry}
@@ -16,18 +16,16 @@ use Rattle.model.specs.declared.item.LogRecord.{LogRecord}
 use Rattle.model.specs.declared.item.Note.{Note}
 use Rattle.model.specs.declared.state.Entry.{Entry}
 
--- the slots of a section that lie past slot n + 1, of `count` slots of `size` bytes that start at place at, are zero
-unfoldable pub restZero : ℕ → ℕ → List ℕ → ℕ → ℕ → Bool
-restZero size count v at n = allZero (part v (at + size * (n + 1)) (size * (count - (n + 1))))
+-- ---- a section
 
-abbrev pub logRecord : Geometry → List ℕ → ℕ → LogRecord
-logRecord g v n = recordOf (item g v (logSlot g n))
-
-abbrev pub noteRecord : Geometry → List ℕ → ℕ → Note
-noteRecord g v n = noteOf (item g v (noteSlot g n))
-
-abbrev pub larger : ℕ → ℕ → ℕ
-larger a b = cond (leb a b) b a
+-- A section of a volume, its log or its notes: whether it is a ring, an item's bytes before its checksum, how many
+-- slots it has, where they start, and the bytes of slot i, counted from 1.
+pub record Section : Type 0 where
+  pub ring : Bool
+  pub size : ℕ
+  pub slots : ℕ
+  pub at : ℕ
+  pub slot : ℕ → List ℕ
 
 -- the highest number in any whole slot, or 0, of the first `count` slots: items of c bytes and their checksum, that
 -- start with their number
@@ -37,19 +35,46 @@ highest c slot (suc i) =
     let rest = highest c slot i in
     larger rest (cond (sealed c (slot (suc i))) (field 4 0 (slot (suc i))) 0)
 
+-- no ring: "records 1 to n have right checks, slot n + 1 hasn't": n. A ring: the highest number in a whole slot
+unfoldable pub countIn : List ℕ → Section → ℕ
+countIn v s = cond (s .ring) (highest (s .size) (s .slot) (s .slots)) (sealedRun (s .size) (s .slots) v (s .at))
+
+-- the run start, with n numbers: f = max(1, n − L + 1), or one later if slot(f) is not whole; 1 where there is no ring
+unfoldable pub firstIn : Section → ℕ → ℕ
+firstIn s n =
+    let f = suc (n - s .slots) in
+    cond (s .ring) (cond (sealed (s .size) (s .slot (slotOf (s .slots) f))) f (suc f)) 1
+
+-- the slots of a section that lie past slot n + 1, of `count` slots of `size` bytes that start at place at, are zero
+unfoldable pub restZero : ℕ → ℕ → List ℕ → ℕ → ℕ → Bool
+restZero size count v at n = allZero (part v (at + size * (n + 1)) (size * (count - (n + 1))))
+
+-- what follows a run from f to n: past the turn nothing is asked; before it slot n + 1 is not whole, the run starts at 1,
+-- and the rest is zero
+unfoldable pub endsIn : List ℕ → Section → ℕ → ℕ → Bool
+endsIn v s f n =
+    (leb (s .slots) n || (not (sealed (s .size) (s .slot (suc n))) && (eqb n 0 || eqb f 1)))
+    && restZero (s .size + 4) (s .slots) v (s .at) n
+
+-- the restart rule of a section with a run from f to n: each of its items fits, and nothing else follows
+abbrev pub validRun : List ℕ → Section → ℕ → ℕ → (ℕ → Bool) → Bool
+validRun v s f n fits = every (suc n - f) fits && endsIn v s f n
+
 -- ---- the log
 
--- no ring: "records 1 to n have right checks, slot n + 1 hasn't": n. A ring: the highest number in a whole slot
-unfoldable pub durableCount : Geometry → List ℕ → ℕ
-durableCount g v =
-    cond (ring g) (highest 60 (λ i. item g v (recordAt i)) (g .records))
-    (sealedRun 60 (g .records) v (start g (recordAt 1)))
+abbrev pub logSlots : Geometry → List ℕ → Section
+logSlots g v =
+    record { ring = ring g; size = 60; slots = g .records; at = start g (recordAt 1); slot = λ i. item g v (recordAt i) }
 
--- the run start, with n records: f = max(1, n − L + 1), or one later if slot(f) is not whole; 1 where there is no ring
+abbrev pub logRecord : Geometry → List ℕ → ℕ → LogRecord
+logRecord g v n = recordOf (item g v (logSlot g n))
+
+-- the count of durable records, and the run start with n of them
+unfoldable pub durableCount : Geometry → List ℕ → ℕ
+durableCount g v = countIn v (logSlots g v)
+
 unfoldable pub firstHeld : Geometry → List ℕ → ℕ → ℕ
-firstHeld g v n =
-    let f = suc (n - g .records) in
-    cond (ring g) (cond (sealed 60 (item g v (logSlot g f))) f (suc f)) 1
+firstHeld g v n = firstIn (logSlots g v) n
 
 -- the index with record n of page p entered
 abbrev pub enterRecord : List Entry → ℕ → ℕ → List Entry
@@ -76,19 +101,12 @@ recordFits g v f index n =
     (sealed 60 (item g v (logSlot g n)) ∷ recordLayout (item g v (logSlot g n))
     ∷ eqb (e .lsn) n ∷ within (g .pages) (e .page) ∷ linked f (entryOf index (e .page) .last) e ∷ [])
 
--- what follows a section's last number n, of `count` slots: past the turn nothing is asked; before it slot n + 1 is not
--- whole, and the run starts at 1
-abbrev pub endsAt : ℕ → ℕ → ℕ → Bool → Bool
-endsAt count n f next = leb count n || (not next && (eqb n 0 || eqb f 1))
-
 -- the log keeps the restart rule (refusal 17 is that it does not)
 unfoldable pub validLog : Geometry → List ℕ → Bool
 validLog g v =
     let n = durableCount g v in
     let f = firstHeld g v n in
-    every (suc n - f) (λ i. recordFits g v f (logIndex g v f i) (f + i))
-    && (endsAt (g .records) n f (sealed 60 (item g v (recordAt (suc n))))
-    && restZero 64 (g .records) v (start g (recordAt 1)) n)
+    validRun v (logSlots g v) f n (λ i. recordFits g v f (logIndex g v f i) (f + i))
 
 -- "record 1 has left": 24's condition. Not on a fresh volume, where the run start is 2
 unfoldable pub gone : Geometry → List ℕ → Bool
@@ -96,15 +114,19 @@ gone g v = let n = durableCount g v in ltb 0 n && ltb 1 (firstHeld g v n)
 
 -- ---- the notes
 
+abbrev pub noteSlots : Geometry → List ℕ → Section
+noteSlots g v =
+    record { ring = ring g; size = 12; slots = g .notes; at = start g (noteAt 1); slot = λ i. item g v (noteAt i) }
+
+abbrev pub noteRecord : Geometry → List ℕ → ℕ → Note
+noteRecord g v n = noteOf (item g v (noteSlot g n))
+
+-- the count of notes, and the run start with n of them
 unfoldable pub noteCount : Geometry → List ℕ → ℕ
-noteCount g v =
-    cond (noteRing g) (highest 12 (λ i. item g v (noteAt i)) (g .notes))
-    (sealedRun 12 (g .notes) v (start g (noteAt 1)))
+noteCount g v = countIn v (noteSlots g v)
 
 unfoldable pub firstNote : Geometry → List ℕ → ℕ → ℕ
-firstNote g v n =
-    let f = suc (n - g .notes) in
-    cond (noteRing g) (cond (sealed 12 (item g v (noteSlot g f))) f (suc f)) 1
+firstNote g v n = firstIn (noteSlots g v) n
 
 -- the index that the log's run gives
 abbrev pub runIndex : Geometry → List ℕ → List Entry
@@ -148,7 +170,5 @@ validNotes g v =
     let k = noteCount g v in
     let f = firstNote g v k in
     let index = indexOf g v in
-    every (suc k - f) (λ i. noteFits g v (noteIndex g v f i) (f + i))
-    && (endsAt (g .notes) k f (sealed 12 (item g v (noteAt (suc k))))
-    && (restZero 16 (g .notes) v (start g (noteAt 1)) k
-    && every 64 (λ i. leb (entryRow index i .written) (entryRow index i .last))))
+    validRun v (noteSlots g v) f k (λ i. noteFits g v (noteIndex g v f i) (f + i))
+    && every 64 (λ i. leb (entryRow index i .written) (entryRow index i .last))

@@ -9,7 +9,7 @@ use lib.ListN.{length, getD, replicate}
 use Rattle.model.specs.Tables.{all, every, within}
 use Rattle.model.specs.Bytes.{part}
 use Rattle.model.specs.Checksum.{sealed}
-use Rattle.model.specs.Geometry.{ring, noteRing, most, mostNotes, item, logSlot, noteSlot}
+use Rattle.model.specs.Geometry.{ring, most, mostNotes, item, logSlot, noteSlot}
 use Rattle.model.specs.Item.{noteLayout, isWritten}
 use Rattle.model.specs.Index.{emptyEntry, emptyIndex, entryRow, entryOf}
 use Rattle.model.specs.Scan.{logRecord, noteRecord}
@@ -61,12 +61,9 @@ frameRow s i = getD (s .frames) i emptyFrame
 abbrev pub frameOf : State → ℕ → Frame
 frameOf s f = frameRow s (f - 1)
 
--- the last number given, and the last note's
+-- the last number given; the last note's is `notes`
 abbrev pub lastNumber : State → ℕ
 lastNumber s = s .durable + s .pending
-
-abbrev pub lastNote : State → ℕ
-lastNote s = s .notes
 
 -- record j is not known to be spare: it is pending, or stands whole in its slot and its page has no noted backup at or
 -- above it
@@ -103,9 +100,9 @@ noteNeeded g v k j =
 -- needed
 unfoldable pub notesFull : Geometry → List ℕ → State → Bool
 notesFull g v s =
-    let k = lastNote s in
+    let k = s .notes in
     eqb (g .notes) 0
-    || (leb (mostNotes g) k || (noteRing g && (leb (g .notes) k && noteNeeded g v k (suc k - g .notes))))
+    || (leb (mostNotes g) k || (ring g && (leb (g .notes) k && noteNeeded g v k (suc k - g .notes))))
 
 abbrev pub notePending : PendingNote → Bool
 notePending Absent = false

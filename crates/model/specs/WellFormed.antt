@@ -4,29 +4,21 @@
 -- that a Restart gives a well-formed state. The values of the types are proved in the crate `laws`.
 use Prim.Native.Nat.{ℕ}
 use mathlib.Core.Path.{_≡_}
-use mathlib.Core.Bool.{Bool, true, false}
+use mathlib.Core.Bool.{Bool, true, false, _||_}
 use mathlib.Core.List.{List}
 use lib.ListN.{length}
 use Rattle.model.specs.Geometry.{geometryOf}
-use Rattle.model.specs.Reading.{Octets}
+use Rattle.model.specs.Bytes.{Octets}
 use Rattle.model.specs.State.{frameCount, wellFormed}
-use Rattle.model.specs.Calls.{volumeAfter, restartOf, Call, begin, load, change, force, write, backup, release, note, startCarry, restamp, finishCarry, outcomeOf}
+use Rattle.model.specs.Outcome.{volumeAfter}
+use Rattle.model.specs.Calls.{Call, outcomeOf, isCall}
+use Rattle.model.specs.Restart.{restartOf}
 use Rattle.model.specs.Demand1.{Arrays}
 use Rattle.model.specs.declared.state.State.{State}
 
--- the call enters in the index what it stores
+-- the call enters in the index what it stores: Force and Note
 abbrev pub entersIndex : Call → Bool
-entersIndex (begin page frame fill) = false
-entersIndex (load page frame) = false
-entersIndex (change page c payload) = false
-entersIndex force = true
-entersIndex (write page) = false
-entersIndex (backup page slot) = false
-entersIndex (release page) = false
-entersIndex note = true
-entersIndex startCarry = false
-entersIndex restamp = false
-entersIndex finishCarry = false
+entersIndex c = isCall 6 c || isCall 9 c
 
 -- the state that a call leaves, judged by the volume that it leaves and the frames of the memory lent
 pub record StaysFormed (c : Call) (v m : List ℕ) (s : State) : Type 0 where

@@ -1,12 +1,15 @@
 // The state to and from the 360 numbers that a caller keeps.
 ghost use mathlib.Core.Path.{_≡_};
 ghost use mathlib.Core.List.{_∷_};
-ghost use lib.ListN.{length};
+ghost use Prim.Native.Nat.{_<_};
+ghost use lib.ListN.{length, getD, set};
 ghost use Rattle.model.specs.Tables.{every};
+ghost use Rattle.model.specs.Index.{emptyEntry};
+ghost use Rattle.model.specs.declared.state.State as states;
 ghost use Rattle.face.specs.Numbers.{bitOf, noteNumbers, frameNumbers, entryNumbers, numbersOf};
 ghost use Rattle.face.specs.Numbers.{noteFrom, frameFrom, entryFrom, framesOf, entriesOf, stateOf};
 ghost use Rattle.face.specs.Numbers.{noteHeld, frameHeld, entryHeld, fits};
-use index::rows;
+use index::entries;
 use model::item::Note;
 use model::state::Entry;
 use model::state::Frame;
@@ -70,7 +73,7 @@ fn entries_of(xs: &[u32]) -> [Entry; 64]
     requires { ⌜ length (now xs) ≡ 320 ⌝ }
     ensures { λ r. ⌜ r ≡ entriesOf (now (xs .entry)) ⌝ }
 {
-    let mut index = [rows::EMPTY; 64];
+    let mut index = [entries::EMPTY; 64];
     let mut i: usize = 0;
     while i < 64 {
         let k = 5 * i;
@@ -180,6 +183,25 @@ pub fn encode(s: State, out: &mut [u32])
     put_frames(frames, &mut out[8..40]);
     let index = s.index;
     put_entries(index, &mut out[40..360]);
+}
+
+// The state's numbers over those of a state with the same index but for one row: no call changes two.
+pub fn update(s: State, row: usize, out: &mut [u32])
+    requires { ⌜ (length (now out) ≡ 360) × (row < 64) ⌝ }
+    ensures { λ _.
+        ⌜ ((t : states.State) → length (t .frames) ≡ 16 → length (t .index) ≡ 64 → now (out .entry) ≡ numbersOf t
+        → s .index ≡ set (t .index) row (getD (s .index) row emptyEntry) → now (out .exit) ≡ numbersOf s) ⌝ }
+{
+    let p = s.note;
+    let front = head(s.durable, s.pending, s.notes, p);
+    let frames = s.frames;
+    let e = s.index[row];
+    let slot = e.slot as u32;
+    let n = [e.last, e.durable, e.written, slot, e.backup];
+    let k = 40 + 5 * row;
+    copy(&mut out[0..8], &front);
+    put_frames(frames, &mut out[8..40]);
+    copy(&mut out[k..k + 5], &n);
 }
 
 // The pending note's numbers are within their fields.

@@ -2,11 +2,10 @@
 use mathlib.Core.Path.{_≡_, refl, sym, ap, _∙_}
 use mathlib.Core.List.{List}
 use Prim.Native.Nat.{ℕ, _+_, _-_, _≤_}
-use native.Mathlib.Omega.{arith}
 use lib.Dec.{lit≤}
 use lib.ListN.{length, take, drop}
 use borrow.Rule.Slice.PartMut.{putMid}
-use Rattle.laws.proofs.Parts.{put-splice, part-lent, part-length}
+use Rattle.laws.proofs.Parts.{put-item, part-lent, part-length}
 use Rattle.laws.proofs.Fields.{field-part}
 use Rattle.laws.proofs.Items.{sealImage-length}
 use Rattle.laws.proofs.Notes.{note-length}
@@ -20,12 +19,6 @@ use Rattle.model.specs.declared.item.Note.{Note}
 -- the page lsn, read from the memory itself
 pub lsn-is : (m : List ℕ) (f at r : ℕ) → at ≡ frameAt f → r ≡ field 4 (at + 4) m → r ≡ imageLsn (frameBytes m f)
 lsn-is m f at r ea er = er ∙ ap (λ (k : ℕ). field 4 (k + 4) m) ea ∙ sym (field-part 4 4 256 (frameAt f) m (lit≤ tt))
-
--- an item of n bytes put into a part that was lent
-put-item : (v : List ℕ) (at n : ℕ) (x y : List ℕ) → length y ≡ n → x ≡ y → putMid at (at + n - at) v x ≡ splice v at y
-put-item v at n x y l e =
-    let k : length y ≡ at + n - at = omega arith in
-    ap (putMid at (at + n - at) v) e ∙ put-splice v at (at + n - at) y k
 
 -- an image, from the frame's part
 pub image-put : (v m : List ℕ) (at from f : ℕ) (g : Geometry) (x : List ℕ) → frameAt f + 256 ≤ length m → from ≡ frameAt f

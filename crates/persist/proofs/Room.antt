@@ -11,12 +11,11 @@ use Rattle.laws.proofs.Tables.{or-neither, none-at, within-bounds}
 use Rattle.laws.proofs.Places.{valid-facts, place-fits, In}
 use Rattle.laws.proofs.WellFormed.{Ready, ready, formed-note, holder-low, holder-high, holder-within, frame-within}
 use Rattle.state.proofs.Slots.{most-notes-high, note-fits}
-use Rattle.persist.specs.Rows.{writeTail, backupTail}
 use Rattle.model.specs.Tables.{Row, firstOf, within}
 use Rattle.model.specs.Item.{imageLsn}
 use Rattle.model.specs.Geometry.{mostNotes, geometryOf, Place, pageAt, slotAt, noteSlot, width, start}
-use Rattle.model.specs.State.{frameCount, frameAt, frameBytes, lastNote, notesFull, holder, held, pendingNoteFits}
-use Rattle.model.specs.Refusals.{stateRows, pageDirty, writeRows, backupRows}
+use Rattle.model.specs.State.{frameCount, frameAt, frameBytes, notesFull, holder, held, pendingNoteFits}
+use Rattle.model.specs.Refusals.{stateRows, pageDirty, writeRows, backupRows, writeTail, backupTail}
 use Rattle.model.specs.declared.geometry.Geometry.{Geometry}
 use Rattle.model.specs.declared.item.Note.{Note}
 use Rattle.model.specs.declared.state.PendingNote.the-variants.{Present}
@@ -43,8 +42,8 @@ module _ (v m : List ℕ) (s : State) (g : Geometry) (page : ℕ) (sixteen : len
       let n = frameCount (length m) in
       let f = valid-facts v (k .volume) in
       let w = within-bounds (h .pages) page hp in
-      let l : lastNote s < mostNotes h =
-      leb-false (mostNotes h) (lastNote s) (or-neither (leb (mostNotes h) (lastNote s)) _ (or-neither (eqb (h .notes) 0) _ hn .1) .0) in
+      let l : s .notes < mostNotes h =
+      leb-false (mostNotes h) (s .notes) (or-neither (leb (mostNotes h) (s .notes)) _ (or-neither (eqb (h .notes) 0) _ hn .1) .0) in
       let low = holder-low h n s (k .state) sixteen page hh in
       record {
         page-high = omega (arith, w .1, f .p-high);

@@ -5,13 +5,12 @@ use mathlib.Core.List.{List, []}
 use Prim.Native.Nat.{ℕ}
 use lib.Dec.{ltb}
 use Rattle.state.proofs.Fits.{refusal-first, refusal-last}
-use Rattle.persist.specs.Rows.{noteTail, writeTail, backupTail}
 use Rattle.model.specs.Tables.{Row, firstOf, within}
 use Rattle.model.specs.Item.{imageLsn}
 use Rattle.model.specs.Index.{slotUsed}
 use Rattle.model.specs.Geometry.{geometryOf}
 use Rattle.model.specs.State.{frameBytes, frameOf, notePending, notesFull, holder}
-use Rattle.model.specs.Refusals.{stateRows, writeRows, backupRows}
+use Rattle.model.specs.Refusals.{stateRows, writeRows, backupRows, noteTail, writeTail, backupTail}
 use Rattle.model.specs.declared.geometry.Geometry.{Geometry}
 use Rattle.model.specs.declared.state.Frame.{Frame}
 use Rattle.model.specs.declared.state.State.{State}

@@ -1,11 +1,11 @@
 // Backup: stores a page's image in a backup slot and leaves a note of it pending.
 ghost use mathlib.Core.Path.{_≡_};
 ghost use mathlib.Core.Bool.{true};
-ghost use Rattle.persist.specs.Rows.{backupTail};
 ghost use Rattle.model.specs.Tables.{firstOf};
 ghost use Rattle.model.specs.Geometry.{geometryOf, validVolume};
-ghost use Rattle.model.specs.Refusals.{backupRows};
-ghost use Rattle.model.specs.Calls.{backupOf, replyOf, volumeAfter};
+ghost use Rattle.model.specs.Refusals.{backupRows, backupTail};
+ghost use Rattle.model.specs.Outcome.{replyOf, volumeAfter};
+ghost use Rattle.model.specs.Calls.{backupOf};
 use crate::image;
 use crate::noting;
 use model::answer::Answer;
@@ -26,7 +26,7 @@ fn own(s: State, volume: &[u8], g: Geometry, page: u32, slot: u32, f: u32, lsn: 
     let outside = !((1 <= page) & (page <= g.pages));
     let no_slot = !((1 <= slot) & (slot <= g.slots));
     let index = s.index;
-    let used = index::rows::used(index, slot);
+    let used = index::entries::used(index, slot);
     let rest = noting::refusal(s, volume, g, true, lsn, rows::first(used, 16, 0));
     rows::first(
         outside,
@@ -39,7 +39,7 @@ fn own(s: State, volume: &[u8], g: Geometry, page: u32, slot: u32, f: u32, lsn: 
 fn refusal(s: State, volume: &[u8], memory: &[u8], page: u32, slot: u32) -> u32
     ensures { λ r. ⌜ r ≡ firstOf (backupRows (now (volume .entry)) (now (memory .entry)) s page slot) ⌝ }
 {
-    let no = state::rows::refusal(s, volume, memory.len());
+    let no = state::refusal::refusal(s, volume, memory.len());
     if no != 0 {
         return no;
     }

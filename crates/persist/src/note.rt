@@ -1,6 +1,7 @@
 // Note: stores the pending note; only then does the index change.
 ghost use mathlib.Core.Path.{_≡_};
-ghost use Rattle.model.specs.Calls.{noteCall, replyOf, volumeAfter};
+ghost use Rattle.model.specs.Outcome.{replyOf, volumeAfter};
+ghost use Rattle.model.specs.Calls.{noteCall};
 use model::answer::Answer;
 use model::answer::Reply;
 use model::state::PendingNote;
@@ -17,7 +18,7 @@ pub fn note(s: State, volume: &mut [u8], memory: &[u8]) -> Reply
         ⌜ now (volume .exit)
         ≡ volumeAfter (now (volume .entry)) (noteCall (now (volume .entry)) (now (memory .entry)) s .stored) ⌝ }
 {
-    let no = state::rows::refusal(s, volume, memory.len());
+    let no = state::refusal::refusal(s, volume, memory.len());
     if no != 0 {
         return Reply {
             answer: Answer::Refused(no),

@@ -1,11 +1,11 @@
 // Write: stores a dirty page's image and leaves a note of it pending.
 ghost use mathlib.Core.Path.{_≡_};
 ghost use mathlib.Core.Bool.{true};
-ghost use Rattle.persist.specs.Rows.{writeTail};
 ghost use Rattle.model.specs.Tables.{firstOf};
 ghost use Rattle.model.specs.Geometry.{geometryOf, validVolume};
-ghost use Rattle.model.specs.Refusals.{writeRows};
-ghost use Rattle.model.specs.Calls.{writeOf, replyOf, volumeAfter};
+ghost use Rattle.model.specs.Refusals.{writeRows, writeTail};
+ghost use Rattle.model.specs.Outcome.{replyOf, volumeAfter};
+ghost use Rattle.model.specs.Calls.{writeOf};
 use crate::image;
 use crate::noting;
 use model::answer::Answer;
@@ -33,7 +33,7 @@ fn own(s: State, volume: &[u8], g: Geometry, page: u32, f: u32, lsn: u32) -> u32
 fn refusal(s: State, volume: &[u8], memory: &[u8], page: u32) -> u32
     ensures { λ r. ⌜ r ≡ firstOf (writeRows (now (volume .entry)) (now (memory .entry)) s page) ⌝ }
 {
-    let no = state::rows::refusal(s, volume, memory.len());
+    let no = state::refusal::refusal(s, volume, memory.len());
     if no != 0 {
         return no;
     }

@@ -13,6 +13,13 @@ pub fn number(n: u32) {
     io::print_decimal(STDOUT_FILENO, n as u64);
 }
 
+// Words, a number and words.
+pub fn phrase(before: &[u8], n: u32, after: &[u8]) {
+    say(before);
+    number(n);
+    say(after);
+}
+
 fn class(c: Class) {
     match c {
         Class::Good => say(b"GOOD"),
@@ -40,16 +47,15 @@ pub fn repair(r: Repair) {
     number(r.count);
 }
 
-// A refusal with its number.
-pub fn refused(n: u32) {
-    say(b"REFUSED ");
-    number(n);
+// A refusal with its number, the last of its line.
+pub fn refusal(n: u32) {
+    phrase(b"REFUSED ", n, b"\n");
 }
 
 // An answer, with the caller's words for the two that say no more.
 pub fn answer(a: Answer, nothing: &[u8], done: &[u8]) {
     match a {
-        Answer::Refused(n) => refused(n),
+        Answer::Refused(n) => phrase(b"REFUSED ", n, b""),
         Answer::Nothing => say(nothing),
         Answer::Done => say(done),
         Answer::Repaired(r) => repair(r),

@@ -54,12 +54,18 @@ pub fn stays() -> List {
     l
 }
 
-// Seven changes of a page, and then all pages from the first.
-fn reread(list: List, page: u8) -> List {
+// Seven changes of a page.
+fn changes(list: List, page: u8) -> List {
     let mut l = list;
     for _ in 0..7u32 {
         l = change(l, page);
     }
+    l
+}
+
+// Seven changes of a page, and then all pages from the first are read.
+fn reread(list: List, page: u8) -> List {
+    let mut l = changes(list, page);
     for p in 1..17u8 {
         if p <= page {
             l = read(l, p);

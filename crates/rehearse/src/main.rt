@@ -2,13 +2,12 @@
 // each costs. With nothing on standard input it plays the two lists that come with it and prints totals; otherwise the
 // input is the list, a byte an event: below 128 a read of that page, else a change of page − 128. Its figures are
 // printed in total and for each page; where it is refused, the refusal is the only line. All that matters is in
-// `rehearsal`, which is proved; this file makes the two lists and prints.
+// `planning_model`, which is proved; this file makes the two lists and prints.
 
 mod lists;
 mod table;
 
 use libc::STDIN_FILENO;
-use print::say;
 
 fn main() {
     let mut space = [0u8; 1025];
@@ -27,8 +26,7 @@ fn main() {
         return;
     }
     if 1024 < n {
-        print::refused(25);
-        say(b"\n");
+        print::refusal(25);
         return;
     }
     table::print(

@@ -2,10 +2,10 @@
 ghost use Prim.Native.Nat.{_≤_};
 use crate::lists::List;
 use model::answer::Answer;
-use model::rehearsal::Figures;
-use model::rehearsal::Rehearsed;
-use model::rehearsal::Totals;
-use model::rehearsal::Victim;
+use planning::rehearsal::Figures;
+use planning::rehearsal::Rehearsed;
+use planning::rehearsal::Totals;
+use planning::rehearsal::Victim;
 use print::number;
 use print::say;
 
@@ -80,9 +80,9 @@ fn extra(t: Totals) -> u64 {
 // The first n bytes, played.
 fn play(bytes: &[u8], n: usize, frames: u32, every: u32, victim: Victim) -> Rehearsed {
     if n <= bytes.len() {
-        rehearsal::rehearse(&bytes[0..n], frames, every, victim)
+        planning_model::rehearse(&bytes[0..n], frames, every, victim)
     } else {
-        rehearsal::rehearse(bytes, frames, every, victim)
+        planning_model::rehearse(bytes, frames, every, victim)
     }
 }
 
@@ -116,7 +116,7 @@ fn line(list: List, each: bool, frames: u32, every: u32, victim: Victim, words: 
     let bytes = list.bytes;
     let r = play(&bytes, n, frames, every, victim);
     let pages = r.pages;
-    let t = rehearsal::figures::total(pages);
+    let t = planning_model::figures::total(pages);
     column(frames as u64);
     say(words);
     column(every as u64);
@@ -144,11 +144,11 @@ fn habits(list: List, each: bool, frames: u32, victim: Victim, words: &[u8]) {
 
 fn both(list: List, each: bool, frames: u32) {
     habits(list, each, frames, Victim::Written, b"  written");
-    habits(list, each, frames, Victim::LetGo, b"  let go ");
+    habits(list, each, frames, Victim::Released, b"  let go ");
 }
 
 fn heading(list: List, each: bool, pages: [Figures; 64]) {
-    let t = rehearsal::figures::total(pages);
+    let t = planning_model::figures::total(pages);
     column(list.len as u64);
     say(b" events,");
     column(t.records);
@@ -168,13 +168,12 @@ fn heading(list: List, each: bool, pages: [Figures; 64]) {
 pub fn print(list: List, each: bool, title: &[u8]) {
     let n = list.len;
     let bytes = list.bytes;
-    let r = play(&bytes, n, 1, 1, Victim::LetGo);
+    let r = play(&bytes, n, 1, 1, Victim::Released);
     let answer = r.answer;
     let pages = r.pages;
     match answer {
         Answer::Refused(no) => {
-            print::refused(no);
-            say(b"\n");
+            print::refusal(no);
             return;
         }
         Answer::Nothing => {}

@@ -1,13 +1,14 @@
 -- The records of a walk's chain: what a record that the walk read is known to be, and the walk by its step at each number.
 use Prim.Native.Nat.{ℕ, zero, suc, _≤_, _<_}
 use mathlib.Core.Path.{_≡_, refl, sym, ap, _∙_}
+use mathlib.Core.Logic.{⊎-elim}
 use mathlib.Core.Bool.{Bool, true, false, cond, _||_}
 use mathlib.Core.List.{List, [], _∷_}
 use native.Mathlib.Omega.{arith}
 use lib.Dec.{eqb, ltb, leb}
 use lib.ListN.{length, getD}
 use borrow.Author.Tests.{eqb-true, eq-eqb, ne-eqb, ltb-true, lt-ltb, le-ltb, leb-true}
-use Rattle.laws.proofs.Tables.{all-at, byCases}
+use Rattle.laws.proofs.Tables.{all-at, byCases, or-cases, or-other, or-neither}
 use Rattle.model.specs.Checksum.{sealed}
 use Rattle.model.specs.Item.{recordOf, recordLayout, isFormat, firstIsFormat}
 use Rattle.model.specs.Repair.{Walk, stopAt, behind, chainRecord, walkFrom}
@@ -30,21 +31,9 @@ link p n r h =
     let tests = sealed 60 r ∷ eqb (e .lsn) n ∷ eqb (e .page) p ∷ recordLayout r ∷ ltb (e .prev) n ∷ firstIsFormat e ∷ [] in
     record { layout = all-at tests 3 h; falls = ltb-true _ _ (all-at tests 4 h); first = all-at tests 5 h }
 
-or-not : (a b : Bool) → (a || b) ≡ true → a ≡ false → b ≡ true
-or-not true b h e = cc
-or-not false b h e = h
-
-or-not-right : (a b : Bool) → (a || b) ≡ true → b ≡ false → a ≡ true
-or-not-right true b h e = refl
-or-not-right false b h e = cc
-
-or-right : (a b : Bool) → (a || b) ≡ false → b ≡ false
-or-right true b h = cc
-or-right false b h = h
-
 -- one that is no format names an earlier record
 pub link-back : (p n : ℕ) (r : List ℕ) → Link p n r → isFormat (recordOf r) ≡ false → 1 ≤ recordOf r .prev
-link-back p n r k e = leb-true _ _ (or-not (isFormat (recordOf r)) (leb 1 (recordOf r .prev)) (k .first) e)
+link-back p n r k e = leb-true _ _ (or-other (isFormat (recordOf r)) (leb 1 (recordOf r .prev)) (k .first) e)
 
 -- what a walk makes of a step at n, where k is the walk of what is left
 abbrev pub follow : Step → ℕ → (ℕ → Walk) → Walk
@@ -128,13 +117,13 @@ module _ (log : ℕ → List ℕ) (first p own backup : ℕ) where
           broken-by z = rw (ne-eqb n 0 some, ne-eqb own n not-own, ne-eqb backup n not-backup, le-ltb n first held, ← r-is, z)
 
           pub step-broken : b ≡ false → Halt Broken ≡ stepOf log first p own backup n
-          step-broken t = broken-by (or-right sure (chainRecord p n r) (sym b-is ∙ t))
+          step-broken t = broken-by (or-neither sure (chainRecord p n r) (sym b-is ∙ t) .1)
 
           -- a record that was not tested may be read
           readable : b ≡ true → chainRecord p n r ≡ true
           readable t =
-              byCases (chainRecord p n r) (λ z. z)
-              (λ z. absurd (some (sound (or-not-right sure (chainRecord p n r) (sym b-is ∙ t) z) (sym (broken-by z)))))
+              ⊎-elim (λ s. byCases (chainRecord p n r) (λ z. z) (λ z. absurd (some (sound s (sym (broken-by z)))))) (λ z. z)
+              (or-cases sure (chainRecord p n r) (sym b-is ∙ t))
 
           pub step-read : (e : LogRecord) → e ≡ recordOf r → b ≡ true → Read (e .prev) (eqb (e .kind) 1) ≡ stepOf log first p own backup n
           unfolding stepOf

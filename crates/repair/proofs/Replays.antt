@@ -14,15 +14,14 @@ use Rattle.laws.proofs.Parts.{splice-length, put-part, put-splice}
 use Rattle.model.specs.Bytes.{part, splice}
 use Rattle.model.specs.Geometry.{pageAt, slotAt, item}
 use Rattle.model.specs.Item.{imageLsn, imageBody, validImage, frameImage, recordLayout, applyRecord}
-use Rattle.model.specs.Repair.{classOf, classIn, isBroken, View, viewOf, walkFrom, walkOf, ownStart, backupStart, replayChain, startBody, rebuiltBody, rebuilt, startOf, repairOf}
+use Rattle.model.specs.Repair.{classOf, classIn, isBroken, View, viewOf, walkFrom, walkOf, ownStart, backupStart, replayChain, startBody, rebuiltBody, rebuilt, repairOf}
 use Rattle.model.specs.declared.answer.Stop.{Stop}
 use Rattle.model.specs.declared.answer.Stop.the-variants.{Own, Backup, Format, Broken, Below}
 use Rattle.model.specs.declared.answer.Class.{Class}
-use Rattle.model.specs.declared.answer.Start.{Start}
 use Rattle.model.specs.declared.answer.Repair.{Repair}
 use Rattle.model.specs.declared.state.Entry.{Entry}
 use Rattle.model.specs.declared.geometry.Geometry.{Geometry}
-use Rattle.repair.specs.Walked.{Whole, logOf, counted, walkedOf, chainFrom}
+use Rattle.repair.specs.Walked.{Whole, logOf, counted, walkedOf, repairAs, chainFrom}
 use Rattle.repair.specs.declared.walk.Traced.{Traced}
 use Rattle.repair.specs.declared.walk.Walked.{Walked}
 use Rattle.repair.proofs.Links.{link, Linked, linked-at, walk-none, walk-linked, walk-backup}
@@ -77,10 +76,6 @@ module _ (g : Geometry) (p : ℕ) (w : View) where
     pub count-is : c .count ≡ length (walkOf g p w .chain)
     unfolding walkedOf
     count-is = ap (λ (k : Walked). k .count) c-is
-
-    pub class-is : c .class ≡ classIn g p w
-    unfolding walkedOf
-    class-is = ap (λ (k : Walked). k .class) c-is
 
 -- ---- the loop
 
@@ -200,10 +195,9 @@ module _ (g : Geometry) (v : List ℕ) (f : ℕ) (e : Entry) (p : ℕ) (stop : S
     pub begun-below : stop ≡ Below → b ≡ startBody stop (viewOf g v f e p)
     begun-below s = rw s (b-is ∙ ap zeros len)
 
-pub answered : (g : Geometry) (p : ℕ) (w : View) (c : Walked) → c ≡ walkedOf g p w → (s : Start) → s ≡ startOf (c .stop)
-    → _≡_ {A = Repair} (record { class = c .class; start = s; count = c .count }) (repairOf g p w)
-unfolding repairOf
-answered g p w c c-is s s-is = rw (class-is g p w c c-is, s-is, stop-is g p w c c-is, count-is g p w c c-is)
+pub answered : (g : Geometry) (p : ℕ) (w : View) (c : Walked) → c ≡ walkedOf g p w → (r : Repair) → r ≡ repairAs c → r ≡ repairOf g p w
+unfolding repairOf walkedOf
+answered g p w c c-is r r-is = r-is ∙ ap repairAs c-is
 
 -- ---- the walk from what was read
 

@@ -8,7 +8,7 @@ use native.Mathlib.Omega.{arith}
 use lib.Dec.{eqb}
 use lib.ListN.{length}
 use borrow.Author.Tests.{eq-eqb, ne-eqb}
-use Rattle.laws.proofs.Tables.{byCases}
+use Rattle.laws.proofs.Tables.{byCases, cond-same}
 use Rattle.laws.proofs.Places.{total, In, valid-facts, place-fits, item-length}
 use Rattle.model.specs.Geometry.{geometryOf, validVolume, pageAt, slotAt, logSlot, start, item}
 use Rattle.model.specs.Bytes.{field}
@@ -98,11 +98,7 @@ own-is v g f e p x b n o x-is b-is n-is o-is = o-is ∙ rw (b-is, n-is, x-is)
 pub slot-none : (v : List ℕ) (g : Geometry) (f : ℕ) (e : Entry) (p : ℕ) → e .slot ≡ 0 → 0 ≡ backupStart g p (viewOf g v f e p)
 slot-none v g f e p z =
     let b : eqb (e .slot) 0 ≡ true = eq-eqb (e .slot) 0 z in
-    rw b (same (validImage g p (item g v (slotAt (e .slot))) && eqb (imageLsn (item g v (slotAt (e .slot)))) 0))
-  where
-    same : (t : Bool) → _≡_ {A = ℕ} 0 (cond t 0 0)
-    same true = refl
-    same false = refl
+    rw b (sym (cond-same (validImage g p (item g v (slotAt (e .slot))) && eqb (imageLsn (item g v (slotAt (e .slot)))) 0) 0))
 
 module _ (v : List ℕ) (g : Geometry) (f : ℕ) (e : Entry) (p : ℕ) (some : e .slot ≡ 0 → ⊥) (x : List ℕ)
     (x-is : x ≡ item g v (slotAt (e .slot)))

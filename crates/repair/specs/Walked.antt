@@ -8,10 +8,12 @@ use lib.Dec.{eqb, ltb}
 use lib.ListN.{length}
 use Rattle.model.specs.Geometry.{geometryOf, validVolume, logSlot, item}
 use Rattle.model.specs.Item.{recordOf, isFormat}
-use Rattle.model.specs.Repair.{View, Walk, classIn, chainRecord, walkOf, isBroken}
+use Rattle.model.specs.Repair.{View, viewOf, Walk, classIn, chainRecord, walkOf, startOf, isBroken}
 use Rattle.model.specs.declared.geometry.Geometry.{Geometry}
 use Rattle.model.specs.declared.state.Entry.{Entry}
 use Rattle.model.specs.declared.answer.Stop.the-variants.{Own, Backup, Broken, Below}
+use Rattle.model.specs.declared.answer.Repair.{Repair}
+use Rattle.repair.specs.declared.walk.Target.{Target}
 use Rattle.repair.specs.declared.walk.Traced.{Traced}
 use Rattle.repair.specs.declared.walk.Walked.{Walked}
 use Rattle.repair.specs.declared.walk.Step.{Step}
@@ -26,6 +28,12 @@ pub record Ready (v : List ℕ) (g : Geometry) (first : ℕ) (e : Entry) (page :
   pub high : page ≤ g .pages
   pub durable : e .durable < first + g .records
   pub slot : e .slot ≤ g .slots
+
+abbrev pub ReadyFor : List ℕ → Target → Type 0
+ReadyFor v t = Ready v (t .g) (t .first) (t .entry) (t .page)
+
+abbrev pub viewFor : List ℕ → Target → View
+viewFor v t = viewOf (t .g) v (t .first) (t .entry) (t .page)
 
 -- no record of the walk is broken, as after a clean scan; a page without records has no walk
 abbrev pub Whole : Geometry → ℕ → View → Type 0
@@ -42,6 +50,10 @@ counted w = record { stop = w .stop; count = length (w .chain) }
 -- and the class of the own image
 unfoldable pub walkedOf : Geometry → ℕ → View → Walked
 walkedOf g p w = record { stop = walkOf g p w .stop; count = length (walkOf g p w .chain); class = classIn g p w }
+
+-- the answer, from what the walk found
+abbrev pub repairAs : Walked → Repair
+repairAs w = record { class = w .class; start = startOf (w .stop); count = w .count }
 
 -- the walk for page p at number n: own image, else the backup, else the record, where the run holds it
 unfoldable pub stepOf : (ℕ → List ℕ) → ℕ → ℕ → ℕ → ℕ → ℕ → Step

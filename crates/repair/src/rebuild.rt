@@ -6,8 +6,9 @@ ghost use Prim.Native.Nat.{_≤_};
 ghost use lib.ListN.{length, take};
 ghost use Rattle.model.specs.Geometry.{geometryOf, validVolume};
 ghost use Rattle.model.specs.Item.{imageBody, recordOf};
-ghost use Rattle.model.specs.Repair.{viewOf, walkOf, startBody, replayChain, rebuilt};
-ghost use Rattle.repair.specs.Walked.{Ready, logOf, walkedOf, chainFrom};
+ghost use Rattle.model.specs.Repair.{walkOf, startBody, replayChain, rebuilt};
+ghost use Rattle.repair.specs.Walked.{ReadyFor, viewFor, logOf, walkedOf, chainFrom};
+use crate::walk::Target;
 use crate::walk::Walked;
 use codec::field;
 use codec::part;
@@ -15,7 +16,6 @@ use item::image;
 use item::record;
 use model::answer::Stop;
 use model::geometry::Geometry;
-use model::state::Entry;
 use volume::place;
 
 // Copies an image's body.
@@ -27,13 +27,15 @@ fn copy_body(x: &[u8], body: &mut [u8])
 }
 
 // Sets the body on which a replay starts; a format replaces all of it.
-fn begin(volume: &[u8], g: Geometry, first: u64, e: Entry, page: u32, stop: Stop, body: &mut [u8])
-    requires { ⌜ Ready (now volume) g first e page ⌝ }
-    requires { ⌜ (stop ≡ walkOf g page (viewOf g (now volume) first e page) .stop) × (length (now body) ≡ 244) ⌝ }
-    ensures { λ _. ⌜ now (body .exit) ≡ startBody stop (viewOf g (now (volume .entry)) first e page) ⌝ }
+fn begin(volume: &[u8], t: Target, stop: Stop, body: &mut [u8])
+    requires { ⌜ ReadyFor (now volume) t ⌝ }
+    requires { ⌜ (stop ≡ walkOf (t .g) (t .page) (viewFor (now volume) t) .stop) × (length (now body) ≡ 244) ⌝ }
+    ensures { λ _. ⌜ now (body .exit) ≡ startBody stop (viewFor (now (volume .entry)) t) ⌝ }
 {
+    let g = t.g;
+    let e = t.entry;
     match stop {
-        Stop::Own => copy_body(place::page(volume, g, page), body),
+        Stop::Own => copy_body(place::page(volume, g, t.page), body),
         Stop::Backup => copy_body(place::slot(volume, g, e.slot as u32), body),
         Stop::Format => part::fill(body, 0),
         Stop::Broken => part::fill(body, 0),
@@ -66,22 +68,14 @@ fn collect(volume: &[u8], g: Geometry, top: u32, count: u32, lsns: &mut [u32])
 }
 
 // Makes the changes of the first `count` records, oldest first.
-fn apply(
-    volume: &[u8],
-    g: Geometry,
-    first: u64,
-    e: Entry,
-    page: u32,
-    lsns: &[u32],
-    count: u32,
-    body: &mut [u8],
-)
-    requires { ⌜ Ready (now volume) g first e page ⌝ }
-    requires { ⌜ take count (now lsns) ≡ walkOf g page (viewOf g (now volume) first e page) .chain ⌝ }
+fn apply(volume: &[u8], t: Target, lsns: &[u32], count: u32, body: &mut [u8])
+    requires { ⌜ ReadyFor (now volume) t ⌝ }
+    requires { ⌜ take count (now lsns) ≡ walkOf (t .g) (t .page) (viewFor (now volume) t) .chain ⌝ }
     requires { ⌜ (count ≤ length (now lsns)) × (length (now body) ≡ 244) ⌝ }
     ensures { λ _. ⌜ now (body .exit)
-        ≡ replayChain (logOf g (now (volume .entry))) (take count (now (lsns .entry))) (now (body .entry)) ⌝ }
+        ≡ replayChain (logOf (t .g) (now (volume .entry))) (take count (now (lsns .entry))) (now (body .entry)) ⌝ }
 {
+    let g = t.g;
     let mut i = count as usize;
     while 0 < i {
         i -= 1;
@@ -91,64 +85,50 @@ fn apply(
 }
 
 // Replays a chain of `count` records on a body, with room for their numbers.
-fn replay_in(
-    volume: &[u8],
-    g: Geometry,
-    first: u64,
-    e: Entry,
-    page: u32,
-    count: u32,
-    lsns: &mut [u32],
-    body: &mut [u8],
-)
-    requires { ⌜ Ready (now volume) g first e page ⌝ }
-    requires { ⌜ count ≡ length (walkOf g page (viewOf g (now volume) first e page) .chain) ⌝ }
+fn replay_in(volume: &[u8], t: Target, count: u32, lsns: &mut [u32], body: &mut [u8])
+    requires { ⌜ ReadyFor (now volume) t ⌝ }
+    requires { ⌜ count ≡ length (walkOf (t .g) (t .page) (viewFor (now volume) t) .chain) ⌝ }
     requires { ⌜ (count ≤ length (now lsns)) × (length (now body) ≡ 244) ⌝ }
     ensures { λ _. ⌜ now (body .exit)
-        ≡ replayChain (logOf g (now (volume .entry)))
-        (walkOf g page (viewOf g (now (volume .entry)) first e page) .chain) (now (body .entry)) ⌝ }
+        ≡ replayChain (logOf (t .g) (now (volume .entry)))
+        (walkOf (t .g) (t .page) (viewFor (now (volume .entry)) t) .chain) (now (body .entry)) ⌝ }
 {
+    let g = t.g;
+    let e = t.entry;
     collect(volume, g, e.durable, count, lsns);
-    apply(volume, g, first, e, page, lsns, count, body);
+    apply(volume, t, lsns, count, body);
 }
 
 // Replays a chain. It has no more records than a log has slots, and mostly few: then less is cleared for their numbers.
-fn replay(volume: &[u8], g: Geometry, first: u64, e: Entry, page: u32, count: u32, body: &mut [u8])
-    requires { ⌜ Ready (now volume) g first e page ⌝ }
-    requires { ⌜ count ≡ length (walkOf g page (viewOf g (now volume) first e page) .chain) ⌝ }
+fn replay(volume: &[u8], t: Target, count: u32, body: &mut [u8])
+    requires { ⌜ ReadyFor (now volume) t ⌝ }
+    requires { ⌜ count ≡ length (walkOf (t .g) (t .page) (viewFor (now volume) t) .chain) ⌝ }
     requires { ⌜ length (now body) ≡ 244 ⌝ }
     ensures { λ _. ⌜ now (body .exit)
-        ≡ replayChain (logOf g (now (volume .entry)))
-        (walkOf g page (viewOf g (now (volume .entry)) first e page) .chain) (now (body .entry)) ⌝ }
+        ≡ replayChain (logOf (t .g) (now (volume .entry)))
+        (walkOf (t .g) (t .page) (viewFor (now (volume .entry)) t) .chain) (now (body .entry)) ⌝ }
 {
     if count <= 32 {
         let mut few = [0u32; 32];
-        replay_in(volume, g, first, e, page, count, &mut few, body);
+        replay_in(volume, t, count, &mut few, body);
     } else {
         let mut lsns = [0u32; 1024];
-        replay_in(volume, g, first, e, page, count, &mut lsns, body);
+        replay_in(volume, t, count, &mut lsns, body);
     }
 }
 
 // The page's image as a frame holds it, from the start that the walk found and the records behind it.
 // Ruled out: the disk's image handed over as it is, and a replay that leaves a record out (both tried).
-pub fn rebuild(
-    volume: &[u8],
-    g: Geometry,
-    first: u64,
-    e: Entry,
-    page: u32,
-    w: Walked,
-    dst: &mut [u8],
-)
-    requires { ⌜ Ready (now volume) g first e page ⌝ }
-    requires { ⌜ (w ≡ walkedOf g page (viewOf g (now volume) first e page)) × (length (now dst) ≡ 256) ⌝ }
-    ensures { λ _. ⌜ now (dst .exit) ≡ rebuilt g page (viewOf g (now (volume .entry)) first e page) ⌝ }
+pub fn rebuild(volume: &[u8], t: Target, w: Walked, dst: &mut [u8])
+    requires { ⌜ ReadyFor (now volume) t ⌝ }
+    requires { ⌜ (w ≡ walkedOf (t .g) (t .page) (viewFor (now volume) t)) × (length (now dst) ≡ 256) ⌝ }
+    ensures { λ _. ⌜ now (dst .exit) ≡ rebuilt (t .g) (t .page) (viewFor (now (volume .entry)) t) ⌝ }
 {
+    let e = t.entry;
     let stop = w.stop;
     let count = w.count;
     let body = &mut dst[8..252];
-    begin(volume, g, first, e, page, stop, body);
-    replay(volume, g, first, e, page, count, body);
-    image::build(dst, page, e.durable);
+    begin(volume, t, stop, body);
+    replay(volume, t, count, body);
+    image::build(dst, t.page, e.durable);
 }

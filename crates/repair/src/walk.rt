@@ -20,6 +20,24 @@ use model::state::Entry;
 use sums::checksum;
 use volume::place;
 
+// A page that is repaired: its volume's geometry and run start, its entry of the index, and its number.
+pub struct Target {
+    pub g: Geometry,
+    pub first: u64,
+    pub entry: Entry,
+    pub page: u32,
+}
+
+// What a walk goes by: the run start, the page, the numbers at which it may stop at the own image and at the backup (0
+// is none), and whether it is sure that the walk is not broken, so that no record is tested.
+pub struct Course {
+    pub first: u64,
+    pub page: u32,
+    pub own: u32,
+    pub backup: u32,
+    pub sure: bool,
+}
+
 // What the walk finds at a number: it halts there, or it reads the record, which names the one before it.
 pub enum Step {
     Halt(Stop),
@@ -103,34 +121,25 @@ fn passes(sure: bool, page: u32, n: u32, r: &[u8]) -> bool
 }
 
 // The walk's step at number n: own image, else the backup, else the record, where the run holds it.
-fn look(
-    volume: &[u8],
-    g: Geometry,
-    first: u64,
-    page: u32,
-    own: u32,
-    backup: u32,
-    sure: bool,
-    n: u32,
-) -> Step
+fn look(volume: &[u8], g: Geometry, c: Course, n: u32) -> Step
     requires { ⌜ (validVolume (now volume) ≡ true) × (g ≡ geometryOf (now volume)) ⌝ }
-    requires { ⌜ (sure ≡ true → Sound (logOf g (now volume)) first page own backup n) ⌝ }
-    ensures { λ r. ⌜ r ≡ stepOf (logOf g (now (volume .entry))) first page own backup n ⌝ }
+    requires { ⌜ (c .sure ≡ true → Sound (logOf g (now volume)) (c .first) (c .page) (c .own) (c .backup) n) ⌝ }
+    ensures { λ r. ⌜ r ≡ stepOf (logOf g (now (volume .entry))) (c .first) (c .page) (c .own) (c .backup) n ⌝ }
 {
     if n == 0 {
         return Step::Halt(Stop::Broken);
     }
-    if own == n {
+    if c.own == n {
         return Step::Halt(Stop::Own);
     }
-    if backup == n {
+    if c.backup == n {
         return Step::Halt(Stop::Backup);
     }
-    if (n as u64) < first {
+    if (n as u64) < c.first {
         return Step::Halt(Stop::Below);
     }
     let r = place::record(volume, g, n);
-    if !passes(sure, page, n, r) {
+    if !passes(c.sure, c.page, n, r) {
         return Step::Halt(Stop::Broken);
     }
     let e = record::read(r);
@@ -140,28 +149,20 @@ fn look(
     }
 }
 
-// The chain walk from a number down, that may stop at the own image and at the backup with these numbers; 0 is none.
-// Where it is sure that the walk is not broken, no record is tested.
+// The chain walk from a number down.
 // Ruled out: a start taken at a number that is not its own (tried); a format left out of the count (tried).
-pub fn trace(
-    volume: &[u8],
-    g: Geometry,
-    first: u64,
-    page: u32,
-    own: u32,
-    backup: u32,
-    sure: bool,
-    from: u32,
-) -> Traced
+pub fn trace(volume: &[u8], g: Geometry, c: Course, from: u32) -> Traced
     requires { ⌜ (validVolume (now volume) ≡ true) × (g ≡ geometryOf (now volume)) ⌝ }
-    requires { ⌜ (sure ≡ true → 1 ≤ from
-        → isBroken (walkFrom from (logOf g (now volume)) first page own backup from .stop) ≡ false) ⌝ }
-    ensures { λ r. ⌜ r ≡ counted (walkFrom from (logOf g (now (volume .entry))) first page own backup from) ⌝ }
+    requires { ⌜ (c .sure ≡ true → 1 ≤ from
+        → isBroken (walkFrom from (logOf g (now volume)) (c .first) (c .page) (c .own) (c .backup) from .stop)
+        ≡ false) ⌝ }
+    ensures { λ r. ⌜ r
+        ≡ counted (walkFrom from (logOf g (now (volume .entry))) (c .first) (c .page) (c .own) (c .backup) from) ⌝ }
 {
     let mut n = from;
     let mut count: u32 = 0;
     let stop = loop {
-        match look(volume, g, first, page, own, backup, sure, n) {
+        match look(volume, g, c, n) {
             Step::Halt(s) => break s,
             Step::Read { prev, format } => {
                 count += 1;
@@ -186,7 +187,14 @@ fn descend(volume: &[u8], g: Geometry, first: u64, e: Entry, page: u32, sure: bo
     let n = image::lsn(x);
     let own = own_number(valid, n);
     let backup = backup_number(volume, g, first, e, page);
-    let t = trace(volume, g, first, page, own, backup, sure, e.durable);
+    let c = Course {
+        first,
+        page,
+        own,
+        backup,
+        sure,
+    };
+    let t = trace(volume, g, c, e.durable);
     let class = class::class(valid, n, e.durable, e.written);
     let stop = t.stop;
     Walked {

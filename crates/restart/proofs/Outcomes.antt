@@ -13,7 +13,8 @@ use Rattle.model.specs.Geometry.{geometryOf, validVolume}
 use Rattle.model.specs.Scan.{validLog, validNotes}
 use Rattle.model.specs.State.{validMemory, zeroState}
 use Rattle.model.specs.Refusals.{restartRows}
-use Rattle.model.specs.Calls.{replyOf, restartState, restartOf}
+use Rattle.model.specs.Outcome.{replyOf, decided}
+use Rattle.model.specs.Restart.{restartState, restartOf}
 use Rattle.model.specs.declared.state.State.{State}
 use Rattle.model.specs.declared.answer.Answer.the-variants.{Refused, Done}
 use Rattle.model.specs.declared.answer.Reply.{Reply}
@@ -44,7 +45,7 @@ module _ (v m : List ℕ) where
 
   pub refused : (n : ℕ) (t : State) → n ≡ firstOf (restartRows v m) → (n ≡ 0 → ⊥) → t ≡ zeroState
       → (_≡_ {A = Reply} (record { answer = Refused n; state = t }) (replyOf (restartOf v m))) × (m ≡ restartOf v m .memory)
-  unfolding restartOf
+  unfolding restartOf decided
   refused n t e ne et =
       rw (ne-eqb (firstOf (restartRows v m)) 0 (λ z. ne (e ∙ z))) (
         ap (λ (k : ℕ). record { answer = Refused k; state = t }) e
@@ -66,7 +67,7 @@ module _ (v m : List ℕ) where
       → t ≡ resumedState scanned
       → w ≡ replicate (length m) 0
       → (_≡_ {A = Reply} (record { answer = Done; state = t }) (replyOf (restartOf v m))) × (w ≡ restartOf v m .memory)
-  unfolding restartOf restartState
+  unfolding restartOf decided restartState
   done scanned t w er es h et ew =
       rw (eq-eqb (firstOf (restartRows v m)) 0 h)
       (ap (λ (x : State). record { answer = Done; state = x }) (et ∙ ap resumedState (es (er ∙ scan-clean h))), ew)

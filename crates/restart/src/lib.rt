@@ -2,7 +2,8 @@
 ghost use mathlib.Core.Path.{_≡_};
 ghost use mathlib.Core.Bool.{cond, not};
 ghost use lib.Dec.{eqb};
-ghost use Rattle.model.specs.Calls.{replyOf, restartOf};
+ghost use Rattle.model.specs.Outcome.{replyOf};
+ghost use Rattle.model.specs.Restart.{restartOf};
 use codec::part;
 use model::answer::Answer;
 use model::answer::Reply;

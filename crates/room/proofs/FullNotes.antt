@@ -10,10 +10,10 @@ use borrow.Author.Tests.{ltb-true, ltb-false, le-leb, lt-leb, leb-false, eqb-fal
 use Rattle.laws.proofs.Tables.{or-neither, byCases}
 use Rattle.model.specs.Tables.{every}
 use Rattle.model.specs.Checksum.{sealed}
-use Rattle.model.specs.Geometry.{noteRing, mostNotes, topNumber, item, noteSlot}
+use Rattle.model.specs.Geometry.{ring, mostNotes, topNumber, item, noteSlot}
 use Rattle.model.specs.Item.{noteOf}
 use Rattle.model.specs.Scan.{noteRecord}
-use Rattle.model.specs.State.{lastNote, noteWhole, noteLike, noteNeeded, notesFull}
+use Rattle.model.specs.State.{noteWhole, noteLike, noteNeeded, notesFull}
 use Rattle.model.specs.declared.geometry.Geometry.{Geometry}
 use Rattle.model.specs.declared.item.Note.{Note}
 use Rattle.model.specs.declared.state.State.{State}
@@ -62,36 +62,36 @@ past-turn round n l top given turned high =
 
 module _ (g : Geometry) (v : List ℕ) (s : State) (top : ℕ) (et : top ≡ mostNotes g) where
   -- no slot, or the last number is given
-  pub full-given : (eqb (g .notes) 0 || leb top (lastNote s)) ≡ true → true ≡ notesFull g v s
+  pub full-given : (eqb (g .notes) 0 || leb top (s .notes)) ≡ true → true ≡ notesFull g v s
   unfolding notesFull
   full-given h =
       byCases (eqb (g .notes) 0) (λ t. rw t)
-      (λ t. let u : leb (mostNotes g) (lastNote s) ≡ true = rw (t, et) at h in rw (t, u))
+      (λ t. let u : leb (mostNotes g) (s .notes) ≡ true = rw (t, et) at h in rw (t, u))
 
-  module _ (round : Bool) (er : round ≡ noteRing g) (h : (eqb (g .notes) 0 || leb top (lastNote s)) ≡ false) where
+  module _ (round : Bool) (er : round ≡ ring g) (h : (eqb (g .notes) 0 || leb top (s .notes)) ≡ false) where
     some : eqb (g .notes) 0 ≡ false
-    some = or-neither (eqb (g .notes) 0) (leb top (lastNote s)) h .0
+    some = or-neither (eqb (g .notes) 0) (leb top (s .notes)) h .0
 
-    given : leb (mostNotes g) (lastNote s) ≡ false
-    given = sym (ap (λ (k : ℕ). leb k (lastNote s)) et) ∙ or-neither (eqb (g .notes) 0) (leb top (lastNote s)) h .1
+    given : leb (mostNotes g) (s .notes) ≡ false
+    given = sym (ap (λ (k : ℕ). leb k (s .notes)) et) ∙ or-neither (eqb (g .notes) 0) (leb top (s .notes)) h .1
 
     -- no ring, or a slot that no note has had
-    pub full-new : (not round || ltb (lastNote s) (g .notes)) ≡ true → false ≡ notesFull g v s
+    pub full-new : (not round || ltb (s .notes) (g .notes)) ≡ true → false ≡ notesFull g v s
     unfolding notesFull
     full-new q =
-        byCases (noteRing g)
-        (λ t. let z : ltb (lastNote s) (g .notes) ≡ true = rw (er, t) at q in
-        let f : leb (g .notes) (lastNote s) ≡ false = lt-leb (g .notes) (lastNote s) (ltb-true (lastNote s) (g .notes) z) in
+        byCases (ring g)
+        (λ t. let z : ltb (s .notes) (g .notes) ≡ true = rw (er, t) at q in
+        let f : leb (g .notes) (s .notes) ≡ false = lt-leb (g .notes) (s .notes) (ltb-true (s .notes) (g .notes) z) in
         rw (some, given, t, f))
         (λ t. rw (some, given, t))
 
     -- the next note displaces one
-    pub full-turned : (k : Bool) → (not round || ltb (lastNote s) (g .notes)) ≡ false
-        → k ≡ noteNeeded g v (lastNote s) (lastNote s + 1 - g .notes)
+    pub full-turned : (k : Bool) → (not round || ltb (s .notes) (g .notes)) ≡ false
+        → k ≡ noteNeeded g v (s .notes) (s .notes + 1 - g .notes)
         → k ≡ notesFull g v s
     unfolding notesFull
     full-turned k q ek =
-        let n = or-neither (not round) (ltb (lastNote s) (g .notes)) q in
-        let t : noteRing g ≡ true = sym er ∙ not-false round (n .0) in
-        let f : leb (g .notes) (lastNote s) ≡ true = le-leb (g .notes) (lastNote s) (ltb-false (lastNote s) (g .notes) (n .1)) in
+        let n = or-neither (not round) (ltb (s .notes) (g .notes)) q in
+        let t : ring g ≡ true = sym er ∙ not-false round (n .0) in
+        let f : leb (g .notes) (s .notes) ≡ true = le-leb (g .notes) (s .notes) (ltb-false (s .notes) (g .notes) (n .1)) in
         ek ∙ rw (some, given, t, f, add-one)

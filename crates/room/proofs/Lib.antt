@@ -1,4 +1,3 @@
 -- Laws that belong to no one function.
 pub mod FullLog
 pub mod FullNotes
-pub mod Remaining

@@ -7,11 +7,6 @@ use model::answer::Answer;
 use print::number;
 use print::say;
 
-fn print_refused(n: u32) {
-    print::refused(n);
-    say(b"\n");
-}
-
 // How Inspect finds a page.
 fn found(volume: &[u8], page: u32) -> Answer {
     let mut buffer = [0u8; 256];
@@ -68,15 +63,19 @@ fn main() {
     let mut space = [0u8; 32769];
     let n = io::read_full(STDIN_FILENO, &mut space);
     if 32768 < n {
-        print_refused(1);
+        print::refusal(1);
         return;
     }
     let volume = &space[..n];
+    if !volume::heading::valid(volume) {
+        print::refusal(1);
+        return;
+    }
     let pages = volume::heading::geometry(volume).pages;
     let no = refusal(volume, pages);
     if no == 0 {
         print_pages(volume, pages);
     } else {
-        print_refused(no);
+        print::refusal(no);
     }
 }

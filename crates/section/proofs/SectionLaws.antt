@@ -9,16 +9,17 @@ use native.Mathlib.Omega.{arith}
 use lib.Dec.{leb, eqb}
 use lib.ListN.{length, take, drop, drop-of-length-le}
 use borrow.Author.Tests.{le-leb, lt-leb}
-use Rattle.laws.proofs.Checksums.{run-none, run-stops, run-goes}
-use Rattle.laws.proofs.Tables.{byCases}
+use Rattle.laws.proofs.Checksums.{run-none, run-stops, run-goes, run-most}
 use Rattle.laws.proofs.Parts.{part-lent}
 use Rattle.model.specs.Bytes.{le, field, part, allZero}
 use Rattle.model.specs.Checksum.{sealed, sealedRun, sumHolds, checksumFrom}
-use Rattle.model.specs.Scan.{larger, highest, restZero}
+use Rattle.model.specs.Tables.{larger}
+use Rattle.model.specs.Geometry.{slotOf}
+use Rattle.model.specs.Scan.{highest, restZero, countIn, firstIn, endsIn}
 use Rattle.section.specs.declared.Section.{Section}
 use Rattle.section.specs.declared.Run.{Run}
 use Rattle.section.specs.declared.Front.{Front}
-use Rattle.section.specs.Section.{frontAt, frontIn, runIn, Placed, slotBytes, highestAt, countIn, firstIn, endsIn}
+use Rattle.section.specs.Section.{frontAt, frontIn, runIn, Placed, slotBytes, slotsIn, highestAt}
 
 -- ---- places
 
@@ -122,12 +123,6 @@ module _ (c : ℕ) (v : List ℕ) (at most : ℕ) where
 
 -- ---- the whole front
 
-run-most : (c : ℕ) (v : List ℕ) (most at : ℕ) → sealedRun c most v at ≤ most
-run-most c v zero at = omega (arith, run-none c v at)
-run-most c v (suc most) at =
-    let h : sealedRun c most v (at + (c + 4)) ≤ most = run-most c v most (at + (c + 4)) in
-    byCases (sealed c (part v at (c + 4))) (λ t. omega (arith, run-goes c v most at t)) (λ t. omega (arith, run-stops c v (suc most) at t))
-
 module _ (c : ℕ) (v : List ℕ) (at most : ℕ) where
   pub front-is : (k top : ℕ) → top ≡ highestAt c v at k
       → k ≡ sealedRun c most v at → _≡_ {A = Front} (record { slots = k; top = top }) (frontAt c v at most)
@@ -184,44 +179,49 @@ none-whole v at c i h =
 -- ---- counts and starts
 
 module _ (v : List ℕ) (s : Section) where
-  pub count-ring : (n : ℕ) → n ≡ highestAt (s .size) v (s .at) (s .slots) → s .ring ≡ true → n ≡ countIn v s
+  pub count-ring : (n : ℕ) → n ≡ highestAt (s .size) v (s .at) (s .slots) → s .ring ≡ true → n ≡ countIn v (slotsIn v s)
   unfolding countIn
   count-ring n e t = rw t e
 
-  pub count-run : (n : ℕ) → n ≡ sealedRun (s .size) (s .slots) v (s .at) → s .ring ≡ false → n ≡ countIn v s
+  pub count-run : (n : ℕ) → n ≡ sealedRun (s .size) (s .slots) v (s .at) → s .ring ≡ false → n ≡ countIn v (slotsIn v s)
   unfolding countIn
   count-run n e t = rw t e
 
-  pub held-is : (f n w : ℕ) → f ≡ firstIn v s n → n ≡ countIn v s → w ≡ frontIn v s
+  pub held-is : (f n w : ℕ) → f ≡ firstIn (slotsIn v s) n → n ≡ countIn v (slotsIn v s) → w ≡ frontIn v s
       → _≡_ {A = Run} (record { first = f; count = n; front = w }) (runIn v s)
-  held-is f n w ef en ew = λ i. record { first = (ef ∙ ap (firstIn v s) en) i; count = en i; front = ew i }
+  held-is f n w ef en ew = λ i. record { first = (ef ∙ ap (firstIn (slotsIn v s)) en) i; count = en i; front = ew i }
 
   pub front-low : (f : Front) → f ≡ frontAt (s .size) v (s .at) (s .slots) → f .slots ≤ frontIn v s
   front-low f e = omega (arith, front-slots (s .size) v (s .at) (s .slots) f e)
 
-  pub first-one : (n : ℕ) → s .ring ≡ false → 1 ≡ firstIn v s n
+  pub first-one : (n : ℕ) → s .ring ≡ false → 1 ≡ firstIn (slotsIn v s) n
   unfolding firstIn
   first-one n t = rw t
 
   module _ (n below : ℕ) (b : Bool) (e : below ≡ n - s .slots) (q : b ≡ sealed (s .size) (slotBytes v s (below % s .slots)))
       (t : s .ring ≡ true) where
-    pub first-whole : b ≡ true → below + 1 ≡ firstIn v s n
-    unfolding firstIn
-    first-whole h = rw (t, ← e, ← q, h) (add-one below)
+    -- the slot of the number after those below
+    seat : slotOf (s .slots) (suc below) - 1 ≡ below % s .slots
+    seat = let z : suc below - 1 ≡ below = omega arith in rw z (omega arith)
 
-    pub first-torn : b ≡ false → below + 2 ≡ firstIn v s n
+    pub first-whole : b ≡ true → below + 1 ≡ firstIn (slotsIn v s) n
     unfolding firstIn
-    first-torn h = rw (t, ← e, ← q, h) (add-two below)
+    first-whole h = rw (t, ← e, seat, ← q, h) (add-one below)
+
+    pub first-torn : b ≡ false → below + 2 ≡ firstIn (slotsIn v s) n
+    unfolding firstIn
+    first-torn h = rw (t, ← e, seat, ← q, h) (add-two below)
 
   -- ---- what follows a run
 
-  pub ends-past : (f n : ℕ) → s .slots ≤ n → true ≡ endsIn v s f n
+  pub ends-past : (f n : ℕ) → s .slots ≤ n → true ≡ endsIn v (slotsIn v s) f n
   unfolding endsIn
   ends-past f n h = rw (le-leb (s .slots) n h, rest-none (s .size + 4) (s .slots) n v (s .at) h)
 
   pub ends-here : (f n : ℕ) (w r : Bool) → n < s .slots → w ≡ sealed (s .size) (slotBytes v s (n % s .slots))
-      → r ≡ restZero (s .size + 4) (s .slots) v (s .at) n → ((not w && (eqb n 0 || eqb f 1)) && r) ≡ endsIn v s f n
+      → r ≡ restZero (s .size + 4) (s .slots) v (s .at) n → ((not w && (eqb n 0 || eqb f 1)) && r) ≡ endsIn v (slotsIn v s) f n
   unfolding endsIn
   ends-here f n w r h ew er =
       let q : w ≡ sealed (s .size) (slotBytes v s n) = ew ∙ ap (λ (k : ℕ). sealed (s .size) (slotBytes v s k)) (mod-eq-of-lt h) in
-      rw (lt-leb (s .slots) n h, q, er)
+      let z : suc n - 1 ≡ n = omega arith in
+      rw (lt-leb (s .slots) n h, z, q, er)

@@ -1,14 +1,12 @@
--- A section of a volume, its log or its notes: where it lies, its slots, the numbers that they hold, and what follows
--- these. In what a section holds these are the model's definitions by places (document 01, "Reading the disk", and
--- document 02, §7).
-use Prim.Native.Nat.{ℕ, suc, _+_, _-_, _*_, _%_, _≤_}
+-- A section of a volume, its log or its notes: where it lies, its slots, and the numbers that they hold, by the model's
+-- definitions (document 01, "Reading the disk", and document 02, §7).
+use Prim.Native.Nat.{ℕ, _+_, _-_, _*_, _≤_}
 use mathlib.Core.Path.{_≡_}
-use mathlib.Core.Bool.{Bool, cond, _&&_}
 use mathlib.Core.List.{List}
 use lib.ListN.{length}
 use Rattle.model.specs.Bytes.{part}
-use Rattle.model.specs.Checksum.{sealed, sealedRun}
-use Rattle.model.specs.Scan.{highest, restZero, endsAt}
+use Rattle.model.specs.Checksum.{sealedRun}
+use Rattle.model.specs.Scan as scan
 use Rattle.section.specs.declared.Section.{Section}
 use Rattle.section.specs.declared.Run.{Run}
 use Rattle.section.specs.declared.Front.{Front}
@@ -26,28 +24,21 @@ slotBytes v s i = part v (s .at + (s .size + 4) * i) (s .size + 4)
 
 -- the model's `highest`, by places
 abbrev pub highestAt : ℕ → List ℕ → ℕ → ℕ → ℕ
-highestAt c v at count = highest c (λ i. part v (at + (c + 4) * (i - 1)) (c + 4)) count
+highestAt c v at count = scan.highest c (λ i. part v (at + (c + 4) * (i - 1)) (c + 4)) count
 
 -- how many of `count` slots are whole before the first that is not, and the highest number in these
 abbrev pub frontAt : ℕ → List ℕ → ℕ → ℕ → Front
 frontAt c v at count = record { slots = sealedRun c count v at; top = highestAt c v at (sealedRun c count v at) }
 
--- how many numbers were given, how many slots at the front are whole, the run start for n numbers, and what follows the
--- run
-unfoldable pub countIn : List ℕ → Section → ℕ
-countIn v s = cond (s .ring) (highestAt (s .size) v (s .at) (s .slots)) (sealedRun (s .size) (s .slots) v (s .at))
-
 abbrev pub frontIn : List ℕ → Section → ℕ
 frontIn v s = sealedRun (s .size) (s .slots) v (s .at)
 
-unfoldable pub firstIn : List ℕ → Section → ℕ → ℕ
-firstIn v s n =
-    let below = n - s .slots in
-    cond (s .ring) (cond (sealed (s .size) (slotBytes v s (below % s .slots))) (suc below) (suc (suc below))) 1
+-- the section as the scan's definitions take it, and the numbers that it holds
+abbrev pub slotsIn : List ℕ → Section → scan.Section
+slotsIn v s =
+    record { ring = s .ring; size = s .size; slots = s .slots; at = s .at; slot = λ i. slotBytes v s (i - 1) }
 
 abbrev pub runIn : List ℕ → Section → Run
-runIn v s = record { first = firstIn v s (countIn v s); count = countIn v s; front = frontIn v s }
-
-unfoldable pub endsIn : List ℕ → Section → ℕ → ℕ → Bool
-endsIn v s f n =
-    endsAt (s .slots) n f (sealed (s .size) (slotBytes v s n)) && restZero (s .size + 4) (s .slots) v (s .at) n
+runIn v s =
+    let n = scan.countIn v (slotsIn v s) in
+    record { first = scan.firstIn (slotsIn v s) n; count = n; front = frontIn v s }

@@ -6,7 +6,8 @@ ghost use lib.ListN.{length};
 ghost use Rattle.model.specs.Bytes as bytes;
 ghost use Rattle.model.specs.Checksum.{sealed};
 ghost use Rattle.model.specs.Scan as scans;
-ghost use Rattle.section.specs.Section.{Placed, slotBytes, highestAt, frontAt, frontIn, countIn, firstIn, runIn, endsIn};
+ghost use Rattle.model.specs.Tables as tables;
+ghost use Rattle.section.specs.Section.{Placed, slotBytes, highestAt, frontAt, frontIn, slotsIn, runIn};
 use codec::field;
 use codec::part;
 use sums::checksum;
@@ -95,7 +96,7 @@ fn number(item: &[u8], n: usize) -> u32
 
 // The larger of two numbers.
 fn larger(a: u32, b: u32) -> u32
-    ensures { λ r. ⌜ r ≡ scans.larger a b ⌝ }
+    ensures { λ r. ⌜ r ≡ tables.larger a b ⌝ }
 {
     if a <= b { b } else { a }
 }
@@ -148,7 +149,7 @@ fn sealed(v: &[u8], at: usize, n: usize, most: usize) -> Front
 fn count(v: &[u8], s: Section, front: Front) -> u32
     requires { ⌜ Placed (now v) s ⌝ }
     requires { ⌜ front ≡ frontAt (s .size) (now v) (s .at) (s .slots) ⌝ }
-    ensures { λ r. ⌜ r ≡ countIn (now (v .entry)) s ⌝ }
+    ensures { λ r. ⌜ r ≡ scans.countIn (now (v .entry)) (slotsIn (now (v .entry)) s) ⌝ }
 {
     let whole = front.slots;
     if s.ring {
@@ -184,7 +185,7 @@ fn above(a: u32, b: u32) -> u32
 pub fn first(v: &[u8], s: Section, n: u32, front: u32) -> u64
     requires { ⌜ Placed (now v) s ⌝ }
     requires { ⌜ front ≤ frontIn (now v) s ⌝ }
-    ensures { λ r. ⌜ r ≡ firstIn (now (v .entry)) s n ⌝ }
+    ensures { λ r. ⌜ r ≡ scans.firstIn (slotsIn (now (v .entry)) s) n ⌝ }
 {
     if !s.ring {
         return 1;
@@ -250,7 +251,7 @@ fn rest(volume: &[u8], at: usize, size: usize, count: usize, n: usize) -> bool
 // the rest is zero.
 pub fn ends(v: &[u8], s: Section, r: Run) -> bool
     requires { ⌜ Placed (now v) s ⌝ }
-    ensures { λ b. ⌜ b ≡ endsIn (now (v .entry)) s (r .first) (r .count) ⌝ }
+    ensures { λ b. ⌜ b ≡ scans.endsIn (now (v .entry)) (slotsIn (now (v .entry)) s) (r .first) (r .count) ⌝ }
 {
     let n = r.count;
     if s.slots <= n {

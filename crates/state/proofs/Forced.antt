@@ -6,7 +6,7 @@ use mathlib.Core.Bool.{true, false}
 use Rattle.laws.proofs.Tables.{when-true, when-false}
 use Rattle.model.specs.Tables.{within}
 use Rattle.model.specs.Index.{entryOf, setEntry, withDurable}
-use Rattle.model.specs.Calls.{forcedState}
+use Rattle.model.specs.Effects.{forcedState}
 use Rattle.model.specs.declared.state.Entry.{Entry}
 use Rattle.model.specs.declared.state.State.{State}
 

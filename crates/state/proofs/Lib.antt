@@ -2,6 +2,4 @@
 pub mod Tables
 pub mod Forced
 pub mod Fits
-pub mod Facts
-pub mod Holder
 pub mod Slots

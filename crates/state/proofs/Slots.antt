@@ -10,7 +10,7 @@ use Rattle.laws.proofs.Tables.{byCases}
 use Rattle.laws.proofs.Places.{total, valid-facts, place-fits}
 use Rattle.laws.proofs.WellFormed.{ready}
 use Rattle.model.specs.Tables.{firstOf}
-use Rattle.model.specs.Geometry.{ring, noteRing, most, mostNotes, topNumber, start, logSlot, noteSlot, geometryOf, validVolume}
+use Rattle.model.specs.Geometry.{ring, most, mostNotes, topNumber, start, logSlot, noteSlot, geometryOf, validVolume}
 use Rattle.model.specs.Refusals.{stateRows}
 use Rattle.model.specs.declared.geometry.Geometry.{Geometry}
 use Rattle.model.specs.declared.state.State.{State}
@@ -29,7 +29,7 @@ module _ (v : List ℕ) (g : Geometry) (valid : validVolume v ≡ true) (eg : g 
   most-high = byCases (ring g) (λ t. rw t (omega arith)) (λ t. rw t (omega (arith, records-few)))
 
   pub most-notes-high : mostNotes g ≤ topNumber
-  most-notes-high = byCases (noteRing g) (λ t. rw t (omega arith)) (λ t. rw t (omega (arith, notes-few)))
+  most-notes-high = byCases (ring g) (λ t. rw t (omega arith)) (λ t. rw t (omega (arith, notes-few)))
 
   size : length v ≡ total g
   size = rw eg (valid-facts v valid .size)

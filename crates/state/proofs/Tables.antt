@@ -2,12 +2,11 @@
 use Prim.Native.Nat.{ℕ, suc, _+_, _-_, _≤_, _<_}
 use mathlib.Core.Path.{_≡_, ap, sym, _∙_}
 use mathlib.Core.Bool.{_&&_, not}
-use mathlib.Core.List.{List, _∷_, map}
+use mathlib.Core.List.{List, _∷_}
 use lib.Dec.{eqb, ltb}
-use lib.ListN.{length, drop, getD, length-map, drop-of-length-le, List·getD-eq-default}
+use lib.ListN.{length, drop, getD, drop-of-length-le}
 use lib.Seq.{drop-cons}
 use native.Mathlib.Numerals.{add-one}
-use native.Mathlib.Omega.{arith}
 use borrow.Author.Tests.{eq-eqb, ne-eqb}
 use Rattle.laws.proofs.Tables.{when-true, when-false}
 use Rattle.model.specs.Index.{entryOf}
@@ -16,10 +15,6 @@ use Rattle.model.specs.Refusals.{frameBlocked}
 use Rattle.model.specs.declared.state.Entry.{Entry}
 use Rattle.model.specs.declared.state.Frame.{Frame}
 use Rattle.model.specs.declared.state.State.{State}
-
--- what owning an array of structs tells of its list
-pub length-mapped : (X Y : Type 0) (f : X → Y) (l : List X) (n : ℕ) → length (map f l) ≡ n → length l ≡ n
-length-mapped X Y f l n h = sym (length-map l f) ∙ h
 
 -- ---- the search for the frame that holds page p: what the rows from i on give
 
@@ -38,10 +33,6 @@ module _ (p : ℕ) (fs : List Frame) (i : ℕ) (l : i < length fs) where
 pub holder-end : (p : ℕ) (fs : List Frame) (i : ℕ) → length fs ≤ i → holderFrom i p (drop i fs) ≡ 0
 unfolding holderFrom
 holder-end p fs i l = ap (λ (r : List Frame). holderFrom i p r) (drop-of-length-le fs l)
-
--- a read past the end
-pub past-end : (A : Type 0) (xs : List A) (d : A) (n k i : ℕ) → length xs ≡ n → n ≤ k → k ≡ i → d ≡ getD xs i d
-past-end A xs d n k i h l e = sym (List·getD-eq-default xs d {n = i} (omega arith))
 
 -- row 10, from the frame's row and its page's entry
 pub blocked-is : (s : State) (i p : ℕ) (f : Frame) (e : Entry) → f ≡ frameOf s i → p ≡ f .page → e ≡ entryOf (s .index) p

@@ -2,7 +2,7 @@
 ghost use mathlib.Core.Path.{_≡_};
 ghost use Rattle.model.specs.Index.{entryOf};
 ghost use Rattle.model.specs.State.{blank};
-use index::rows;
+use index::entries;
 use model::state::Entry;
 use model::state::State;
 
@@ -11,7 +11,7 @@ pub fn entry(s: State, page: u32) -> Entry
     ensures { λ r. ⌜ r ≡ entryOf (s .index) page ⌝ }
 {
     let index = s.index;
-    rows::entry(index, page)
+    entries::entry(index, page)
 }
 
 // Whether the page has no record.

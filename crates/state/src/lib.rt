@@ -2,7 +2,7 @@
 pub mod entries;
 pub mod frames;
 pub mod next;
-pub mod rows;
+pub mod refusal;
 pub mod well_formed;
 
 ghost use mathlib.Core.Path.{_≡_};

@@ -4,9 +4,9 @@ ghost use mathlib.Core.Bool.{true, false};
 ghost use Prim.Native.Nat.{_+_, _-_, _≤_, _<_};
 ghost use Rattle.model.specs.State.{zeroState};
 ghost use Rattle.state.specs.Resumed.{resumedState};
-ghost use Rattle.model.specs.Calls.{withFrame, withFrames, nextNote, appendedState, forcedState, notedState};
+ghost use Rattle.model.specs.Effects.{withFrame, withFrames, nextNote, appendedState, forcedState, notedState};
 use index::Scanned;
-use index::rows;
+use index::entries;
 use model::item::Note;
 use model::state::Frame;
 use model::state::PendingNote;
@@ -20,7 +20,7 @@ pub fn zero() -> State
         page: 0,
         dirty: false,
     }; 16];
-    let index = [rows::EMPTY; 64];
+    let index = [entries::EMPTY; 64];
     State {
         durable: 0,
         pending: 0,
@@ -159,7 +159,7 @@ pub fn noted(s: State, n: Note) -> State
 {
     let frames = s.frames;
     let before = s.index;
-    let index = rows::enter(before, n);
+    let index = entries::enter(before, n);
     State {
         durable: s.durable,
         pending: s.pending,

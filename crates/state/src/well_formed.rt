@@ -2,8 +2,9 @@
 // wraps.
 ghost use mathlib.Core.Path.{_≡_};
 ghost use Prim.Native.Nat.{_+_, _<_};
+ghost use Rattle.model.specs.Tables.{every};
 ghost use Rattle.model.specs.State.{pendingNoteFits, entryZero, wellFormed};
-ghost use Rattle.state.specs.Clauses.{firstIn, soleIn, frameClauses, entryClauses, pageClauses, keptIn, countClauses};
+ghost use Rattle.state.specs.Clauses.{firstIn, soleIn, frameClauses, frameIn, entryClauses, pageClauses, pageIn, keptIn, countClauses};
 ghost use Rattle.model.specs.declared.state.PendingNote.the-variants.{Present};
 use crate::frames;
 use item::note;
@@ -129,15 +130,10 @@ fn counts_fit(g: Geometry, durable: u32, pending: u32, notes: u32, p: PendingNot
         & ((pending <= 16) & ((notes <= most_notes) & fits))
 }
 
-// The state is well formed for the geometry and a number of frames. The entries are read in place: what is passed by
-// value is copied, so only a table of frames is passed on, and the state is copied once, at the call.
-pub fn well_formed(s: State, g: Geometry, count: usize) -> bool
-    ensures { λ r. ⌜ r ≡ wellFormed g count s ⌝ }
+// Every frame may be as it is. The entries are read in place: only the table of frames is passed on.
+fn frames_fit(s: State, g: Geometry, count: usize) -> bool
+    ensures { λ r. ⌜ r ≡ every 16 (frameIn g count (s .frames) (s .index)) ⌝ }
 {
-    let p = s.note;
-    if !counts_fit(g, s.durable, s.pending, s.notes, p) {
-        return false;
-    }
     let table = s.frames;
     let mut i = 0;
     while i < 16 {
@@ -151,14 +147,36 @@ pub fn well_formed(s: State, g: Geometry, count: usize) -> bool
         }
         i += 1;
     }
-    let mut j = 0;
-    while j < 64 {
-        let e = s.index[j];
-        let kept = kept(table, j as u32 + 1, e);
-        if !page_fits(g, s.durable, s.pending, kept, j, e) {
+    true
+}
+
+// Every entry may be as it is.
+fn pages_fit(s: State, g: Geometry) -> bool
+    ensures { λ r. ⌜ r ≡ every 64 (pageIn g (s .durable) (s .pending) (s .frames) (s .index)) ⌝ }
+{
+    let table = s.frames;
+    let mut i = 0;
+    while i < 64 {
+        let e = s.index[i];
+        let kept = kept(table, i as u32 + 1, e);
+        if !page_fits(g, s.durable, s.pending, kept, i, e) {
             return false;
         }
-        j += 1;
+        i += 1;
     }
     true
+}
+
+// The state is well formed for the geometry and a number of frames.
+pub fn well_formed(s: State, g: Geometry, count: usize) -> bool
+    ensures { λ r. ⌜ r ≡ wellFormed g count s ⌝ }
+{
+    let p = s.note;
+    if !counts_fit(g, s.durable, s.pending, s.notes, p) {
+        return false;
+    }
+    if !frames_fit(s, g, count) {
+        return false;
+    }
+    pages_fit(s, g)
 }

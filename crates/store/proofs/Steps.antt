@@ -7,7 +7,8 @@ use mathlib.Core.List.{List}
 use lib.Dec.{eqb, ltb}
 use Rattle.laws.proofs.Tables.{byCases}
 use Rattle.model.specs.Tables.{Row, firstOf}
-use Rattle.model.specs.Calls.{nothing, Outcome, volumeAfter, unchanged, decided, noteStored}
+use Rattle.model.specs.Outcome.{nothing, Outcome, volumeAfter, decided}
+use Rattle.model.specs.Effects.{noteStored, backupDone, beginDone, changeDone, forceDone, loadDone, releaseDone, restampDone, writeDone}
 use Rattle.model.specs.Calls.{beginOf, loadOf, changeCall, forceOf, writeOf, backupOf, releaseOf, noteCall, startCarryOf, restampOf, finishCarryOf}
 use Rattle.model.specs.Refusals.{beginRows, loadRows, changeRows, forceRows, writeRows, backupRows, releaseRows, noteRows, startCarryRows, restampRows, finishCarryRows, pageDirty}
 use Rattle.model.specs.Geometry.{geometryOf}
@@ -21,23 +22,24 @@ use Rattle.model.specs.declared.state.PendingNote.the-variants.{Absent, Present
 module _ (v m : List ℕ) (s : State) where
   -- a call that stores nothing where it is not refused
   same-volume : (rows : List Row) (done : Outcome) → done .stored ≡ nothing → v ≡ volumeAfter v (decided rows m s done .stored)
-  unfolding volumeAfter
+  unfolding volumeAfter decided
   same-volume rows done e = byCases (eqb (firstOf rows) 0) (λ t. rw (t, e)) (λ t. rw t)
 
   -- a call that leaves the memory where it is not refused
   same-memory : (rows : List Row) (done : Outcome) → done .memory ≡ m → m ≡ decided rows m s done .memory
+  unfolding decided
   same-memory rows done e = byCases (eqb (firstOf rows) 0) (λ t. rw (t, e)) (λ t. rw t)
 
   pub begin-volume : (page frame fill : ℕ) → v ≡ volumeAfter v (beginOf v m s page frame fill .stored)
-  unfolding beginOf
+  unfolding decided beginDone
   begin-volume page frame fill = same-volume (beginRows v m s page frame) _ refl
 
   pub load-volume : (page frame : ℕ) → v ≡ volumeAfter v (loadOf v m s page frame .stored)
-  unfolding loadOf
+  unfolding decided loadDone
   load-volume page frame = same-volume (loadRows v m s page frame) _ refl
 
   pub change-volume : (page : ℕ) (c : Change) (payload : List ℕ) → v ≡ volumeAfter v (changeCall v m s page c payload .stored)
-  unfolding changeCall
+  unfolding decided changeDone
   change-volume page c payload = same-volume (changeRows v m s page c) _ refl
 
   -- one of two outcomes that leave the memory
@@ -45,23 +47,23 @@ module _ (v m : List ℕ) (s : State) where
   either t a b p q = byCases t (λ e. rw (e, p)) (λ e. rw (e, q))
 
   pub force-memory : m ≡ forceOf v m s .memory
-  unfolding forceOf
+  unfolding decided forceDone
   force-memory = same-memory (forceRows v m s) _ (either (eqb (s .pending) 0) _ _ refl refl)
 
   pub write-memory : (page : ℕ) → m ≡ writeOf v m s page .memory
-  unfolding writeOf
+  unfolding decided writeDone
   write-memory page = same-memory (writeRows v m s page) _ (either (pageDirty s page) _ _ refl refl)
 
   pub backup-memory : (page slot : ℕ) → m ≡ backupOf v m s page slot .memory
-  unfolding backupOf
+  unfolding decided backupDone
   backup-memory page slot = same-memory (backupRows v m s page slot) _ refl
 
   pub release-volume : (page : ℕ) → v ≡ volumeAfter v (releaseOf v m s page .stored)
-  unfolding releaseOf
+  unfolding decided releaseDone
   release-volume page = same-volume (releaseRows v m s page) _ refl
 
   pub release-memory : (page : ℕ) → m ≡ releaseOf v m s page .memory
-  unfolding releaseOf
+  unfolding decided releaseDone
   release-memory page = same-memory (releaseRows v m s page) _ refl
 
   noted : (p : PendingNote) → noteStored v m s p .memory ≡ m
@@ -69,18 +71,18 @@ module _ (v m : List ℕ) (s : State) where
   noted (Present n) = refl
 
   pub note-memory : m ≡ noteCall v m s .memory
-  unfolding noteCall
+  unfolding decided
   note-memory = same-memory (noteRows v m s) _ (noted (s .note))
 
   pub start-carry-memory : m ≡ startCarryOf v m s .memory
-  unfolding startCarryOf
+  unfolding decided
   start-carry-memory = same-memory (startCarryRows v m s) _ refl
 
   pub restamp-memory : m ≡ restampOf v m s .memory
-  unfolding restampOf
+  unfolding decided restampDone
   restamp-memory =
       same-memory (restampRows v m s) _ (either (ltb (firstOld (geometryOf v) v (s .index)) (imageCount (geometryOf v))) _ _ refl refl)
 
   pub finish-carry-memory : m ≡ finishCarryOf v m s .memory
-  unfolding finishCarryOf
+  unfolding decided
   finish-carry-memory = same-memory (finishCarryRows v m s) _ refl

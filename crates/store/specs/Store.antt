@@ -1,8 +1,8 @@
 -- What a method of `Store` gives back, and the outcome of a command.
 use Prim.Native.Nat.{ℕ}
 use mathlib.Core.List.{List}
-use Rattle.model.specs.Calls.{Outcome, outcomeOf}
-use Rattle.model.specs.Commands.{callOf}
+use Rattle.model.specs.Outcome.{Outcome}
+use Rattle.model.specs.Calls.{outcomeOf}
 use Rattle.model.specs.declared.answer.Reply.{Reply}
 use Rattle.model.specs.declared.command.Command.{Command}
 use Rattle.store.specs.declared.Store.{Store}
@@ -14,4 +14,4 @@ wrapped r = record { answer = r .answer; store = record { state = r .state } }
 
 -- a command's outcome is that of the call which a history's step makes
 abbrev pub performed : Store → List ℕ → List ℕ → Command → List ℕ → Outcome
-performed s v m c payload = outcomeOf (callOf c payload) v m (s .state)
+performed s v m c payload = outcomeOf (c, payload) v m (s .state)

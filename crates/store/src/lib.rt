@@ -8,9 +8,10 @@
 ghost use mathlib.Core.Path.{_≡_};
 ghost use Rattle.store.specs.Store.{wrapped, performed};
 ghost use Rattle.model.specs.declared.geometry.Heading.the-variants.{First, Second};
-ghost use Rattle.model.specs.Calls.{replyOf, volumeAfter};
-ghost use Rattle.model.specs.Calls.{makeOf, restartOf, beginOf, loadOf, changeCall, forceOf, writeOf, backupOf};
-ghost use Rattle.model.specs.Calls.{releaseOf, noteCall, startCarryOf, restampOf, finishCarryOf, inspectOf};
+ghost use Rattle.model.specs.Outcome.{replyOf, volumeAfter};
+ghost use Rattle.model.specs.Calls.{beginOf, loadOf, changeCall, forceOf, writeOf, backupOf, releaseOf, noteCall};
+ghost use Rattle.model.specs.Calls.{startCarryOf, restampOf, finishCarryOf};
+ghost use Rattle.model.specs.Restart.{makeOf, restartOf, inspectOf};
 use model::answer::Answer;
 use model::answer::Reply;
 use model::change::Change;

@@ -18,17 +18,19 @@ use Rattle.model.specs.Item.{isWritten}
 use Rattle.model.specs.Scan.{logRecord, noteRecord}
 use Rattle.model.specs.State.{frameCount, frameAt, frameBytes, frameOf, logFull, notesFull, notePending, holder, held}
 use Rattle.model.specs.Refusals.{stateRows, loadRows}
-use Rattle.model.specs.Calls.{note, force}
-use Rattle.model.specs.Upkeep.{Advice, idle, make, notePosition, logPosition, firstNeededNote, firstNeededLog, freeSlot, bringIn, backUp, writeOut, renew, upkeepOf, noPayload, advisedBy, adviseRows, adviseOf}
+use Rattle.model.specs.Calls.{noPayload}
+use Rattle.upkeep_policy.specs.Upkeep.{Advice, idle, make, notePosition, logPosition, firstNeededNote, firstNeededLog}
+use Rattle.upkeep_policy.specs.Upkeep.{freeSlot}
+use Rattle.upkeep_policy.specs.Upkeep.{bringIn, backUp, writeOut, renew, upkeepOf, advisedBy, adviseRows, adviseOf}
 use Rattle.model.specs.declared.change.Change.the-variants.{Put}
 use Rattle.model.specs.declared.command.Command.the-variants.{Load, Change, Force, Write, Backup, Note}
 use Rattle.model.specs.declared.geometry.Geometry.{Geometry}
 use Rattle.model.specs.declared.item.Note.{Note as NoteFields}
 use Rattle.model.specs.declared.state.Frame.{Frame}
 use Rattle.model.specs.declared.state.State.{State}
-use Rattle.model.specs.declared.upkeep.Advised.{Advised}
-use Rattle.model.specs.declared.upkeep.Upkeep.{Upkeep}
-use Rattle.model.specs.declared.upkeep.Upkeep.the-variants.{Refused, Idle, Stuck, Make}
+use Rattle.upkeep_policy.specs.declared.upkeep.Advised.{Advised}
+use Rattle.upkeep_policy.specs.declared.upkeep.Upkeep.{Upkeep}
+use Rattle.upkeep_policy.specs.declared.upkeep.Upkeep.the-variants.{Refused, Idle, Stuck, Make}
 use Rattle.upkeep.specs.Parts.{ringAdvice}
 
 -- an answer without payload
@@ -60,7 +62,8 @@ module _ (v : List ℕ) (s : State) (p : ℕ) (x : Advised) (g : Geometry) (eg :
   pub back-stuck : (ltb (g .slots) slot || full) ≡ true → x ≡ bare (Stuck p) → x ≡ advisedBy (backUp v s p)
   back-stuck h e = chosen _ _ _ x (sym same ∙ h) e
 
-  pub back-makes : (ltb (g .slots) slot || full) ≡ false → x ≡ bare (Make (Backup p slot)) → x ≡ advisedBy (backUp v s p)
+  pub back-makes : (ltb (g .slots) slot || full) ≡ false → x ≡ bare (Make (Backup p slot))
+      → x ≡ advisedBy (backUp v s p)
   back-makes h e =
       other _ _ _ x (sym same ∙ h)
       (e ∙ ap (λ (b : ℕ). bare (Make (Backup p b))) (es ∙ ap (λ (k : Geometry). freeSlot k s) eg))
@@ -113,7 +116,8 @@ module _ (v m : List ℕ) (s : State) (r p : ℕ) (w : Bool) (x : Advised) (h : 
   renew-back y t e = chosen (held s p) _ _ x (sym eh ∙ y) (other w _ _ x t e)
 
 -- U3 to U5
-module _ (v m : List ℕ) (s : State) (r : ℕ) (x : Advised) (g : Geometry) (eg : g ≡ geometryOf v) (i : ℕ) (ei : i ≡ firstNeededNote g v s) where
+module _ (v m : List ℕ) (s : State) (r : ℕ) (x : Advised) (g : Geometry) (eg : g ≡ geometryOf v) (i : ℕ)
+    (ei : i ≡ firstNeededNote g v s) where
   first-note : i ≡ firstNeededNote (geometryOf v) v s
   first-note = ei ∙ rw eg
 
@@ -121,37 +125,42 @@ module _ (v m : List ℕ) (s : State) (r : ℕ) (x : Advised) (g : Geometry) (eg
       → x ≡ advisedBy (renew v m s r (n .page) (eqb (n .kind) 1)) → x ≡ advisedBy (ringAdvice v m s r)
   unfolding ringAdvice
   ring-note n h en e =
-      chosen (leb (firstNeededNote (geometryOf v) v s) 2) _ _ x (rw (← first-note) (le-leb i 2 h)) (rw (← first-note, ← eg, ← en) e)
+      chosen (leb (firstNeededNote (geometryOf v) v s) 2) _ _ x (rw (← first-note) (le-leb i 2 h))
+      (rw (← first-note, ← eg, ← en) e)
 
   module _ (past : 2 < i) (j : ℕ) (ej : j ≡ firstNeededLog g v s) where
     first-log : j ≡ firstNeededLog (geometryOf v) v s
     first-log = ej ∙ rw eg
 
-    pub ring-log : (p : ℕ) → j ≤ g .records / 2 → p ≡ logRecord g v (logPosition g s j) .page → x ≡ advisedBy (renew v m s r p false)
+    pub ring-log : (p : ℕ) → j ≤ g .records / 2 → p ≡ logRecord g v (logPosition g s j) .page
+        → x ≡ advisedBy (renew v m s r p false)
         → x ≡ advisedBy (ringAdvice v m s r)
     unfolding ringAdvice
     ring-log p h ep e =
         other (leb (firstNeededNote (geometryOf v) v s) 2) _ _ x (rw (← first-note) (lt-leb i 2 past))
-        (chosen (leb (firstNeededLog (geometryOf v) v s) (geometryOf v .records / 2)) _ _ x (rw (← first-log, ← eg) (le-leb j (g .records / 2) h))
+        (chosen (leb (firstNeededLog (geometryOf v) v s) (geometryOf v .records / 2)) _ _ x
+        (rw (← first-log, ← eg) (le-leb j (g .records / 2) h))
         (rw (← first-log, ← eg, ← ep) e))
 
     pub ring-idle : g .records / 2 < j → x ≡ bare Idle → x ≡ advisedBy (ringAdvice v m s r)
     unfolding ringAdvice
     ring-idle h e =
         other (leb (firstNeededNote (geometryOf v) v s) 2) _ _ x (rw (← first-note) (lt-leb i 2 past))
-        (other (leb (firstNeededLog (geometryOf v) v s) (geometryOf v .records / 2)) _ _ x (rw (← first-log, ← eg) (lt-leb j (g .records / 2) h)) e)
+        (other (leb (firstNeededLog (geometryOf v) v s) (geometryOf v .records / 2)) _ _ x
+        (rw (← first-log, ← eg) (lt-leb j (g .records / 2) h)) e)
 
 -- U1 and U2
 module _ (v m : List ℕ) (s : State) (r : ℕ) (x : Advised) where
   pub policy-note : notePending (s .note) ≡ true → x ≡ bare (Make Note) → x ≡ advisedBy (upkeepOf v m s r)
   unfolding upkeepOf
-  policy-note h e = chosen (notePending (s .note)) (make note) _ x h e
+  policy-note h e = chosen (notePending (s .note)) (make (Note, noPayload)) _ x h e
 
   module _ (none : notePending (s .note) ≡ false) where
     pub policy-force : 0 < s .pending → x ≡ bare (Make Force) → x ≡ advisedBy (upkeepOf v m s r)
     unfolding upkeepOf
     policy-force h e =
-        other (notePending (s .note)) (make note) _ x none (chosen (ltb 0 (s .pending)) (make force) _ x (lt-ltb 0 (s .pending) h) e)
+        other (notePending (s .note)) (make (Note, noPayload)) _ x none
+        (chosen (ltb 0 (s .pending)) (make (Force, noPayload)) _ x (lt-ltb 0 (s .pending) h) e)
 
     module _ (z : s .pending ≤ 0) (g : Geometry) (eg : g ≡ geometryOf v) (o : Bool) (eo : o ≡ ring g) where
       turns : o ≡ ring (geometryOf v)
@@ -160,19 +169,23 @@ module _ (v m : List ℕ) (s : State) (r : ℕ) (x : Advised) where
       pub policy-flat : o ≡ false → x ≡ bare Idle → x ≡ advisedBy (upkeepOf v m s r)
       unfolding upkeepOf
       policy-flat h e =
-          other (notePending (s .note)) (make note) _ x none
-          (other (ltb 0 (s .pending)) (make force) _ x (le-ltb 0 (s .pending) z) (other (ring (geometryOf v)) _ _ x (sym turns ∙ h) e))
+          other (notePending (s .note)) (make (Note, noPayload)) _ x none
+          (other (ltb 0 (s .pending)) (make (Force, noPayload)) _ x (le-ltb 0 (s .pending) z)
+          (other (ring (geometryOf v)) _ _ x (sym turns ∙ h) e))
 
       pub policy-ring : o ≡ true → x ≡ advisedBy (ringAdvice v m s r) → x ≡ advisedBy (upkeepOf v m s r)
       unfolding upkeepOf ringAdvice
       policy-ring h e =
-          other (notePending (s .note)) (make note) _ x none
-          (other (ltb 0 (s .pending)) (make force) _ x (le-ltb 0 (s .pending) z) (chosen (ring (geometryOf v)) _ _ x (sym turns ∙ h) e))
+          other (notePending (s .note)) (make (Note, noPayload)) _ x none
+          (other (ltb 0 (s .pending)) (make (Force, noPayload)) _ x (le-ltb 0 (s .pending) z)
+          (chosen (ring (geometryOf v)) _ _ x (sym turns ∙ h) e))
 
 -- ---- the rows
 
-pub refusal-is : (v m : List ℕ) (s : State) (n size count r rest k : ℕ) → n ≡ firstOf (stateRows v m s []) → count ≡ frameCount size
-    → length m ≡ size → rest ≡ cond (not (within count r)) 4 0 → k ≡ cond (not (eqb n 0)) n rest → k ≡ firstOf (adviseRows v m s r)
+pub refusal-is : (v m : List ℕ) (s : State) (n size count r rest k : ℕ) → n ≡ firstOf (stateRows v m s [])
+    → count ≡ frameCount size
+    → length m ≡ size → rest ≡ cond (not (within count r)) 4 0 → k ≡ cond (not (eqb n 0)) n rest
+    → k ≡ firstOf (adviseRows v m s r)
 unfolding adviseRows
 refusal-is v m s n size count r rest k e ec em er ek =
     ek ∙ refusal-then v m s ((not (within (frameCount (length m)) r), 4) ∷ []) n rest e (er ∙ rw (ec, ← em))
@@ -180,7 +193,8 @@ refusal-is v m s n size count r rest k e ec em er ek =
 module _ (v m : List ℕ) (s : State) (r k : ℕ) (en : k ≡ firstOf (adviseRows v m s r)) (x : Advised) where
   pub advise-refused : (k ≡ 0 → ⊥) → x ≡ bare (Refused k) → x ≡ adviseOf v m s r
   unfolding adviseOf
-  advise-refused h e = rw (ne-eqb (firstOf (adviseRows v m s r)) 0 (λ z. h (en ∙ z))) (e ∙ ap (λ (n : ℕ). bare (Refused n)) en)
+  advise-refused h e =
+      rw (ne-eqb (firstOf (adviseRows v m s r)) 0 (λ z. h (en ∙ z))) (e ∙ ap (λ (n : ℕ). bare (Refused n)) en)
 
   pub advise-open : k ≡ 0 → x ≡ advisedBy (upkeepOf v m s r) → x ≡ adviseOf v m s r
   unfolding adviseOf

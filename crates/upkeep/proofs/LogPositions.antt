@@ -13,7 +13,7 @@ use Rattle.model.specs.Item.{recordOf}
 use Rattle.model.specs.Passes.{firstFrom}
 use Rattle.model.specs.Scan.{logRecord}
 use Rattle.model.specs.State.{recordNeeded}
-use Rattle.model.specs.Upkeep.{logPosition, logAhead, firstNeededLog}
+use Rattle.upkeep_policy.specs.Upkeep.{logPosition, logAhead, firstNeededLog}
 use Rattle.model.specs.declared.geometry.Geometry.{Geometry}
 use Rattle.model.specs.declared.item.LogRecord.{LogRecord}
 use Rattle.model.specs.declared.state.State.{State}
@@ -26,7 +26,8 @@ module _ (g : Geometry) (v : List ℕ) (s : State) where
   log-new i h = rw (le-ltb (g .records) (s .durable + i) h)
 
   -- a record is displaced
-  pub log-turned : (i : ℕ) (k : Bool) → g .records < s .durable + i → k ≡ recordNeeded g v s (s .durable + i - g .records)
+  pub log-turned : (i : ℕ) (k : Bool) → g .records < s .durable + i
+      → k ≡ recordNeeded g v s (s .durable + i - g .records)
       → k ≡ logAhead g v s i
   unfolding logAhead
   log-turned i k h e = rw (lt-ltb (g .records) (s .durable + i) h) e
@@ -36,12 +37,14 @@ module _ (g : Geometry) (v : List ℕ) (s : State) where
   unfolding logAhead
   log-number i h = ltb-true (g .records) (s .durable + i) (and-left (ltb (g .records) (s .durable + i)) _ h)
 
-  pub log-page : (i : ℕ) (r : List ℕ) (e : LogRecord) → r ≡ item g v (logSlot g (s .durable + i - g .records)) → e ≡ recordOf r
+  pub log-page : (i : ℕ) (r : List ℕ) (e : LogRecord) → r ≡ item g v (logSlot g (s .durable + i - g .records))
+      → e ≡ recordOf r
       → e .page ≡ logRecord g v (logPosition g s i) .page
   log-page i r e er ee = rw (ee, er)
 
   -- the search from 1 on
-  pub log-start : (half : ℕ) → half ≡ g .records / 2 → firstFrom (half + 1 - 1) (logAhead g v s) 1 ≡ firstNeededLog g v s
+  pub log-start : (half : ℕ) → half ≡ g .records / 2
+      → firstFrom (half + 1 - 1) (logAhead g v s) 1 ≡ firstNeededLog g v s
   unfolding firstNeededLog
   log-start half e = first-start (logAhead g v s) half ∙ ap (λ (n : ℕ). firstFrom n (logAhead g v s) 1) e
 

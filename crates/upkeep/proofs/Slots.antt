@@ -7,7 +7,7 @@ use Rattle.laws.proofs.Places.{valid-facts}
 use Rattle.model.specs.Geometry.{geometryOf, validVolume}
 use Rattle.model.specs.Index.{slotUsed}
 use Rattle.model.specs.Passes.{firstFrom}
-use Rattle.model.specs.Upkeep.{freeSlot}
+use Rattle.upkeep_policy.specs.Upkeep.{freeSlot}
 use Rattle.model.specs.declared.geometry.Geometry.{Geometry}
 use Rattle.model.specs.declared.state.State.{State}
 

@@ -4,7 +4,7 @@ use mathlib.Core.Bool.{cond}
 use mathlib.Core.List.{List}
 use lib.Dec.{leb}
 use Rattle.model.specs.Geometry.{geometryOf}
-use Rattle.model.specs.Upkeep.{Advice, idle, reserve, firstNeededNote, firstNeededLog, renewNote, renewLog}
+use Rattle.upkeep_policy.specs.Upkeep.{Advice, idle, reserve, firstNeededNote, firstNeededLog, renewNote, renewLog}
 use Rattle.model.specs.declared.state.State.{State}
 
 unfoldable pub ringAdvice : List ℕ → List ℕ → State → ℕ → Advice

@@ -2,14 +2,14 @@
 ghost use mathlib.Core.Path.{_≡_};
 ghost use mathlib.Core.List.{_∷_};
 ghost use lib.ListN.{replicate};
-ghost use Rattle.model.specs.Upkeep.{noPayload};
-ghost use Rattle.model.specs.declared.upkeep.Upkeep.the-variants as says;
+ghost use Rattle.model.specs.Calls.{noPayload};
+ghost use Rattle.upkeep_policy.specs.declared.upkeep.Upkeep.the-variants as says;
 ghost use Rattle.model.specs.declared.change.Change.the-variants as changes;
 ghost use Rattle.model.specs.declared.command.Command.the-variants as commands;
 use model::change::Change;
 use model::command::Command;
-use model::upkeep::Advised;
-use model::upkeep::Upkeep;
+use upkeep_policy::upkeep::Advised;
+use upkeep_policy::upkeep::Upkeep;
 
 // Refused.
 pub fn refused(no: u32) -> Advised

@@ -1,4 +1,5 @@
-// Upkeep: which call to make next so that a ring store never locks. It reads, and stores nothing.
+// Upkeep: which call to make next so that a ring store never locks. It reads, and stores nothing: the notes in one
+// pass (`notes::pass`), half the log in one (`log::first`).
 mod answer;
 mod log;
 mod notes;
@@ -8,13 +9,13 @@ ghost use mathlib.Core.Path.{_≡_};
 ghost use mathlib.Core.Bool.{true};
 ghost use Rattle.model.specs.Tables.{firstOf};
 ghost use Rattle.model.specs.Geometry.{ring, geometryOf, validVolume};
-ghost use Rattle.model.specs.Upkeep.{advisedBy, adviseRows, adviseOf, upkeepOf};
+ghost use Rattle.upkeep_policy.specs.Upkeep.{advisedBy, adviseRows, adviseOf, upkeepOf};
 ghost use Rattle.upkeep.specs.Parts.{ringAdvice};
 use model::command::Command;
 use model::geometry::Geometry;
 use model::state::PendingNote;
 use model::state::State;
-use model::upkeep::Advised;
+use upkeep_policy::upkeep::Advised;
 use volume::heading;
 use volume::memory;
 use volume::ring;
@@ -24,7 +25,7 @@ use volume::rows;
 fn refusal(s: State, volume: &[u8], memory: &[u8], frame: u32) -> u32
     ensures { λ r. ⌜ r ≡ firstOf (adviseRows (now (volume .entry)) (now (memory .entry)) s frame) ⌝ }
 {
-    let no = state::rows::refusal(s, volume, memory.len());
+    let no = state::refusal::refusal(s, volume, memory.len());
     let count = memory::frames(memory.len());
     let outside = !((1 <= frame) & (frame as usize <= count));
     let rest = rows::first(outside, 4, 0);
@@ -33,18 +34,28 @@ fn refusal(s: State, volume: &[u8], memory: &[u8], frame: u32) -> u32
 
 // In a ring, with nothing pending: the first needed note position, then the first needed log position.
 fn renewed(s: State, volume: &[u8], memory: &[u8], g: Geometry, frame: u32) -> Advised
-    requires { ⌜ (validVolume (now volume) ≡ true) × (g ≡ geometryOf (now volume)) ⌝ }
+    requires { ⌜ (validVolume (now volume) ≡ true) × (g ≡ geometryOf (now volume)) × (ring g ≡ true) ⌝ }
     ensures { λ r. ⌜ r ≡ advisedBy (ringAdvice (now (volume .entry)) (now (memory .entry)) s frame) ⌝ }
 {
     let i = notes::first(s, volume, g);
+    let full = notes::full(s, g, i);
     if i <= 2 {
         let n = notes::at(s, volume, g, i);
-        return renewal::renew(s, volume, memory, g, frame, n.page as u32, n.kind == 1);
+        return renewal::renew(
+            s,
+            volume,
+            memory,
+            g,
+            frame,
+            n.page as u32,
+            n.kind == 1,
+            full,
+        );
     }
     let j = log::first(s, volume, g);
     if j <= g.records / 2 {
         let page = log::page(s, volume, g, j);
-        return renewal::renew(s, volume, memory, g, frame, page, false);
+        return renewal::renew(s, volume, memory, g, frame, page, false, full);
     }
     answer::idle()
 }

@@ -4,7 +4,7 @@ ghost use mathlib.Core.Bool.{true};
 ghost use Prim.Native.Nat.{_≤_};
 ghost use Rattle.model.specs.Geometry.{geometryOf, validVolume};
 ghost use Rattle.model.specs.Scan.{logRecord};
-ghost use Rattle.model.specs.Upkeep.{logPosition, logAhead, firstNeededLog};
+ghost use Rattle.upkeep_policy.specs.Upkeep.{logPosition, logAhead, firstNeededLog};
 use item::record;
 use model::geometry::Geometry;
 use model::state::State;

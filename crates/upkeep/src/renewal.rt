@@ -2,16 +2,16 @@
 ghost use mathlib.Core.Path.{_≡_};
 ghost use mathlib.Core.Bool.{true};
 ghost use Rattle.model.specs.Geometry.{geometryOf, validVolume};
-ghost use Rattle.model.specs.Upkeep.{freeSlot, bringIn, backUp, writeOut, renew, advisedBy};
+ghost use Rattle.model.specs.State.{notesFull};
+ghost use Rattle.upkeep_policy.specs.Upkeep.{freeSlot, bringIn, backUp, writeOut, renew, advisedBy};
 use crate::answer;
 use codec::field;
 use model::command::Command;
 use model::geometry::Geometry;
 use model::state::State;
-use model::upkeep::Advised;
 use room::log;
-use room::notes;
 use state::frames;
+use upkeep_policy::upkeep::Advised;
 use volume::memory;
 
 // The lowest slot outside the index; the number behind the slots where there is none.
@@ -23,7 +23,7 @@ fn free_slot(s: State, volume: &[u8], g: Geometry) -> u32
     let slots = g.slots;
     let mut b: u32 = 1;
     while b <= slots {
-        if !index::rows::used(index, b) {
+        if !index::entries::used(index, b) {
             return b;
         }
         b += 1;
@@ -43,12 +43,12 @@ fn bring_in(s: State, volume: &[u8], memory: &[u8], frame: u32, page: u32) -> Ad
 }
 
 // A backup note, or a record: a Backup into the lowest free slot.
-fn back_up(s: State, volume: &[u8], g: Geometry, page: u32) -> Advised
-    requires { ⌜ (validVolume (now volume) ≡ true) × (g ≡ geometryOf (now volume)) ⌝ }
+fn back_up(s: State, volume: &[u8], g: Geometry, page: u32, full: bool) -> Advised
+    requires { ⌜ (validVolume (now volume) ≡ true) × (g ≡ geometryOf (now volume))
+        × (full ≡ notesFull g (now volume) s) ⌝ }
     ensures { λ r. ⌜ r ≡ advisedBy (backUp (now (volume .entry)) s page) ⌝ }
 {
     let slot = free_slot(s, volume, g);
-    let full = notes::full(s, volume, g);
     if (g.slots < slot) | full {
         return answer::stuck(page);
     }
@@ -56,14 +56,15 @@ fn back_up(s: State, volume: &[u8], g: Geometry, page: u32) -> Advised
 }
 
 // A written note: a Write where the page is dirty, else the refreshing put that makes it so.
-fn write_out(s: State, volume: &[u8], memory: &[u8], g: Geometry, page: u32) -> Advised
-    requires { ⌜ (validVolume (now volume) ≡ true) × (g ≡ geometryOf (now volume)) ⌝ }
+fn write_out(s: State, volume: &[u8], memory: &[u8], g: Geometry, page: u32, full: bool) -> Advised
+    requires { ⌜ (validVolume (now volume) ≡ true) × (g ≡ geometryOf (now volume))
+        × (full ≡ notesFull g (now volume) s) ⌝ }
     ensures { λ r. ⌜ r ≡ advisedBy (writeOut (now (volume .entry)) (now (memory .entry)) s page) ⌝ }
 {
     let f = frames::holder(s, page);
     let row = frames::frame(s, f);
     if row.dirty {
-        if notes::full(s, volume, g) {
+        if full {
             return answer::stuck(page);
         }
         return answer::make(Command::Write { page });
@@ -74,7 +75,7 @@ fn write_out(s: State, volume: &[u8], memory: &[u8], g: Geometry, page: u32) -> 
     answer::put(page, field::byte(memory, memory::frame_at(f) + 8))
 }
 
-// The next call of the renewal of the page's note, written or backup.
+// The next call of the renewal of the page's note, written or backup; full: there is no room for a note.
 pub fn renew(
     s: State,
     volume: &[u8],
@@ -83,15 +84,17 @@ pub fn renew(
     frame: u32,
     page: u32,
     written: bool,
+    full: bool,
 ) -> Advised
-    requires { ⌜ (validVolume (now volume) ≡ true) × (g ≡ geometryOf (now volume)) ⌝ }
+    requires { ⌜ (validVolume (now volume) ≡ true) × (g ≡ geometryOf (now volume))
+        × (full ≡ notesFull g (now volume) s) ⌝ }
     ensures { λ r. ⌜ r ≡ advisedBy (renew (now (volume .entry)) (now (memory .entry)) s frame page written) ⌝ }
 {
     if !frames::held(s, page) {
         return bring_in(s, volume, memory, frame, page);
     }
     if written {
-        return write_out(s, volume, memory, g, page);
+        return write_out(s, volume, memory, g, page, full);
     }
-    back_up(s, volume, g, page)
+    back_up(s, volume, g, page, full)
 }

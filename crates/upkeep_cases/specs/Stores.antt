@@ -1,25 +1,19 @@
 -- Small ring stores, and the advice on them: what upkeep says, call after call.
 use Prim.Native.Nat.{ℕ, zero, suc}
+use mathlib.Core.Bool.{cond}
 use mathlib.Core.List.{List, [], _∷_, _++_}
-use lib.ListN.{take, replicate}
-use Rattle.model.specs.Geometry.{lengthFor}
-use Rattle.model.specs.Calls.{Call, begin, change, force, write, backup, note}
-use Rattle.model.specs.History.{Machine, Event, restart, perform, freshMachine, step, run}
-use Rattle.model.specs.Upkeep.{Advice, idle, stuck, make, callNumbers, adviceOf}
-use Rattle.model.specs.declared.geometry.Heading.the-variants.{Second}
-use Rattle.model.specs.declared.change.Change.the-variants.{Put}
+use lib.ListN.{take}
+use Rattle.model.specs.Calls.{Call, codeOf, isCall}
+use Rattle.cases.specs.Calls.{begin, force, write, backup, note}
+use Rattle.model.specs.History.{Machine, Event, restart, perform, step}
+use Rattle.upkeep_policy.specs.Upkeep.{Advice, idle, stuck, make, adviceOf}
 use Rattle.cases.specs.Build.{memory}
-
--- events on a ring of these counts
-abbrev pub store : ℕ → ℕ → ℕ → ℕ → List Event → Machine
-store p b l n es = run (freshMachine Second (replicate (lengthFor p b l n) 0xDD) p b l n) es
-
-abbrev pub put : ℕ → Call
-put n = change 1 (Put 0 1) (n ∷ replicate 43 0)
+use Rattle.cases.specs.Rings.{put}
+use Rattle.cases.specs.Prologues.{pageWritten, pageBackedUp, pageForced}
 
 -- a call's numbers, without the zeros of a refreshing put's payload
 abbrev pub shortNumbers : Call → List ℕ
-shortNumbers c = take 7 (callNumbers c)
+shortNumbers c = take 7 (codeOf (c .0) ++ cond (isCall 5 c) (c .1) [])
 
 -- 100: idle; 101 p: stuck at page p
 abbrev pub adviceNumbers : Advice → (Call → List ℕ) → List ℕ
@@ -32,35 +26,21 @@ unfoldable pub advised : ℕ → ℕ → Machine → List ℕ
 advised zero r w = []
 advised (suc n) r w = adviceNumbers (adviceOf r w) (λ c. advised n r (step w (perform c)))
 
--- page 1 formatted and written, each call closed by its Force or Note
-abbrev pub written1 : List Event
-written1 = restart (memory 2) ∷ perform (begin 1 1 7) ∷ perform force ∷ perform (write 1) ∷ perform note ∷ []
-
--- and backed up twice: in a note ring of four the written note is now at position 2
+-- page 1 written, and backed up twice: in a note ring of four the written note is now at position 2
 abbrev pub backed2 : List Event
-backed2 = written1 ++ (perform (backup 1 1) ∷ perform note ∷ perform (backup 1 2) ∷ perform note ∷ [])
+backed2 = pageWritten 2 ++ (perform (backup 1 1) ∷ perform note ∷ perform (backup 1 2) ∷ perform note ∷ [])
 
 -- three records of page 1
 abbrev pub three : List Event
-three =
-    restart (memory 2) ∷ perform (begin 1 1 7) ∷ perform force ∷ perform (put 2) ∷ perform force ∷ perform (put 3)
-    ∷ perform force ∷ []
+three = pageForced 2 ++ (perform (put 2) ∷ perform force ∷ perform (put 3) ∷ perform force ∷ [])
 
 -- page 1 backed up, then written for the first time, and that note pending
 abbrev pub firstWrite : List Event
-firstWrite =
-    restart (memory 2) ∷ perform (begin 1 1 7) ∷ perform force ∷ perform (backup 1 1) ∷ perform note
-    ∷ perform (write 1) ∷ []
+firstWrite = pageBackedUp 2 ++ (perform (write 1) ∷ [])
 
 -- a note ring of two: written and backed up, and then the written note is the only one of its kind
 abbrev pub locked : List Event
-locked = written1 ++ (perform (backup 1 1) ∷ perform note ∷ [])
-
--- begin; force; backup; change; force; note; change; force: records 2 and 3 stand, 1 has left
-abbrev pub turned : List Event
-turned =
-    restart (memory 1) ∷ perform (begin 1 1 7) ∷ perform force ∷ perform (backup 1 1) ∷ perform (put 2) ∷ perform force
-    ∷ perform note ∷ perform (put 3) ∷ perform force ∷ []
+locked = pageWritten 2 ++ (perform (backup 1 1) ∷ perform note ∷ [])
 
 -- two pages: record 1 is page 2's, which has no backup, record 2 page 1's, which has
 abbrev pub other : List Event

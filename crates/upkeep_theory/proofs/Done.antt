@@ -1,43 +1,47 @@
--- What upkeep advises in a machine that a history reached is done: the call is not refused, and does not answer Nothing.
-use mathlib.Core.Path.{_≡_, refl, sym, ap, _∙_, subst}
-use mathlib.Core.Logic.{_≢_, _⊎_, inl, inr, ⊎-elim}
-use mathlib.Core.Bool.{Bool, true, false, cond, _&&_, _||_, not, and-false}
-use mathlib.Core.List.{List, [], _∷_}
-use Prim.Native.Nat.{ℕ, zero, suc, _+_, _-_, _/_, _≤_, _<_}
+-- What upkeep advises in a machine that a history reached is done: the call is not refused, and does not answer
+-- Nothing.
+use Rattle.history.proofs.Refusals.{call-refusal, ownRows, rows-are}
+use mathlib.Core.Path.{sym}
+use mathlib.Core.Path.{_≡_, refl, _∙_}
+use mathlib.Core.Logic.{_≢_}
+use mathlib.Core.Bool.{Bool, true, false, cond, not}
+use mathlib.Core.List.{List}
+use Prim.Native.Nat.{ℕ, _≤_}
 use native.Mathlib.Omega.{arith}
-use lib.Dec.{eqb, leb, ltb}
-use lib.ListN.{length, replicate}
-use borrow.Author.Tests.{ne-eqb, not-true, not-false}
-use Rattle.laws.proofs.Tables.{byCases, within-holds, true-not-false}
-use Rattle.laws.proofs.Search.{First, first-from}
-use Rattle.model.specs.Tables.{Row, firstOf, within}
-use Rattle.model.specs.Geometry.{ring, geometryOf}
-use Rattle.model.specs.Change.{changeFits, fits}
-use Rattle.model.specs.Item.{isWritten}
+use lib.ListN.{length}
+use borrow.Author.Tests.{ne-eqb, not-true}
+use Rattle.laws.proofs.Tables.{within-holds, true-not-false}
+use Rattle.laws.proofs.Search.{first-from}
+use Rattle.model.specs.Tables.{firstOf, within}
+use Rattle.model.specs.Geometry.{geometryOf}
+use Rattle.model.specs.Change.{changeFits}
 use Rattle.model.specs.Index.{entryOf, slotUsed}
-use Rattle.model.specs.Scan.{logRecord, noteRecord}
 use Rattle.model.specs.State.{frameCount, logFull, notesFull, notePending, held, blank}
-use Rattle.model.specs.Refusals.{frameBlocked, pageDirty, notDurable, chainBroken, chainBelow, loadRows, changeRows, forceRows, writeRows, backupRows, noteRows}
-use Rattle.model.specs.Calls.{StoredItem, Call, load, change, force, write, backup, note, outcomeOf, rowsOf, refusalOf, loadOf, changeCall, forceOf, writeOf, backupOf, noteCall, noteStored}
+use Rattle.model.specs.Refusals.{pageDirty, notDurable, chainBroken, chainBelow, loadRows, changeRows, writeRows}
+use Rattle.model.specs.Refusals.{backupRows}
+use Rattle.model.specs.Outcome.{StoredItem, refusalOf, decided}
+use Rattle.model.specs.Effects.{noteStored, backupDone, changeDone, forceDone, loadDone, writeDone}
+use Rattle.model.specs.Calls.{Call, outcomeOf, rowsOf, noPayload}
+use Rattle.model.specs.declared.command.Command.the-variants.{Load, Force, Write, Backup, Note}
 use Rattle.model.specs.AbstractLog.{Logged}
 use Rattle.model.specs.declared.change.Change.the-variants.{Put}
 use Rattle.model.specs.declared.answer.Answer.{Answer}
-use Rattle.model.specs.declared.answer.Answer.the-variants.{Refused, Nothing, Done, Repaired}
+use Rattle.model.specs.declared.answer.Answer.the-variants.{Nothing, Done, Repaired}
 use Rattle.model.specs.declared.answer.Repair.{Repair}
 use Rattle.model.specs.declared.geometry.Geometry.{Geometry}
 use Rattle.model.specs.declared.state.PendingNote.{PendingNote}
 use Rattle.model.specs.declared.state.PendingNote.the-variants.{Absent, Present}
 use Rattle.model.specs.declared.state.State.{State}
-use Rattle.history.proofs.Logs.{lastOf, last-mono}
+use Rattle.history.proofs.Logs.{last-mono}
 use Rattle.history.proofs.Context.{Ctx, geo, len, last-entry, durable-last}
 use Rattle.history.proofs.Loads.{never-broken}
-use Rattle.history.proofs.Refusals.{ownRows, rows-are}
 use Rattle.history.proofs.Reached.{live}
-use Rattle.model.specs.Upkeep.{freeSlot, refresh}
-use Rattle.model.specs.UpkeepClaim.{AdviceIsDone}
+use Rattle.upkeep_policy.specs.Upkeep.{freeSlot, refresh}
+use Rattle.upkeep_policy.specs.UpkeepClaim.{AdviceIsDone}
 use Rattle.upkeep_theory.proofs.Quiet.{never-blocked, never-early}
 use Rattle.upkeep_theory.proofs.Pages.{Known, note-known, record-known}
-use Rattle.upkeep_theory.proofs.Shape.{Renewal, loads, backs, writes, puts, Advised, notes, forces, byNote, byLog, advised}
+use Rattle.upkeep_theory.proofs.Shape.{Renewal, loads, backs, writes, puts, Advised, notes, forces, byNote}
+use Rattle.upkeep_theory.proofs.Shape.{byLog, advised}
 
 -- a call that is done
 pub record IsDone (a : Answer) : Type 0 where
@@ -63,21 +67,22 @@ module _ {C : Type 0} {g : Geometry} {v m : List ℕ} {past : List StoredItem} {
     (x : Ctx C g v m past s k w) where
   -- ---- the two that close what is open
 
-  note-done : notePending (s .note) ≡ true → IsDone (outcomeOf note v m s .answer)
-  unfolding noteCall ownRows
-  note-done t = rw (rows-are x note) (go (s .note) t)
+  note-done : notePending (s .note) ≡ true → IsDone (outcomeOf (Note, noPayload) v m s .answer)
+  unfolding decided ownRows
+  note-done t = rw (rows-are x (Note, noPayload)) (go (s .note) t)
     where
       go : (y : PendingNote) → notePending y ≡ true → IsDone (noteStored v m s y .answer)
       go Absent t = absurd (true-not-false t refl)
       go (Present n) t = is-done
 
-  force-done : 1 ≤ s .pending → IsDone (outcomeOf force v m s .answer)
-  unfolding forceOf ownRows
-  force-done b = rw (rows-are x force, ne-eqb (s .pending) 0 (λ z. omega arith)) is-done
+  force-done : 1 ≤ s .pending → IsDone (outcomeOf (Force, noPayload) v m s .answer)
+  unfolding decided forceDone ownRows
+  force-done b = rw (rows-are x (Force, noPayload), ne-eqb (s .pending) 0 (λ z. omega arith)) is-done
 
   -- ---- a renewal of page p, while nothing is owed or pending
 
-  module _ (noting : notePending (s .note) ≡ false) (quiet : s .pending ≡ 0) (p : ℕ) (known : Known (g .pages) k p) where
+  module _ (noting : notePending (s .note) ≡ false) (quiet : s .pending ≡ 0) (p : ℕ)
+      (known : Known (g .pages) k p) where
     in-store : within (geometryOf v .pages) p ≡ true
     in-store = rw (geo x) (within-holds (g .pages) p (known .low) (known .high))
 
@@ -92,43 +97,48 @@ module _ {C : Type 0} {g : Geometry} {v m : List ℕ} {past : List StoredItem} {
         ))
 
     load-done : (r : ℕ) → within (frameCount (length m)) r ≡ true → held s p ≡ false → firstOf (loadRows v m s p r) ≢ 23
-        → IsDone (outcomeOf (load p r) v m s .answer)
-    unfolding loadOf ownRows
+        → IsDone (outcomeOf (Load p r, noPayload) v m s .answer)
+    unfolding decided loadDone ownRows
     load-done r f h n =
-        let a : firstOf (loadRows v m s p r) ≡ walkRows (chainBroken (geometryOf v) v s p) (chainBelow (geometryOf v) v s p) =
-        rows-are x (load p r) ∙ rw (in-store, f, not-blank, h, never-blocked x quiet r) in
+        let a : firstOf (loadRows v m s p r) ≡ walkRows (chainBroken (geometryOf v) v s p)
+        (chainBelow (geometryOf v) v s p) =
+        rows-are x (Load p r, noPayload) ∙ rw (in-store, f, not-blank, h, never-blocked x quiet r) in
         let z : firstOf (loadRows v m s p r) ≡ 0 =
-        a ∙ walk-ends (chainBroken (geometryOf v) v s p) (chainBelow (geometryOf v) v s p) (λ e. never-broken x p r (a ∙ e)) (λ e. n (a ∙ e)) in
+        a ∙ walk-ends (chainBroken (geometryOf v) v s p) (chainBelow (geometryOf v) v s p)
+        (λ e. never-broken x p r (a ∙ e)) (λ e. n (a ∙ e)) in
         rw z (is-repaired _)
 
     early : held s p ≡ true → notDurable m s p ≡ false
     early h = never-early x quiet p (known .low) (rw h)
 
-    backup-done : held s p ≡ true → freeSlot (geometryOf v) s ≤ geometryOf v .slots → notesFull (geometryOf v) v s ≡ false
-        → IsDone (outcomeOf (backup p (freeSlot (geometryOf v) s)) v m s .answer)
-    unfolding backupOf ownRows freeSlot
+    backup-done : held s p ≡ true → freeSlot (geometryOf v) s ≤ geometryOf v .slots
+        → notesFull (geometryOf v) v s ≡ false
+        → IsDone (outcomeOf (Backup p (freeSlot (geometryOf v) s), noPayload) v m s .answer)
+    unfolding decided backupDone ownRows freeSlot
     backup-done h b n =
         let q = first-from (λ (b : ℕ). not (slotUsed b (s .index))) (geometryOf v .slots) 1 in
         let u : slotUsed (freeSlot (geometryOf v) s) (s .index) ≡ false = not-true _ (q .hit (omega arith)) in
         let i : within (geometryOf v .slots) (freeSlot (geometryOf v) s) ≡ true = within-holds _ _ (q .low) b in
         let z : firstOf (backupRows v m s p (freeSlot (geometryOf v) s)) ≡ 0 =
-        rows-are x (backup p (freeSlot (geometryOf v) s)) ∙ rw (in-store, i, h, noting, n, early h, u) in
+        rows-are x (Backup p (freeSlot (geometryOf v) s), noPayload) ∙ rw (in-store, i, h, noting, n, early h, u) in
         rw z is-done
 
-    write-done : held s p ≡ true → pageDirty s p ≡ true → notesFull (geometryOf v) v s ≡ false → IsDone (outcomeOf (write p) v m s .answer)
-    unfolding writeOf ownRows
+    write-done : held s p ≡ true → pageDirty s p ≡ true → notesFull (geometryOf v) v s ≡ false
+        → IsDone (outcomeOf (Write p, noPayload) v m s .answer)
+    unfolding decided writeDone ownRows
     write-done h d n =
-        let z : firstOf (writeRows v m s p) ≡ 0 = rows-are x (write p) ∙ rw (in-store, h, d, noting, n, early h) in
+        let z : firstOf (writeRows v m s p) ≡ 0 = rows-are x (Write p, noPayload) ∙ rw (in-store, h, d, noting, n, early h) in
         rw (z, d) is-done
 
     put-done : held s p ≡ true → logFull (geometryOf v) v s ≡ false → IsDone (outcomeOf (refresh m s p) v m s .answer)
-    unfolding changeCall ownRows changeFits
+    unfolding decided changeDone ownRows changeFits
     put-done h f =
         let z : firstOf (changeRows v m s p (Put 0 1)) ≡ 0 =
         rows-are x (refresh m s p) ∙ rw (in-store, h, ne-eqb (s .pending) 16 (λ e. omega arith), f) in
         rw z is-done
 
-    renewal-done : (r : ℕ) (written : Bool) (c : Call) → within (frameCount (length m)) r ≡ true → Renewal v m s r p written c
+    renewal-done : (r : ℕ) (written : Bool) (c : Call) → within (frameCount (length m)) r ≡ true
+        → Renewal v m s r p written c
         → IsDone (outcomeOf c v m s .answer)
     renewal-done r written c f (loads h n e) = rw e (load-done r f h n)
     renewal-done r written c f (backs h t b n e) = rw e (backup-done h b n)
@@ -143,6 +153,11 @@ module _ {C : Type 0} {g : Geometry} {v m : List ℕ} {past : List StoredItem} {
       renewal-done a q _ (rw (geo x) (note-known x two i lo hi (rw (geo x) at t))) r _ c f n
   advice-done two r f c (byLog a q o n1 n2 i lo hi t fi n) =
       renewal-done a q _ (rw (geo x) (record-known x i lo (rw (geo x) at hi) (rw (geo x) at t))) r false c f n
+
+  -- so no row of its table holds
+  pub no-row : (two : 2 ≤ g .notes) (r : ℕ) → within (frameCount (length m)) r ≡ true → (c : Call) → Advised v m s r c
+      → firstOf (rowsOf c v m s) ≡ 0
+  no-row two r f c a = sym (call-refusal c v m s) ∙ advice-done two r f c a .taken
 
 pub advice-is-done : AdviceIsDone
 advice-is-done h legal m s e two r f c a =

@@ -1,63 +1,65 @@
 -- T2: over an advised call no more pages are written, owed notes counted (one lemma each).
-use mathlib.Core.Path.{_≡_, refl, sym, ap, _∙_, subst}
-use mathlib.Core.Logic.{_≢_, _⊎_, inl, inr, ⊎-elim}
-use mathlib.Core.Bool.{Bool, true, false, cond, _&&_, _||_, not}
-use mathlib.Core.List.{List, [], _∷_, _++_}
-use Prim.Native.Nat.{ℕ, zero, suc, _+_, _-_, _≤_, _<_}
+use mathlib.Core.Path.{_≡_, refl, sym, ap, _∙_}
+use mathlib.Core.Logic.{_≢_, ⊎-elim}
+use mathlib.Core.Bool.{true, false, _||_, not}
+use mathlib.Core.List.{List}
+use Prim.Native.Nat.{ℕ, suc, _+_, _-_, _≤_, _<_}
 use native.Mathlib.Omega.{arith}
 use native.Mathlib.Decide.{ℕ-discrete}
-use lib.Dec.{eqb, ltb}
-use lib.ListN.{length, getD, set}
+use lib.Dec.{eqb}
+use lib.ListN.{length, set}
 use lib.Seq.{getD-set-same, getD-set-other}
-use borrow.Author.Tests.{eqb-true, eq-eqb, ne-eqb}
+use borrow.Author.Tests.{eqb-true, eq-eqb}
 use Rattle.laws.proofs.Tables.{byCases, or-left, or-right, or-cases, and-left, and-right, true-not-false}
 use Rattle.model.specs.Geometry.{ring}
 use Rattle.model.specs.Item.{isWritten}
 use Rattle.model.specs.Index.{emptyEntry, entryRow, entryOf, enterNote, withNote}
 use Rattle.model.specs.Scan.{noteRecord}
-use Rattle.model.specs.Calls.{StoredItem, withFrame, withFrames, appendedState, notedState}
-use Rattle.model.specs.Carry.{countOf}
+use Rattle.model.specs.Outcome.{StoredItem}
+use Rattle.model.specs.Effects.{withFrames, appendedState, notedState}
 use Rattle.model.specs.AbstractLog.{Logged}
 use Rattle.model.specs.declared.geometry.Geometry.{Geometry}
 use Rattle.model.specs.declared.item.Note.{Note}
 use Rattle.model.specs.declared.state.Entry.{Entry}
 use Rattle.model.specs.declared.state.Frame.{Frame}
-use Rattle.model.specs.declared.state.PendingNote.{PendingNote}
 use Rattle.model.specs.declared.state.PendingNote.the-variants.{Absent, Present}
 use Rattle.model.specs.declared.state.State.{State}
 use Rattle.history.proofs.Entries.{note as note′, markAt}
-use Rattle.history.proofs.Context.{Ctx, sized, geo}
-use Rattle.model.specs.Upkeep.{everWritten, pendingWritten}
+use Rattle.history.proofs.Context.{Ctx, sized}
+use Rattle.upkeep_policy.specs.Upkeep.{everWritten, pendingWritten}
 use Rattle.upkeep_theory.proofs.Near.{wroteIn, wrote-note, stands-whole}
-use Rattle.upkeep_theory.proofs.Advise.{count-le, entry-written}
+use Rattle.upkeep_theory.proofs.Counting.{count-le}
+use Rattle.upkeep_theory.proofs.Written.{entry-written}
 use Rattle.upkeep_theory.proofs.Live.{noting-ok}
 use Rattle.upkeep_theory.proofs.Step.{place2}
 use Rattle.upkeep_theory.proofs.Same.{few-same, written-appended}
+use Rattle.upkeep_theory.proofs.StateCounts.{appended-counts}
 
 -- Load: frames alone
 pub few-load : (s : State) (fs : List Frame) → everWritten (withFrames s fs (s .note)) ≤ everWritten s
-few-load s fs = few-same s (withFrames s fs (s .note)) (λ i. refl) (λ i u. or-right (not (eqb (entryRow (s .index) i .written) 0)) u)
-
-appended-note : (s : State) (p f : ℕ) → appendedState s p f .note ≡ s .note
-unfolding appendedState
-appended-note s p f = refl
+few-load s fs =
+    few-same s (withFrames s fs (s .note)) (λ i. refl)
+    (λ i u. or-right (not (eqb (entryRow (s .index) i .written) 0)) u)
 
 -- the put
 pub few-put : (s : State) (p f : ℕ) → everWritten (appendedState s p f) ≤ everWritten s
 few-put s p f = few-same s (appendedState s p f) (written-appended s p f)
-    (λ i u. or-right (not (eqb (entryRow (s .index) i .written) 0)) (rw (appended-note s p f) at u))
+    (λ i u. or-right (not (eqb (entryRow (s .index) i .written) 0)) (rw (appended-counts s p f .3) at u))
 
 -- Backup: its note is no written one
-pub few-backup : (s : State) (fs : List Frame) (n : Note) → isWritten n ≡ false → everWritten (withFrames s fs (Present n)) ≤ everWritten s
+pub few-backup : (s : State) (fs : List Frame) (n : Note) → isWritten n ≡ false
+    → everWritten (withFrames s fs (Present n)) ≤ everWritten s
 few-backup s fs n b = few-same s (withFrames s fs (Present n)) (λ i. refl)
     (λ i u. absurd (true-not-false (and-left (isWritten n) (eqb (n .page) (suc i)) u) b))
 
 -- Write: of a page that has a written number
-pub few-write : (s : State) (fs : List Frame) (n : Note) → not (eqb (entryRow (s .index) (n .page - 1) .written) 0) ≡ true
+pub few-write : (s : State) (fs : List Frame) (n : Note)
+    → not (eqb (entryRow (s .index) (n .page - 1) .written) 0) ≡ true
     → everWritten (withFrames s fs (Present n)) ≤ everWritten s
 few-write s fs n h = few-same s (withFrames s fs (Present n)) (λ i. refl)
     (λ i u.
-    let e : n .page - 1 ≡ i = omega (arith, eqb-true (n .page) (suc i) (and-right (isWritten n) (eqb (n .page) (suc i)) u)) in
+    let e : n .page - 1 ≡ i =
+    omega (arith, eqb-true (n .page) (suc i) (and-right (isWritten n) (eqb (n .page) (suc i)) u)) in
     or-left (pendingWritten (s .note) (suc i)) (rw e at h))
 
 module _ {C : Type 0} {g : Geometry} {v m : List ℕ} {past : List StoredItem} {s : State} {k w : List Logged}
@@ -69,11 +71,14 @@ module _ {C : Type 0} {g : Geometry} {v m : List ℕ} {past : List StoredItem} {
   second-wrote turns n2 at2 wr =
       let a = place2 x turns n2 in
       let ab : a < length (x .ns) = omega (arith, x .al .notes-is) in
-      let is : noteRecord g v (suc a) ≡ note′ (x .ns) a = stands-whole g v k (x .hs) (x .ns) (x .no) a ab (omega (arith, x .al .notes-is)) .0 in
+      let is : noteRecord g v (suc a) ≡ note′ (x .ns) a =
+      stands-whole g v k (x .hs) (x .ns) (x .no) a ab (omega (arith, x .al .notes-is)) .0 in
       let f = x .no .fit a ab in
-      let y : wroteIn (x .ns) (note′ (x .ns) a .page - 1) ≡ true = wrote-note g v k (x .hs) (x .ns) (x .no) a ab (rw is at wr) in
-      let q : entryRow (s .index) (note′ (x .ns) a .page - 1) .written ≡ markAt (suc (note′ (x .ns) a .page - 1)) (x .ns) (length (x .ns)) .written =
-      entry-written x (everWritten s) (omega arith) (note′ (x .ns) a .page - 1) (omega (arith, f .low, f .high, sized x .p-high)) in
+      let y : wroteIn (x .ns) (note′ (x .ns) a .page - 1) ≡ true =
+      wrote-note g v k (x .hs) (x .ns) (x .no) a ab (rw is at wr) in
+      let q : entryRow (s .index) (note′ (x .ns) a .page - 1) .written ≡ markAt (suc (note′ (x .ns) a .page - 1))
+      (x .ns) (length (x .ns)) .written =
+      entry-written x (note′ (x .ns) a .page - 1) (omega (arith, f .low, f .high, sized x .p-high)) in
       rw (is, q) y
 
   -- Note: the owed note's page was counted
@@ -81,7 +86,8 @@ module _ {C : Type 0} {g : Geometry} {v m : List ℕ} {past : List StoredItem} {
   unfolding everWritten notedState enterNote
   few-noted n noting = count-le 64 _ _ each
     where
-      each : (i : ℕ) → i < 64 → (not (eqb (entryRow (enterNote (s .index) n) i .written) 0) || pendingWritten Absent (suc i)) ≡ true
+      each : (i : ℕ) → i < 64
+          → (not (eqb (entryRow (enterNote (s .index) n) i .written) 0) || pendingWritten Absent (suc i)) ≡ true
           → (not (eqb (entryRow (s .index) i .written) 0) || pendingWritten (s .note) (suc i)) ≡ true
       each i b t = elim (ℕ-discrete (n .page) (suc i)) [
         | yes e ↦ byCases (isWritten n)
@@ -99,16 +105,23 @@ module _ {C : Type 0} {g : Geometry} {v m : List ℕ} {past : List StoredItem} {
           same-here : (i : ℕ) → i < 64 → n .page - 1 ≡ i → isWritten n ≡ false
               → entryRow (enterNote (s .index) n) i .written ≡ entryRow (s .index) i .written
           same-here i b q u =
-              let z : entryRow (set (s .index) (n .page - 1) (withNote (entryOf (s .index) (n .page)) n)) (n .page - 1) .written ≡ entryRow (s .index) (n .page - 1) .written =
-              ap (λ (y : Entry). y .written) (getD-set-same (s .index) (n .page - 1) (withNote (entryOf (s .index) (n .page)) n) emptyEntry
+              let z : entryRow (set (s .index) (n .page - 1) (withNote (entryOf (s .index) (n .page)) n))
+              (n .page - 1) .written ≡ entryRow (s .index) (n .page - 1) .written =
+              ap (λ (y : Entry). y .written)
+              (getD-set-same (s .index) (n .page - 1) (withNote (entryOf (s .index) (n .page)) n) emptyEntry
               (omega (arith, x .al .index .size))) ∙ rw u in
-              ap (λ (j : ℕ). entryRow (enterNote (s .index) n) j .written) (sym q) ∙ (z ∙ ap (λ (j : ℕ). entryRow (s .index) j .written) q)
+              ap (λ (j : ℕ). entryRow (enterNote (s .index) n) j .written) (sym q)
+              ∙ (z ∙ ap (λ (j : ℕ). entryRow (s .index) j .written) q)
 
-          same-there : (i : ℕ) → n .page ≢ suc i → entryRow (enterNote (s .index) n) i .written ≡ entryRow (s .index) i .written
-          same-there i e = ap (λ (y : Entry). y .written) (getD-set-other (s .index) (n .page - 1) i (withNote (entryOf (s .index) (n .page)) n) emptyEntry
+          same-there : (i : ℕ) → n .page ≢ suc i
+              → entryRow (enterNote (s .index) n) i .written ≡ entryRow (s .index) i .written
+          same-there i e =
+              ap (λ (y : Entry). y .written)
+              (getD-set-other (s .index) (n .page - 1) i (withNote (entryOf (s .index) (n .page)) n) emptyEntry
               (λ z. e (omega (arith, noting-ok x n noting .low))))
 
           old : (i : ℕ) → (not (eqb (entryRow (s .index) i .written) 0) || false) ≡ true
               → (not (eqb (entryRow (s .index) i .written) 0) || pendingWritten (s .note) (suc i)) ≡ true
           old i t = or-left (pendingWritten (s .note) (suc i))
-              (⊎-elim (λ u. u) (λ u. absurd (true-not-false u refl)) (or-cases (not (eqb (entryRow (s .index) i .written) 0)) false t))
+              (⊎-elim (λ u. u) (λ u. absurd (true-not-false u refl))
+              (or-cases (not (eqb (entryRow (s .index) i .written) 0)) false t))

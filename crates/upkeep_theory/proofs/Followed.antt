@@ -2,66 +2,60 @@
 use Prim.Native.Nat.{ℕ, _≤_}
 use mathlib.Core.Path.{_≡_, refl, sym, ap, _∙_}
 use mathlib.Core.Logic.{_≢_}
-use mathlib.Core.Bool.{Bool, true, false, cond, _&&_, _||_, not}
+use mathlib.Core.Bool.{Bool, true, false, cond, _&&_, _||_}
 use mathlib.Core.List.{List, [], _∷_}
 use lib.Dec.{eqb, leb}
-use lib.ListN.{length, getD, drop}
+use lib.ListN.{length, getD}
 use borrow.Author.Tests.{eqb-true, leb-true, ne-eqb}
 use Rattle.laws.proofs.Tables.{and-left, and-right, all-at, not-true, true-not-false}
 use Rattle.laws.proofs.Changes.{change-back}
-use Rattle.laws.proofs.Mirror.{same-bytes}
+use Rattle.laws.proofs.Parts.{same-bytes}
 use Rattle.model.specs.Tables.{within}
 use Rattle.model.specs.Bytes.{sameBytes}
 use Rattle.model.specs.Change.{changeOf}
 use Rattle.model.specs.State.{frameCount}
-use Rattle.model.specs.Calls.{Call, begin, load, change, force, write, backup, release, note, startCarry, restamp, finishCarry}
-use Rattle.model.specs.Commands.{callOf}
+use Rattle.model.specs.Calls.{Call, codeOf}
+use Rattle.model.specs.declared.command.Command.{Command}
+use Rattle.model.specs.declared.command.Command.the-variants.{Begin, Load, Change, Force, Write, Backup, Release, Note, StartCarry, Restamp, FinishCarry}
 use Rattle.model.specs.History.{Power, off, on, Machine, Event, restart, perform, crash, crashIn, damage, step}
 use Rattle.model.specs.Carry.{carries}
-use Rattle.model.specs.Upkeep.{Advice, idle, stuck, make, commandOf, payloadOf, callNumbers, sameCall, followsCall, follows, adviceOf, cutsAfter, writtenPages, reservedFits, inBounds, disciplined}
-use Rattle.model.specs.UpkeepClaim.{CallIsTold}
+use Rattle.upkeep_policy.specs.Upkeep.{Advice, idle, stuck, make, sameCall, followsCall, follows, adviceOf, cutsAfter, writtenPages, reservedFits, inBounds, disciplined}
 
--- ---- a call from its numbers
+-- ---- a command from its code
 
-abbrev decoded : List ℕ → Call
+abbrev decoded : List ℕ → Command
 decoded xs =
     let n = getD xs 0 0 in
     let a = getD xs 1 0 in
     let b = getD xs 2 0 in
-    cond (eqb n 3) (begin a b (getD xs 3 0)) (cond (eqb n 4) (load a b)
-    (cond (eqb n 5) (change a (changeOf b (getD xs 3 0) (getD xs 4 0) (getD xs 5 0)) (drop 6 xs))
-    (cond (eqb n 6) force (cond (eqb n 7) (write a) (cond (eqb n 8) (backup a b) (cond (eqb n 9) note
-    (cond (eqb n 17) (release a) (cond (eqb n 18) startCarry (cond (eqb n 19) restamp finishCarry)))))))))
+    cond (eqb n 3) (Begin a b (getD xs 3 0)) (cond (eqb n 4) (Load a b)
+    (cond (eqb n 5) (Change a (changeOf b (getD xs 3 0) (getD xs 4 0) (getD xs 5 0)))
+    (cond (eqb n 6) Force (cond (eqb n 7) (Write a) (cond (eqb n 8) (Backup a b) (cond (eqb n 9) Note
+    (cond (eqb n 17) (Release a) (cond (eqb n 18) StartCarry (cond (eqb n 19) Restamp FinishCarry)))))))))
 
-decoded-is : (c : Call) → decoded (callNumbers c) ≡ c
-decoded-is (begin page frame fill) = refl
-decoded-is (load page frame) = refl
-decoded-is (change page c payload) = ap (λ x. change page x payload) (change-back c)
-decoded-is force = refl
-decoded-is (write page) = refl
-decoded-is (backup page slot) = refl
-decoded-is (release page) = refl
-decoded-is note = refl
-decoded-is startCarry = refl
-decoded-is restamp = refl
-decoded-is finishCarry = refl
+decoded-is : (c : Command) → decoded (codeOf c) ≡ c
+decoded-is (Begin page frame fill) = refl
+decoded-is (Load page frame) = refl
+decoded-is (Change page c) = ap (Change page) (change-back c)
+decoded-is Force = refl
+decoded-is (Write page) = refl
+decoded-is (Backup page slot) = refl
+decoded-is (Release page) = refl
+decoded-is Note = refl
+decoded-is StartCarry = refl
+decoded-is Restamp = refl
+decoded-is FinishCarry = refl
 
 pub same-call : (c a : Call) → sameCall c a ≡ true → c ≡ a
-same-call c a h = sym (decoded-is c) ∙ ap decoded (same-bytes (callNumbers c) (callNumbers a) h) ∙ decoded-is a
-
--- the command and the payload that the code gives back are that call
-pub call-is-told : CallIsTold
-call-is-told (begin page frame fill) = refl
-call-is-told (load page frame) = refl
-call-is-told (change page c payload) = refl
-call-is-told force = refl
-call-is-told (write page) = refl
-call-is-told (backup page slot) = refl
-call-is-told (release page) = refl
-call-is-told note = refl
-call-is-told startCarry = refl
-call-is-told restamp = refl
-call-is-told finishCarry = refl
+same-call c a h =
+    let codes = sameBytes (codeOf (c .0)) (codeOf (a .0)) in
+    let payloads = sameBytes (c .1) (a .1) in
+    let e : c .0 ≡ a .0 = sym (decoded-is (c .0))
+    ∙ (ap decoded (same-bytes (codeOf (c .0)) (codeOf (a .0)) (and-left codes payloads h)) ∙ decoded-is (a .0)) in
+    let f : c .1 ≡ a .1 = same-bytes (c .1) (a .1) (and-right codes payloads h) in
+    let g : _≡_ {A = Call} (c .0, c .1) (a .0, c .1) = ap (λ (x : Command). (x, c .1)) e in
+    let k : _≡_ {A = Call} (a .0, c .1) (a .0, a .1) = ap (λ (x : List ℕ). (a .0, x)) f in
+    g ∙ k
 
 -- ---- the propositions
 
@@ -123,11 +117,12 @@ bounded r W C w cuts h =
       few = few-cuts n cuts C (all-at tests 2 h);
     }
 
-both : (p q : Bool) → cond p q false ≡ true → (p ≡ true) × (q ≡ true)
+pub both : (p q : Bool) → cond p q false ≡ true → (p ≡ true) × (q ≡ true)
 both true q h = (refl, h)
 both false q h = absurd (true-not-false h refl)
 
-pub followed : (r W C : ℕ) (w : Machine) (cuts : ℕ) (es : List Event) → disciplined r W C w cuts es ≡ true → Followed r W C w cuts es
+pub followed : (r W C : ℕ) (w : Machine) (cuts : ℕ) (es : List Event) → disciplined r W C w cuts es ≡ true
+    → Followed r W C w cuts es
 unfolding disciplined Followed
 followed r W C w cuts [] h = bounded r W C w cuts h
 followed r W C w cuts (e ∷ es) h =

@@ -1,39 +1,35 @@
 -- T2's invariant at Make, and so in every machine that a kept history reaches.
-use mathlib.Core.Path.{_≡_, refl, sym, ap, _∙_, subst}
-use mathlib.Core.Logic.{_≢_, _⊎_, inl, inr, ⊎-elim}
-use mathlib.Core.Bool.{Bool, true, false, cond, _&&_, _||_, not, and-false}
-use mathlib.Core.List.{List, [], _∷_, _++_}
-use Prim.Native.Nat.{ℕ, zero, suc, _+_, _-_, _/_, _%_, _≤_, _<_}
+use mathlib.Core.Path.{_≡_, refl, subst}
+use mathlib.Core.Logic.{_⊎_}
+use mathlib.Core.Bool.{true, false, _&&_, and-false}
+use mathlib.Core.List.{[]}
+use Prim.Native.Nat.{ℕ, suc, _+_, _-_, _/_, _≤_}
 use native.Mathlib.Omega.{arith}
-use lib.Dec.{eqb, leb, ltb}
+use lib.Dec.{eqb, ltb}
 use lib.ListN.{length, replicate}
-use borrow.Author.Tests.{ltb-true, le-ltb, eq-eqb, le-leb}
-use Rattle.laws.proofs.Tables.{byCases, and-left, and-both, true-not-false}
+use borrow.Author.Tests.{ltb-true, le-ltb, le-leb}
+use Rattle.laws.proofs.Tables.{byCases, and-left, and-both}
 use Rattle.laws.proofs.Zeros.{zero-fails}
 use Rattle.laws.proofs.EmptyVolume.{empty-item}
 use Rattle.laws.proofs.Ring.{slot-in}
-use Rattle.model.specs.Tables.{every, within}
-use Rattle.model.specs.Checksum.{sealed}
-use Rattle.model.specs.Geometry.{tagOf, ring, geometryOf, validCounts, lengthFor, emptyVolume, item, recordAt, noteAt, slotOf, noteSlot, logSlot, withTag}
+use Rattle.model.specs.Geometry.{tagOf, ring, validCounts, lengthFor, emptyVolume, item, noteAt, slotOf, noteSlot}
 use Rattle.model.specs.Refusals.{makeRows}
-use Rattle.model.specs.Calls.{makeOf, refusalOf, restartState}
-use Rattle.model.specs.AbstractLog.{AbstractLog, emptyLog}
-use Rattle.model.specs.State.{noteNeeded, recordNeeded}
-use Rattle.model.specs.History.{Power, off, on, Machine, freshMachine, allAllowed, run, logAfter}
+use Rattle.model.specs.Restart.{makeOf, restartState}
+use Rattle.model.specs.AbstractLog.{emptyLog}
+use Rattle.model.specs.State.{noteNeeded}
+use Rattle.model.specs.History.{freshMachine, allAllowed, run, logAfter}
 use Rattle.model.specs.Carry.{startsIn}
-use Rattle.model.specs.Claim.{History, Legal, fresh, reached, logOf, durableOf}
+use Rattle.model.specs.Claim.{History, Legal, fresh, reached, logOf}
 use Rattle.model.specs.declared.geometry.Geometry.{Geometry}
 use Rattle.model.specs.declared.geometry.Heading.the-variants.{Second}
-use Rattle.model.specs.declared.state.State.{State}
-use Rattle.model.specs.declared.state.PendingNote.the-variants.{Absent, Present}
+use Rattle.model.specs.declared.state.PendingNote.the-variants.{Absent}
 use Rattle.history.proofs.Inv.{Inv}
 use Rattle.history.proofs.LogScan.{durable-count}
-use Rattle.history.proofs.Reached.{Undamaged, madeWith, present, tied, uncarried}
-use Rattle.model.specs.Upkeep.{reserve, noteAhead, logAhead}
+use Rattle.history.proofs.Reached.{Undamaged, madeWith, tied, uncarried}
+use Rattle.upkeep_policy.specs.Upkeep.{noteAhead, logAhead}
 use Rattle.upkeep_theory.proofs.Followed.{Followed}
-use Rattle.model.specs.UpkeepClaim.{Roomy}
 use Rattle.upkeep_theory.proofs.Tidy.{Tidy, idle}
-use Rattle.upkeep_theory.proofs.Along.{TidyAt, FollowedAt, along}
+use Rattle.upkeep_theory.proofs.Along.{FollowedAt, along}
 
 -- the history before its events
 abbrev begun : History → History
@@ -63,7 +59,8 @@ module _ (h : History) (legal : Legal h) (second : h .heading ≡ Second) (l2 : 
       let i = tied (begun h) legal0 in
       let e = uncarried (begun h) legal0 refl in
       let i′ : Inv (Undamaged (begun h)) g (fresh h .volume) (fresh h .past) (fresh h .power) emptyLog =
-      subst (λ (y : Geometry). Inv (Undamaged (begun h)) y (fresh h .volume) (fresh h .past) (fresh h .power) emptyLog) e i in
+      subst (λ (y : Geometry). Inv (Undamaged (begun h)) y (fresh h .volume) (fresh h .past) (fresh h .power) emptyLog)
+      e i in
       record {
         ns = i′ .ns;
         holds = i′ .holds;
@@ -100,7 +97,9 @@ module _ (h : History) (legal : Legal h) (second : h .heading ≡ Second) (l2 : 
 
   none-durable : restartState (fresh h .volume) .durable ≡ 0
   unfolding restartState
-  none-durable = let i = inv0 in rw (i .holds .vol .geo) (durable-count g (fresh h .volume) [] (i .holds) (i .ns) (i .noted))
+  none-durable =
+      let i = inv0 in
+      rw (i .holds .vol .geo) (durable-count g (fresh h .volume) [] (i .holds) (i .ns) (i .noted))
 
   rests : (restartState (fresh h .volume) .note ≡ Absent) × (restartState (fresh h .volume) .pending ≡ 0)
   unfolding restartState
@@ -114,15 +113,20 @@ module _ (h : History) (legal : Legal h) (second : h .heading ≡ Second) (l2 : 
       let d : s .durable ≡ 0 = none-durable in
       let na : (i : ℕ) → noteAhead g v s i ≡ false = λ i. byCases (ltb (g .notes) (s .notes + i))
       (λ t.
-      let q : s .notes + i - g .notes ≡ suc (s .notes + i - g .notes - 1) = omega (arith, ltb-true (g .notes) (s .notes + i) t) in
-      rw (q, no-note-needed (s .notes) (s .notes + i - g .notes - 1)) (and-false (ltb (g .notes) (s .notes + i)))) (λ t. rw t) in
-      idle g v s (rests .0) (rests .1) l2 n2 (na 1) (na 2) (λ i a b. rw (le-ltb (g .records) (s .durable + i) (omega arith))) 0 .tidy
+      let q : s .notes + i - g .notes ≡ suc (s .notes + i - g .notes - 1) =
+      omega (arith, ltb-true (g .notes) (s .notes + i) t) in
+      rw (q, no-note-needed (s .notes) (s .notes + i - g .notes - 1)) (and-false (ltb (g .notes) (s .notes + i))))
+      (λ t. rw t) in
+      idle g v s (rests .0) (rests .1) l2 n2 (na 1) (na 2)
+      (λ i a b. rw (le-ltb (g .records) (s .durable + i) (omega arith))) 0 .tidy
 
   pub turns : ring g ≡ true
   turns = let t : eqb (tagOf (h .heading)) 0x32 ≡ true = rw second in and-both t (le-leb 2 (h .records) l2)
 
   -- in every machine that a kept history reaches
-  pub followed-tidy : (r W C : ℕ) → h .pages + W + 2 ≤ h .notes → (W ≡ 0) ⊎ (W + C ≤ h .records / 2) → startsIn (h .events) ≡ false
+  pub followed-tidy : (r W C : ℕ) → h .pages + W + 2 ≤ h .notes → (W ≡ 0) ⊎ (W + C ≤ h .records / 2)
+      → startsIn (h .events) ≡ false
       → Followed r W C (fresh h) 0 (h .events) → FollowedAt (madeWith h) r W C (reached h) (logOf h)
   unfolding reached logOf freshMachine
-  followed-tidy r W C room reserves z k = along g turns n2 r W C room reserves (h .events) (fresh h) emptyLog 0 inv0 tidy0 (legal .events) z k
+  followed-tidy r W C room reserves z k =
+      along g turns n2 r W C room reserves (h .events) (fresh h) emptyLog 0 inv0 tidy0 (legal .events) z k

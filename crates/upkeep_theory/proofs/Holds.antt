@@ -1,6 +1,5 @@
 -- All that upkeep promises.
-use Rattle.model.specs.UpkeepClaim.{UpkeepHolds}
-use Rattle.upkeep_theory.proofs.Followed.{call-is-told}
+use Rattle.upkeep_policy.specs.UpkeepClaim.{UpkeepHolds}
 use Rattle.upkeep_theory.proofs.Idle.{idle-is-safe}
 use Rattle.upkeep_theory.proofs.Slots.{slot-left, lost-is-lost}
 use Rattle.upkeep_theory.proofs.Quiet.{idle-is-free}
@@ -20,5 +19,4 @@ upkeep-holds =
       lostIsLost = lost-is-lost;
       textStays = text-stays;
       framesStay = frames-stay;
-      callIsTold = call-is-told;
     }

@@ -1,33 +1,34 @@
--- T1 on any state: where upkeep is idle nothing is owed, nothing is pending, and log and notes have room, so that no call is refused 11
+-- T1 on any state: where upkeep is idle nothing is owed, nothing is pending, and log and notes have room, so that no
+-- call is refused 11
 -- to 14.
-use mathlib.Core.Path.{_≡_, refl, sym, ap, _∙_}
-use mathlib.Core.Logic.{_≢_, _⊎_, inl, inr, ⊎-elim}
+use mathlib.Core.Path.{_≡_, refl, sym, _∙_}
+use mathlib.Core.Logic.{_≢_, _⊎_, ⊎-elim}
 use mathlib.Core.Bool.{Bool, true, false, cond, _&&_, _||_, not, and-false}
 use mathlib.Core.List.{List, [], _∷_}
-use Prim.Native.Nat.{ℕ, zero, suc, _+_, _-_, _/_, _≤_, _<_}
-use native.Mathlib.Nat.{add-zero}
+use Prim.Native.Nat.{ℕ, suc, _+_, _-_, _≤_, _<_}
 use native.Mathlib.Numerals.{add-one}
 use native.Mathlib.Omega.{arith}
 use lib.Dec.{eqb, leb, ltb}
 use lib.ListN.{length}
-use borrow.Author.Tests.{leb-true, leb-false, ltb-true, ltb-false, lt-ltb, le-ltb, le-leb, lt-leb, ne-eqb}
-use Rattle.laws.proofs.Tables.{byCases, and-left, and-right, true-not-false, when-true, when-false}
-use Rattle.laws.proofs.Search.{First, first-from}
+use borrow.Author.Tests.{leb-true, leb-false, ltb-false, lt-ltb, le-ltb, lt-leb, ne-eqb}
+use Rattle.laws.proofs.Tables.{byCases, and-right, true-not-false, when-false}
+use Rattle.laws.proofs.Search.{first-from}
 use Rattle.model.specs.Tables.{Row, firstOf, within}
-use Rattle.model.specs.Geometry.{ring, topNumber, most, mostNotes, geometryOf}
-use Rattle.model.specs.Passes.{firstFrom}
+use Rattle.model.specs.Geometry.{ring, topNumber, geometryOf}
 use Rattle.model.specs.Change.{fits}
 use Rattle.model.specs.Index.{slotUsed}
 use Rattle.model.specs.State.{frameCount, recordNeeded, logFull, noteNeeded, notesFull, notePending, held, blank}
-use Rattle.model.specs.Refusals.{stateRows, frameBlocked, pageDirty, notDurable, loadRows, beginRows, changeRows, forceRows, writeRows, backupRows, releaseRows, noteRows}
-use Rattle.model.specs.Calls.{Call, begin, load, change, force, write, backup, release, note, startCarry, restamp, finishCarry, rowsOf, outcomeOf, refusalOf}
+use Rattle.model.specs.Refusals.{stateRows, frameBlocked, pageDirty, notDurable, loadRows, beginRows, changeRows}
+use Rattle.model.specs.Refusals.{forceRows, writeRows, backupRows, releaseRows, noteRows}
+use Rattle.model.specs.Calls.{Call, rowsOf, noPayload}
+use Rattle.model.specs.declared.command.Command.the-variants.{Begin, Load, Change, Force, Write, Backup, Release, Note, StartCarry, Restamp, FinishCarry}
 use Rattle.model.specs.Carry.{carries}
-use Rattle.model.specs.declared.geometry.Geometry.{Geometry}
 use Rattle.model.specs.declared.state.State.{State}
 use Rattle.history.proofs.Loads.{Others, none-other}
 use Rattle.history.proofs.Refusals.{call-refusal}
-use Rattle.model.specs.Upkeep.{Advice, idle, stuck, make, noteAhead, logAhead, reserve, firstNeededNote, firstNeededLog, noSlot, freeSlot, refresh, renew, renewNote, renewLog, upkeepOf}
-use Rattle.model.specs.UpkeepClaim.{NotFull, IdleIsSafe}
+use Rattle.upkeep_policy.specs.Upkeep.{Advice, idle, stuck, make, noteAhead, logAhead, reserve, firstNeededNote}
+use Rattle.upkeep_policy.specs.Upkeep.{firstNeededLog, noSlot, freeSlot, refresh, renew, renewNote, renewLog, upkeepOf}
+use Rattle.upkeep_policy.specs.UpkeepClaim.{NotFull, IdleIsSafe}
 
 -- ---- what an advice is not
 
@@ -50,10 +51,11 @@ renew-busy v m s r p written =
     both-busy (held s p) _ _
     (both-busy written _ _
     (both-busy (pageDirty s p) _ _
-    (both-busy (notesFull g v s) _ _ (stuck-not-idle p refl) (make-not-idle (write p) refl))
+    (both-busy (notesFull g v s) _ _ (stuck-not-idle p refl) (make-not-idle (Write p, noPayload) refl))
     (both-busy (logFull g v s) _ _ (stuck-not-idle p refl) (make-not-idle (refresh m s p) refl)))
-    (both-busy (noSlot g s || notesFull g v s) _ _ (stuck-not-idle p refl) (make-not-idle (backup p (freeSlot g s)) refl)))
-    (both-busy (eqb (firstOf (loadRows v m s p r)) 23) _ _ (stuck-not-idle p refl) (make-not-idle (load p r) refl))
+    (both-busy (noSlot g s || notesFull g v s) _ _ (stuck-not-idle p refl)
+    (make-not-idle (Backup p (freeSlot g s), noPayload) refl)))
+    (both-busy (eqb (firstOf (loadRows v m s p r)) 23) _ _ (stuck-not-idle p refl) (make-not-idle (Load p r, noPayload) refl))
 
 -- ---- what idle says
 
@@ -77,19 +79,21 @@ module _ (v m : List ℕ) (s : State) (r : ℕ) where
   pub idle-closed : upkeepOf v m s r ≡ idle → (notePending (s .note) ≡ false) × (s .pending ≡ 0)
   unfolding upkeepOf
   idle-closed e =
-      let a = pick-else (notePending (s .note)) (make note) _ (make-not-idle note refl) e in
-      let b = pick-else (ltb 0 (s .pending)) (make force) _ (make-not-idle force refl) (a .1) in
+      let a = pick-else (notePending (s .note)) (make (Note, noPayload)) _ (make-not-idle (Note, noPayload) refl) e in
+      let b = pick-else (ltb 0 (s .pending)) (make (Force, noPayload)) _ (make-not-idle (Force, noPayload) refl) (a .1) in
       (a .0, omega (arith, ltb-false 0 (s .pending) (b .0)))
 
   pub idle-rests : ring (geometryOf v) ≡ true → upkeepOf v m s r ≡ idle → Rest v s
   unfolding upkeepOf firstNeededNote firstNeededLog
   idle-rests o e =
       let g = geometryOf v in
-      let a = pick-else (notePending (s .note)) (make note) _ (make-not-idle note refl) e in
-      let b = pick-else (ltb 0 (s .pending)) (make force) _ (make-not-idle force refl) (a .1) in
+      let a = pick-else (notePending (s .note)) (make (Note, noPayload)) _ (make-not-idle (Note, noPayload) refl) e in
+      let b = pick-else (ltb 0 (s .pending)) (make (Force, noPayload)) _ (make-not-idle (Force, noPayload) refl) (a .1) in
       let c = pick-then (ring g) _ idle o (b .1) in
-      let d = pick-else (leb (firstNeededNote g v s) 2) (renewNote v m s r (firstNeededNote g v s)) _ (renew-busy v m s r _ _) c in
-      let f = pick-else (leb (firstNeededLog g v s) (reserve g)) (renewLog v m s r (firstNeededLog g v s)) idle (renew-busy v m s r _ _) (d .1) in
+      let d = pick-else (leb (firstNeededNote g v s) 2) (renewNote v m s r (firstNeededNote g v s)) _
+      (renew-busy v m s r _ _) c in
+      let f = pick-else (leb (firstNeededLog g v s) (reserve g)) (renewLog v m s r (firstNeededLog g v s)) idle
+      (renew-busy v m s r _ _) (d .1) in
       let n = first-from (noteAhead g v s) 2 1 in
       let l = first-from (logAhead g v s) (reserve g) 1 in
       record {
@@ -174,29 +178,45 @@ none-harmless n nz (t ∷ ts) o = ⊎-elim
     pick true a k q p = p
     pick false a k q p = q
 
-pub not-full : (v m : List ℕ) (s : State) → Open v s → (c : Call) → carries c ≡ false → NotFull (firstOf (rowsOf c v m s))
+pub not-full : (v m : List ℕ) (s : State) → Open v s → (c : Call) → carries c ≡ false
+    → NotFull (firstOf (rowsOf c v m s))
 unfolding beginRows loadRows changeRows forceRows writeRows backupRows releaseRows noteRows
-not-full v m s o (begin p f x) e = rw (o .pending, o .log)
-    (few-rows (stateRows v m s ((not (within (geometryOf v .pages) p), 3) ∷ (not (within (frameCount (length m)) f), 4) ∷ (not (blank s p), 9)
+not-full v m s o (Begin p f x, _) e = rw (o .pending, o .log)
+    (few-rows
+    (stateRows v m s ((not (within (geometryOf v .pages) p), 3) ∷ (not (within (frameCount (length m)) f), 4)
+    ∷ (not (blank s p), 9)
     ∷ (frameBlocked s f, 10) ∷ [])) (omega arith) (omega arith) (omega arith) (omega arith))
-not-full v m s o (load p f) e = few-rows (loadRows v m s p f) (omega arith) (omega arith) (omega arith) (omega arith)
-not-full v m s o (change p c x) e = rw (o .pending, o .log)
-    (few-rows (stateRows v m s ((not (within (geometryOf v .pages) p), 3) ∷ (not (fits c), 6) ∷ (not (held s p), 8) ∷ []))
+not-full v m s o (Load p f, _) e = few-rows (loadRows v m s p f) (omega arith) (omega arith) (omega arith) (omega arith)
+not-full v m s o (Change p c, x) e = rw (o .pending, o .log)
+    (few-rows
+    (stateRows v m s ((not (within (geometryOf v .pages) p), 3) ∷ (not (fits c), 6) ∷ (not (held s p), 8) ∷ []))
     (omega arith) (omega arith) (omega arith) (omega arith))
-not-full v m s o force e = few-rows (forceRows v m s) (omega arith) (omega arith) (omega arith) (omega arith)
-not-full v m s o (write p) e =
-    rw (no-and (pageDirty s p) (notePending (s .note)) (o .noting), no-and (pageDirty s p) (notesFull (geometryOf v) v s) (o .notes))
-    (few-rows (stateRows v m s ((not (within (geometryOf v .pages) p), 3) ∷ (not (held s p), 8) ∷ (pageDirty s p && notDurable m s p, 15) ∷ []))
+not-full v m s o (Force, _) e = few-rows (forceRows v m s) (omega arith) (omega arith) (omega arith) (omega arith)
+not-full v m s o (Write p, _) e =
+    rw (
+      no-and (pageDirty s p) (notePending (s .note)) (o .noting),
+      no-and (pageDirty s p)
+          (notesFull (geometryOf v) v s) (o .notes),
+    )
+    (few-rows
+    (stateRows v m s
+    ((not (within (geometryOf v .pages) p), 3) ∷ (not (held s p), 8) ∷ (
+      pageDirty s p && notDurable m s
+          p,
+      15,
+    ) ∷ []))
     (omega arith) (omega arith) (omega arith) (omega arith))
-not-full v m s o (backup p b) e = rw (o .noting, o .notes)
-    (few-rows (stateRows v m s ((not (within (geometryOf v .pages) p), 3) ∷ (not (within (geometryOf v .slots) b), 5) ∷ (not (held s p), 8)
+not-full v m s o (Backup p b, _) e = rw (o .noting, o .notes)
+    (few-rows
+    (stateRows v m s ((not (within (geometryOf v .pages) p), 3) ∷ (not (within (geometryOf v .slots) b), 5)
+    ∷ (not (held s p), 8)
     ∷ (notDurable m s p, 15) ∷ (slotUsed b (s .index), 16) ∷ []))
     (omega arith) (omega arith) (omega arith) (omega arith))
-not-full v m s o (release p) e = few-rows (releaseRows v m s p) (omega arith) (omega arith) (omega arith) (omega arith)
-not-full v m s o note e = few-rows (noteRows v m s) (omega arith) (omega arith) (omega arith) (omega arith)
-not-full v m s o startCarry e = absurd (true-not-false refl e)
-not-full v m s o restamp e = absurd (true-not-false refl e)
-not-full v m s o finishCarry e = absurd (true-not-false refl e)
+not-full v m s o (Release p, _) e = few-rows (releaseRows v m s p) (omega arith) (omega arith) (omega arith) (omega arith)
+not-full v m s o (Note, _) e = few-rows (noteRows v m s) (omega arith) (omega arith) (omega arith) (omega arith)
+not-full v m s o (StartCarry, _) e = absurd (true-not-false refl e)
+not-full v m s o (Restamp, _) e = absurd (true-not-false refl e)
+not-full v m s o (FinishCarry, _) e = absurd (true-not-false refl e)
 
 -- T1
 pub idle-is-safe : IdleIsSafe

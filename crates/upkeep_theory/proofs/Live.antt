@@ -1,42 +1,43 @@
 -- What T2's steps ask of a machine that a history reached: the marks of the next states, and what an owed backup says.
-use mathlib.Core.Path.{_≡_, refl, sym, ap, _∙_, subst}
-use mathlib.Core.Logic.{_≢_, _⊎_, inl, inr, ⊎-elim}
-use mathlib.Core.Bool.{Bool, true, false, cond, _&&_, _||_, not}
-use mathlib.Core.List.{List, [], _∷_, _++_}
-use Prim.Native.Nat.{ℕ, zero, suc, _+_, _-_, _≤_, _<_}
+use mathlib.Core.Path.{_≡_, refl, sym, ap, _∙_}
+use mathlib.Core.Logic.{_≢_}
+use mathlib.Core.Bool.{true, false, _&&_, not}
+use mathlib.Core.List.{List, [], _∷_}
+use Prim.Native.Nat.{ℕ, suc, _+_, _-_, _≤_, _<_}
 use native.Mathlib.Omega.{arith}
-use native.Mathlib.Decide.{decLt, ℕ-discrete}
-use lib.Dec.{eqb, leb, ltb}
-use lib.ListN.{length, getD, set, List·getD-append}
+use native.Mathlib.Decide.{ℕ-discrete}
+use lib.Dec.{eqb, leb}
+use lib.ListN.{length, List·getD-append}
 use lib.Seq.{getD-set-same, getD-set-other}
 use borrow.Author.Tests.{le-ltb}
-use Rattle.laws.proofs.Tables.{byCases, all-at, true-not-false}
-use Rattle.laws.proofs.Notes.{note-length}
+use Rattle.laws.proofs.Tables.{byCases, all-at}
 use Rattle.model.specs.Tables.{within}
 use Rattle.model.specs.Checksum.{sealed}
-use Rattle.model.specs.Geometry.{topNumber, geometryOf, item, logSlot}
+use Rattle.model.specs.Geometry.{item, logSlot}
 use Rattle.model.specs.Item.{imageLsn, isWritten, noteOf, noteBytes}
-use Rattle.model.specs.Index.{emptyEntry, entryOf, setEntry, withLast, withDurable, withNote, enterNote}
-use Rattle.model.specs.Scan.{logRecord, noteRecord, durableCount, noteCount, indexOf}
-use Rattle.model.specs.State.{frameBytes, holder, held, lastNumber, recordNeeded}
-use Rattle.model.specs.Calls.{StoredItem, appendedState, forcedState, notedState, restartState}
+use Rattle.model.specs.Index.{emptyEntry, entryOf, withNote, enterNote}
+use Rattle.model.specs.Scan.{logRecord, indexOf}
+use Rattle.model.specs.State.{frameBytes, holder, recordNeeded}
+use Rattle.model.specs.Outcome.{StoredItem}
+use Rattle.model.specs.Effects.{appendedState, forcedState, notedState}
+use Rattle.model.specs.Restart.{restartState}
 use Rattle.model.specs.AbstractLog.{Logged}
 use Rattle.model.specs.declared.geometry.Geometry.{Geometry}
 use Rattle.model.specs.declared.item.Note.{Note}
 use Rattle.model.specs.declared.state.Entry.{Entry}
 use Rattle.model.specs.declared.state.State.{State}
-use Rattle.model.specs.declared.state.PendingNote.the-variants.{Absent, Present}
-use Rattle.history.proofs.Logs.{noLogged, at, lastAt, lastOf, bodyOf, last-ge, last-le}
+use Rattle.model.specs.declared.state.PendingNote.the-variants.{Present}
+use Rattle.history.proofs.Logs.{noLogged, at, lastOf, bodyOf, last-ge, last-le}
 use Rattle.history.proofs.Leaf.{frame-lsn, note-read}
 use Rattle.history.proofs.Entries.{markAt, entryFrom, note, NoteOk}
-use Rattle.history.proofs.Sections.{volume-sized, most-high, notes-high}
+use Rattle.history.proofs.Sections.{notes-high}
 use Rattle.history.proofs.Disk.{Holds, Noted}
 use Rattle.history.proofs.NoteScan.{note-count, index-is}
 use Rattle.history.proofs.LogScan.{durable-count}
 use Rattle.history.proofs.Inv.{PendingOk}
-use Rattle.history.proofs.Context.{Ctx, sized, geo, len, few, body-size, entry-is, Found, found-frame}
+use Rattle.history.proofs.Context.{Ctx, sized, geo, len, few, body-size, entry-is, Found}
 use Rattle.upkeep_theory.proofs.Shift.{MoreMarks}
-use Rattle.upkeep_theory.proofs.Tidy.{field-set, SameMarks, marks-index}
+use Rattle.upkeep_theory.proofs.Apart.{field-set, SameMarks}
 use Rattle.upkeep_theory.proofs.Pages.{record-stands}
 use Rattle.upkeep_theory.proofs.Quiet.{all-durable}
 
@@ -67,15 +68,19 @@ module _ {C : Type 0} {g : Geometry} {v m : List ℕ} {past : List StoredItem} {
   pub marks-restart : (v′ : List ℕ) (h : Holds g v′ k) (o : Noted C g v′ k (x .ns)) → SameMarks g s (restartState v′)
   unfolding restartState
   marks-restart v′ h o =
-      let e : (p : ℕ) → 1 ≤ p → p ≤ g .pages → entryOf (indexOf g v′) p ≡ entryFrom (lastOf p k) (lastOf p k) (markAt p (x .ns) (length (x .ns))) =
+      let e : (p : ℕ) → 1 ≤ p → p ≤ g .pages
+      → entryOf (indexOf g v′) p ≡ entryFrom (lastOf p k) (lastOf p k) (markAt p (x .ns) (length (x .ns))) =
       λ p a b. index-is g v′ k h (x .ns) o .entry p a (omega (arith, sized x .p-high)) in
       rw (h .vol .geo) (record {
         slot = λ p a b. ap (λ (y : Entry). y .slot) (e p a b) ∙ sym (ap (λ (y : Entry). y .slot) (entry-is x p a b));
-        backup = λ p a b. ap (λ (y : Entry). y .backup) (e p a b) ∙ sym (ap (λ (y : Entry). y .backup) (entry-is x p a b));
-        written = λ p a b. ap (λ (y : Entry). y .written) (e p a b) ∙ sym (ap (λ (y : Entry). y .written) (entry-is x p a b));
+        backup = λ p a b. ap (λ (y : Entry). y .backup) (e p a b)
+            ∙ sym (ap (λ (y : Entry). y .backup) (entry-is x p a b));
+        written = λ p a b. ap (λ (y : Entry). y .written) (e p a b)
+            ∙ sym (ap (λ (y : Entry). y .written) (entry-is x p a b));
       })
 
-  pub durable-restart : (v′ : List ℕ) (h : Holds g v′ k) (o : Noted C g v′ k (x .ns)) → restartState v′ .durable ≡ s .durable
+  pub durable-restart : (v′ : List ℕ) (h : Holds g v′ k) (o : Noted C g v′ k (x .ns))
+      → restartState v′ .durable ≡ s .durable
   unfolding restartState
   durable-restart v′ h o = rw (h .vol .geo) (durable-count g v′ k h (x .ns) o ∙ sym (x .al .log .durable-is))
 
@@ -96,7 +101,8 @@ module _ {C : Type 0} {g : Geometry} {v m : List ℕ} {past : List StoredItem} {
     noting-number = omega (arith, noting-ok .number-is, x .al .notes-is)
 
     pub noting-back : noteOf (noteBytes n) ≡ n
-    noting-back = note-read n (omega (arith, noting-ok .number-is, noting-fits .1, notes-high g (sized x))) (omega (arith, noting-ok .high, sized x .p-high))
+    noting-back = note-read n (omega (arith, noting-ok .number-is, noting-fits .1, notes-high g (sized x)))
+        (omega (arith, noting-ok .high, sized x .p-high))
         (omega (arith, noting-ok .below, len x, few x))
 
     size : length (s .index) ≡ 64
@@ -109,12 +115,14 @@ module _ {C : Type 0} {g : Geometry} {v m : List ℕ} {past : List StoredItem} {
 
     entry-old : (p : ℕ) → 1 ≤ p → p ≢ n .page → entryOf (notedState s n .index) p ≡ entryOf (s .index) p
     unfolding notedState enterNote
-    entry-old p lo ne = getD-set-other (s .index) (n .page - 1) (p - 1) (withNote (entryOf (s .index) (n .page)) n) emptyEntry
+    entry-old p lo ne =
+        getD-set-other (s .index) (n .page - 1) (p - 1) (withNote (entryOf (s .index) (n .page)) n) emptyEntry
         (λ z. ne (omega (arith, noting-ok .low)))
 
     pub noted-slot : isWritten n ≡ false → entryOf (notedState s n .index) (n .page) .slot ≢ 0
     noted-slot t z =
-        let e : entryOf (notedState s n .index) (n .page) .slot ≡ n .slot = ap (λ (y : Entry). y .slot) entry-new ∙ rw t in
+        let e : entryOf (notedState s n .index) (n .page) .slot ≡ n .slot =
+        ap (λ (y : Entry). y .slot) entry-new ∙ rw t in
         omega (arith, noting-ok .backed t .low)
 
     pub noted-backup : isWritten n ≡ false → entryOf (notedState s n .index) (n .page) .backup ≡ n .lsn
@@ -142,10 +150,12 @@ module _ {C : Type 0} {g : Geometry} {v m : List ℕ} {past : List StoredItem} {
           ];
         }
 
-    pub noted-wrote : (p : ℕ) → 1 ≤ p → p ≤ g .pages → entryOf (notedState s n .index) p .written ≡ 0 → entryOf (s .index) p .written ≡ 0
+    pub noted-wrote : (p : ℕ) → 1 ≤ p → p ≤ g .pages → entryOf (notedState s n .index) p .written ≡ 0
+        → entryOf (s .index) p .written ≡ 0
     noted-wrote p a b z = elim (ℕ-discrete p (n .page)) [
       | yes e ↦ rw e (byCases (isWritten n)
-          (λ t. let q : entryOf (notedState s n .index) (n .page) .written ≡ n .lsn = ap (λ (y : Entry). y .written) entry-new ∙ rw t in
+          (λ t. let q : entryOf (notedState s n .index) (n .page) .written ≡ n .lsn =
+          ap (λ (y : Entry). y .written) entry-new ∙ rw t in
           let y : entryOf (notedState s n .index) (n .page) .written ≡ 0 = rw e at z in
           absurd (omega (arith, noting-ok .some)))
           (λ t. let y : entryOf (notedState s n .index) (n .page) .written ≡ 0 = rw e at z in
@@ -158,7 +168,8 @@ module _ {C : Type 0} {g : Geometry} {v m : List ℕ} {past : List StoredItem} {
   module _ (quiet : s .pending ≡ 0) (p : ℕ) (f : Found x p) where
     pub frame-number : imageLsn (frameBytes m (holder s p)) ≡ lastOf p (x .all)
     frame-number = rw (f .framed .frame-is) (frame-lsn g p (lastOf p (x .all)) (bodyOf p (x .all))
-        (omega (arith, f .framed .high, sized x .p-high)) (omega (arith, few x, last-le p (x .all) (length (x .all)))) (body-size x p))
+        (omega (arith, f .framed .high, sized x .p-high)) (omega (arith, few x, last-le p (x .all) (length (x .all))))
+        (body-size x p))
 
     pub frame-above : (j : ℕ) → s .durable ≤ j + g .records → suc j ≤ s .durable → logRecord g v (suc j) .page ≡ p
         → recordNeeded g v s (suc j) ≡ true → suc j ≤ imageLsn (frameBytes m (holder s p))
@@ -167,9 +178,11 @@ module _ {C : Type 0} {g : Geometry} {v m : List ℕ} {past : List StoredItem} {
         let en = entryOf (s .index) (logRecord g v (suc j) .page) in
         let sl : sealed 60 (item g v (logSlot g (suc j))) ≡ true =
         all-at (sealed 60 (item g v (logSlot g (suc j))) ∷ eqb (logRecord g v (suc j) .lsn) (suc j)
-        ∷ not (within (g .pages) (logRecord g v (suc j) .page) && (not (eqb (en .slot) 0) && leb (suc j) (en .backup))) ∷ []) 0
+        ∷ not (within (g .pages) (logRecord g v (suc j) .page) && (not (eqb (en .slot) 0) && leb (suc j) (en .backup)))
+        ∷ []) 0
         (rw (le-ltb (s .durable) (suc j) b) at t) in
         let jb : j < length k = omega (arith, x .al .log .durable-is) in
         let q : at k j .page ≡ p = sym (record-stands x j b a sl) ∙ e in
-        let same : at (x .all) j .page ≡ p = rw (x .al .log .split) (ap (λ (y : Logged). y .page) (List·getD-append k w noLogged j jb) ∙ q) in
+        let same : at (x .all) j .page ≡ p =
+        rw (x .al .log .split) (ap (λ (y : Logged). y .page) (List·getD-append k w noLogged j jb) ∙ q) in
         omega (arith, frame-number, last-ge p (x .all) (length (x .all)) j (omega (arith, all-durable x quiet)) same)

@@ -1,11 +1,12 @@
--- T2, the count: the notes stored since upkeep was last idle are at most P + W, at most W of them written and at most P backups.
-use mathlib.Core.Path.{_≡_, refl, sym, ap, _∙_, subst}
-use mathlib.Core.Logic.{_≢_, _⊎_, inl, inr, ⊎-elim}
-use mathlib.Core.Bool.{Bool, true, false, cond, _&&_, _||_, not}
-use mathlib.Core.List.{List, [], _∷_}
+-- T2, the count: the notes stored since upkeep was last idle are at most P + W, at most W of them written and at most P
+-- backups.
+use mathlib.Core.Path.{_≡_, refl, sym, ap, _∙_}
+use mathlib.Core.Logic.{_≢_}
+use mathlib.Core.Bool.{Bool, true, false, not}
+use mathlib.Core.List.{List}
 use Prim.Native.Nat.{ℕ, zero, suc, _+_, _-_, _≤_, _<_}
 use native.Mathlib.Omega.{arith}
-use lib.Dec.{eqb, leb, ltb}
+use lib.Dec.{eqb}
 use lib.ListN.{length}
 use borrow.Author.Tests.{eqb-true, eq-eqb, ne-eqb}
 use Rattle.laws.proofs.Tables.{byCases, and-both, true-not-false}
@@ -14,7 +15,7 @@ use Rattle.laws.proofs.Search.{count-same}
 use Rattle.model.specs.Checksum.{sealed}
 use Rattle.model.specs.Geometry.{geometryOf, item, noteSlot}
 use Rattle.model.specs.Item.{isWritten}
-use Rattle.model.specs.Index.{entryRow, entryOf}
+use Rattle.model.specs.Index.{entryRow}
 use Rattle.model.specs.Scan.{noteRecord, indexOf}
 use Rattle.model.specs.State.{noteWhole}
 use Rattle.model.specs.Carry.{countOf}
@@ -23,12 +24,11 @@ use Rattle.model.specs.declared.geometry.Geometry.{Geometry}
 use Rattle.model.specs.declared.item.Note.{Note}
 use Rattle.model.specs.declared.state.Entry.{Entry}
 use Rattle.model.specs.declared.state.PendingNote.{PendingNote}
-use Rattle.history.proofs.Entries.{note, markAt, lastBy, lsnBy, markOf, by-ge, by-is, by-le, mark-by, NoteOk, Mark}
+use Rattle.history.proofs.Entries.{note, markAt, lastBy, lsnBy, by-ge, by-le, mark-by, Mark}
 use Rattle.history.proofs.Sections.{volume-sized}
 use Rattle.history.proofs.Disk.{Holds, Noted, NoteStands}
 use Rattle.history.proofs.NoteScan.{note-back, index-is}
-use Rattle.model.specs.Upkeep.{writtenPages}
-use Rattle.upkeep_theory.proofs.Shift.{alike}
+use Rattle.upkeep_policy.specs.Upkeep.{writtenPages}
 use Rattle.upkeep_theory.proofs.Counting.{Notes, few-written, few-backups, few-notes, room-written, room-backup}
 use Rattle.upkeep_theory.proofs.NotesTidy.{NotesTidy, alike-holds}
 
@@ -36,9 +36,11 @@ use Rattle.upkeep_theory.proofs.NotesTidy.{NotesTidy, alike-holds}
 abbrev pub wroteIn : List Note → ℕ → Bool
 wroteIn ns i = not (eqb (markAt (suc i) ns (length ns) .written) 0)
 
-module _ {C : Type 0} (g : Geometry) (v : List ℕ) (l : List Logged) (h : Holds g v l) (ns : List Note) (o : Noted C g v l ns) where
+module _ {C : Type 0} (g : Geometry) (v : List ℕ) (l : List Logged) (h : Holds g v l) (ns : List Note)
+    (o : Noted C g v l ns) where
   -- a note among the last N − 1 stands whole
-  pub stands-whole : (a : ℕ) → a < length ns → length ns < a + g .notes → (noteRecord g v (suc a) ≡ note ns a) × (noteWhole g v (suc a) ≡ true)
+  pub stands-whole : (a : ℕ) → a < length ns → length ns < a + g .notes
+      → (noteRecord g v (suc a) ≡ note ns a) × (noteWhole g v (suc a) ≡ true)
   stands-whole a b c =
       let st : NoteStands g v ns a = o .notes .held a b c in
       let r : noteRecord g v (suc a) ≡ note ns a = rw st (note-back g v l h ns o a b) in
@@ -52,7 +54,8 @@ module _ {C : Type 0} (g : Geometry) (v : List ℕ) (l : List Logged) (h : Holds
       let p = note ns a .page in
       let q : suc (p - 1) ≡ p = omega (arith, f .low) in
       let g1 : suc a ≤ lastBy true p ns (length ns) = by-ge p ns true (length ns) a b refl t in
-      let m : markAt p ns (length ns) .written ≡ lsnBy ns (lastBy true p ns (length ns)) = ap (λ (k : Mark). k .written) (mark-by p ns (length ns)) in
+      let m : markAt p ns (length ns) .written ≡ lsnBy ns (lastBy true p ns (length ns)) =
+      ap (λ (k : Mark). k .written) (mark-by p ns (length ns)) in
       let nz : markAt p ns (length ns) .written ≢ 0 = λ z. go (lastBy true p ns (length ns)) refl g1 (sym m ∙ z) in
       rw (q, ne-eqb (markAt p ns (length ns) .written) 0 nz)
     where
@@ -69,7 +72,8 @@ module _ {C : Type 0} (g : Geometry) (v : List ℕ) (l : List Logged) (h : Holds
       rw z at (ap (λ (y : Entry). y .written) (index-is g v l h ns o .entry (suc i) (omega arith) b)) in
       rw q))
 
-  module _ {noting : PendingNote} (k0 : ℕ) (t : NotesTidy g v (length ns) k0 noting) (near : suc (length ns) ≤ k0 + g .notes) where
+  module _ {noting : PendingNote} (k0 : ℕ) (t : NotesTidy g v (length ns) k0 noting)
+      (near : suc (length ns) ≤ k0 + g .notes) where
     abbrev since : ℕ
     since = length ns - k0
 
@@ -93,7 +97,8 @@ module _ {C : Type 0} (g : Geometry) (v : List ℕ) (l : List Logged) (h : Holds
         let w : isWritten (note ns (k0 + j)) ≡ false = sym (rw (known-note i a, known-note j b) at e) ∙ u in
         fj .backed w .kind-is ∙ sym (fi .backed u .kind-is)))
 
-    pub since-notes : Notes (length ns - k0) (g .pages) (λ i. sinceNote i .page) (λ i. isWritten (sinceNote i)) (wroteIn ns)
+    pub since-notes : Notes (length ns - k0) (g .pages) (λ i. sinceNote i .page) (λ i. isWritten (sinceNote i))
+        (wroteIn ns)
     since-notes =
         record {
           low = λ i b. rw (known-note i b) (o .fit (k0 + i) (omega (arith, t .low)) .low);

@@ -1,58 +1,9 @@
 -- The numbers of a step from phase to phase: the calls left, and the log numbers left.
-use mathlib.Core.Path.{_≡_, refl, sym, ap, _∙_, subst}
-use mathlib.Core.Logic.{_≢_, _⊎_, inl, inr, ⊎-elim}
-use mathlib.Core.Bool.{Bool, true, false, cond, _&&_, _||_, not}
-use mathlib.Core.List.{List, [], _∷_, _++_}
-use Prim.Native.Nat.{ℕ, zero, suc, _+_, _-_, _*_, _≤_, _<_}
-use native.Mathlib.Numerals.{add-one}
+use mathlib.Core.Path.{_≡_}
+use mathlib.Core.Bool.{Bool, true, false, cond}
+use Prim.Native.Nat.{ℕ, suc, _+_, _-_, _≤_, _<_}
 use native.Mathlib.Omega.{arith}
-use native.Mathlib.Decide.{ℕ-discrete}
-use Rattle.history.proofs.Steps.{context}
-use Rattle.history.proofs.Calls.{inv-call}
-use Rattle.upkeep_theory.proofs.Shift.{note-read-new, note-read-old}
-use Rattle.upkeep_theory.proofs.Live.{noting-back}
-use Rattle.upkeep_theory.proofs.Counting.{count-both}
-use lib.Dec.{eqb, leb, ltb}
-use lib.ListN.{length}
-use borrow.Author.Tests.{ltb-true}
-use Rattle.laws.proofs.Tables.{byCases, and-left, and-right, true-not-false}
-use Rattle.laws.proofs.Notes.{note-length}
-use Rattle.model.specs.Tables.{firstOf, within}
-use Rattle.model.specs.Bytes.{field}
-use Rattle.model.specs.Geometry.{ring, topNumber, geometryOf, store, logSlot, noteSlot}
-use Rattle.model.specs.Item.{isWritten, noteBytes}
-use Rattle.model.specs.Scan.{logRecord, noteRecord}
-use Rattle.model.specs.State.{frameCount, pendingBytes, holder, held, notePending, noteNeeded, recordNeeded}
-use Rattle.model.specs.Refusals.{pageDirty, loadRows, changeRows, forceRows, writeRows, backupRows, noteRows}
-use Rattle.model.specs.Calls.{StoredItem, Call, load, change, force, write, backup, note, outcomeOf, rowsOf, volumeAfter, withFrame, withFrames, appendedState, forcedState, notedState}
-use Rattle.model.specs.Carry.{countOf}
-use Rattle.model.specs.AbstractLog.{Logged}
-use Rattle.model.specs.declared.change.Change.the-variants.{Put}
-use Rattle.model.specs.declared.geometry.Geometry.{Geometry}
-use Rattle.model.specs.declared.item.Note.{Note}
-use Rattle.model.specs.declared.state.Frame.{Frame}
-use Rattle.model.specs.declared.state.PendingNote.{PendingNote}
-use Rattle.model.specs.declared.state.PendingNote.the-variants.{Absent, Present}
-use Rattle.model.specs.declared.state.State.{State}
-use Rattle.history.proofs.Context.{Ctx, geo}
-use Rattle.history.proofs.Refusals.{call-refusal}
-use Rattle.model.specs.Upkeep.{upkeepOf, make, reserve, noteAhead, logAhead, notePosition, logPosition, freeSlot, refresh, everWritten}
-use Rattle.upkeep_theory.proofs.Shape.{Renewal, loads, backs as backing, writes as writing, puts, Advised, notes, forces, byNote, byLog, advised}
-use Rattle.upkeep_theory.proofs.Pages.{record-known}
-use Rattle.upkeep_theory.proofs.Done.{advice-done}
-use Rattle.upkeep_theory.proofs.NotesTidy.{ahead-is}
-use Rattle.upkeep_theory.proofs.Near.{wroteIn}
-use Rattle.upkeep_theory.proofs.Tidy.{Tidy, sinceWritten}
-use Rattle.upkeep_theory.proofs.TidyStores.{counted}
-use Rattle.upkeep_theory.proofs.Step.{l2, place2, needs-second, not-busy}
-use Rattle.upkeep_theory.proofs.Advise.{few-live, few-next, advise-step}
-use Rattle.upkeep_theory.proofs.Measure.{restOf, rest-note, five-left, three-left, written-bound, backup-bound}
-use Rattle.upkeep_theory.proofs.Second.{three-second}
-use Rattle.upkeep_theory.proofs.Run.{load-size, put-size, few-forced}
-use Rattle.upkeep_theory.proofs.Fewer.{few-load, few-put, few-backup, few-write, second-wrote, few-noted}
-use Rattle.upkeep_theory.proofs.Load.{weight, Least, moved, after-load}
-use Rattle.upkeep_theory.proofs.Halfway.{Halfway, halfway-force, halfway-put}
-use Rattle.upkeep_theory.proofs.Outcomes.{SameNotes, since-same, OweOut, load-out, put-out, force-out, bytes-size, force-notes, write-out, backup-out, note-out}
+use Rattle.upkeep_theory.proofs.Measure.{restOf, rest-note}
 
 pub rest-eq : (W P k0 a a′ n n′ : ℕ) → a′ ≡ a → n′ ≡ n → restOf W P a′ (n′ - k0) ≡ restOf W P a (n - k0)
 rest-eq W P k0 a a′ n n′ e f = rw (e, f)
@@ -107,7 +58,8 @@ pub note-fin : (x y N : ℕ) (u : Bool) → y + cond u 5 3 ≡ x → x ≤ N + c
 note-fin x y N true e h = (omega arith, omega arith)
 note-fin x y N false e h = (omega arith, omega arith)
 
-pub note-sum : (W P A A′ k k′ k0 N : ℕ) (u : Bool) → k0 ≤ k → A ≤ k - k0 → A′ ≡ A + cond u 1 0 → k′ ≡ suc k → A′ ≤ W → k′ - k0 - A′ ≤ P
+pub note-sum : (W P A A′ k k′ k0 N : ℕ) (u : Bool) → k0 ≤ k → A ≤ k - k0 → A′ ≡ A + cond u 1 0 → k′ ≡ suc k → A′ ≤ W
+    → k′ - k0 - A′ ≤ P
     → restOf W P A (k - k0) ≤ N + cond u 4 2 → (1 ≤ N) × (restOf W P A′ (k′ - k0) ≤ N - 1 + 0)
 note-sum W P A A′ k k′ k0 N u lo few e f a b h =
     let q : k′ - k0 ≡ suc (k - k0) = omega arith in
@@ -115,6 +67,7 @@ note-sum W P A A′ k k′ k0 N u lo few e f a b h =
     let b′ : suc (k - k0) - (A + cond u 1 0) ≤ P = rw (q, e) at b in
     note-fin (restOf W P A (k - k0)) (restOf W P A′ (k′ - k0)) N u (rw (q, e) (rest-note W P A (k - k0) u few a′ b′)) h
 
-pub note-low : (d d′ W A A′ T : ℕ) (u : Bool) → d′ ≡ d → A′ ≡ A + cond u 1 0 → A′ ≤ W → d + (W - A) < T + cond u 1 0 → d′ + (W - A′) < T
+pub note-low : (d d′ W A A′ T : ℕ) (u : Bool) → d′ ≡ d → A′ ≡ A + cond u 1 0 → A′ ≤ W → d + (W - A) < T + cond u 1 0
+    → d′ + (W - A′) < T
 note-low d d′ W A A′ T true e f a h = omega arith
 note-low d d′ W A A′ T false e f a h = omega arith

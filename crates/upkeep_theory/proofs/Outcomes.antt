@@ -1,26 +1,26 @@
 -- T2: what each of upkeep's calls leaves, where it is not refused: the next state, and a volume with the same notes.
-use mathlib.Core.Path.{_≡_, refl, sym, ap, _∙_, subst}
-use mathlib.Core.Logic.{_≢_, _⊎_, inl, inr, ⊎-elim}
-use mathlib.Core.Bool.{Bool, true, false, cond, _&&_, _||_, not}
-use mathlib.Core.List.{List, [], _∷_, _++_}
-use Prim.Native.Nat.{ℕ, zero, suc, _+_, _-_, _≤_, _<_}
+use mathlib.Core.Path.{_≡_, refl, ap}
+use mathlib.Core.Bool.{Bool, true, false}
+use mathlib.Core.List.{List}
+use Prim.Native.Nat.{ℕ, suc, _+_, _-_, _≤_}
 use native.Mathlib.Numerals.{add-one}
 use native.Mathlib.Omega.{arith}
-use lib.Dec.{eqb, ltb}
 use lib.ListN.{length}
 use borrow.Author.Tests.{ne-eqb}
-use Rattle.laws.proofs.Tables.{byCases, true-not-false}
 use Rattle.laws.proofs.Search.{count-same}
 use Rattle.laws.proofs.Ring.{slot-in}
 use Rattle.laws.proofs.WellFormed.{memory-facts, pending-length}
 use Rattle.model.specs.Tables.{firstOf}
 use Rattle.model.specs.Bytes.{field}
 use Rattle.model.specs.Geometry.{geometryOf, noteAt, item, store, slotOf, logSlot, noteSlot}
-use Rattle.model.specs.Item.{imageLsn, isWritten, noteOf, noteBytes}
+use Rattle.model.specs.Item.{imageLsn, noteOf, noteBytes}
 use Rattle.model.specs.Scan.{noteRecord}
-use Rattle.model.specs.State.{pendingBytes, holder, frameBytes, lastNote}
+use Rattle.model.specs.State.{pendingBytes, holder, frameBytes}
 use Rattle.model.specs.Refusals.{pageDirty, loadRows, changeRows, forceRows, writeRows, backupRows, noteRows}
-use Rattle.model.specs.Calls.{StoredItem, Call, load, force, write, backup, note, outcomeOf, volumeAfter, loadOf, changeCall, forceOf, writeOf, backupOf, noteCall, noteStored, withFrame, withFrames, appendedState, forcedState, notedState}
+use Rattle.model.specs.Outcome.{StoredItem, volumeAfter, decided}
+use Rattle.model.specs.Effects.{noteStored, withFrame, withFrames, appendedState, forcedState, notedState, backupDone, changeDone, forceDone, loadDone, writeDone}
+use Rattle.model.specs.Calls.{Call, outcomeOf, noPayload}
+use Rattle.model.specs.declared.command.Command.the-variants.{Load, Force, Write, Backup, Note as NoteCall}
 use Rattle.model.specs.AbstractLog.{Logged}
 use Rattle.model.specs.declared.change.Change.the-variants.{Put}
 use Rattle.model.specs.declared.geometry.Geometry.{Geometry}
@@ -30,22 +30,25 @@ use Rattle.model.specs.declared.state.PendingNote.{PendingNote}
 use Rattle.model.specs.declared.state.PendingNote.the-variants.{Absent, Present}
 use Rattle.model.specs.declared.state.State.{State}
 use Rattle.history.proofs.Images.{sealed-size}
-use Rattle.history.proofs.Keeps.{Writes, writes, Backs, backs}
+use Rattle.history.proofs.Keeps.{writes, backs}
 use Rattle.history.proofs.Context.{Ctx, geo}
 use Rattle.history.proofs.WellFormed.{memory-ok}
-use Rattle.model.specs.Upkeep.{refresh}
+use Rattle.upkeep_policy.specs.Upkeep.{refresh}
 use Rattle.upkeep_theory.proofs.Shift.{log-notes}
-use Rattle.upkeep_theory.proofs.Tidy.{Apart, apart-page, apart-slot, sinceWritten}
+use Rattle.upkeep_theory.proofs.Tidy.{sinceWritten}
+use Rattle.upkeep_theory.proofs.Apart.{apart-page, apart-slot}
 use Rattle.upkeep_theory.proofs.Load.{moved}
 
 -- the same notes
 pub record SameNotes (g : Geometry) (v v′ : List ℕ) : Type 0 where
   pub same : (a : ℕ) → noteRecord g v′ (suc a) ≡ noteRecord g v (suc a)
 
-pub since-same : (g : Geometry) (v v′ : List ℕ) → SameNotes g v v′ → (k k0 : ℕ) → sinceWritten g v′ k k0 ≡ sinceWritten g v k k0
+pub since-same : (g : Geometry) (v v′ : List ℕ) → SameNotes g v v′ → (k k0 : ℕ)
+    → sinceWritten g v′ k k0 ≡ sinceWritten g v k k0
 since-same g v v′ y k k0 = count-same _ _ (k - k0) (λ i b. rw (y .same (k0 + i)))
 
-by-items : (g : Geometry) (v v′ : List ℕ) → 1 ≤ g .notes → ((j : ℕ) → 1 ≤ j → j ≤ g .notes → item g v′ (noteAt j) ≡ item g v (noteAt j)) → SameNotes g v v′
+by-items : (g : Geometry) (v v′ : List ℕ) → 1 ≤ g .notes
+    → ((j : ℕ) → 1 ≤ j → j ≤ g .notes → item g v′ (noteAt j) ≡ item g v (noteAt j)) → SameNotes g v v′
 by-items g v v′ one h =
     record { same = λ a. ap noteOf (let q = slot-in (g .notes) a one in h (slotOf (g .notes) (suc a)) (q .0) (q .1)) }
 
@@ -68,20 +71,23 @@ pub record OweOut (g : Geometry) (v m : List ℕ) (s : State) (c : Call) (p kind
 module _ {C : Type 0} {g : Geometry} {v m : List ℕ} {past : List StoredItem} {s : State} {k w : List Logged}
     (x : Ctx C g v m past s k w) (l2 : 2 ≤ g .records) (n2 : 2 ≤ g .notes) where
   pub load-out : (p r : ℕ) → firstOf (loadRows v m s p r) ≡ 0
-      → ((d : Bool) × (outcomeOf (load p r) v m s .state ≡ moved s p r d)) × (volumeAfter v (outcomeOf (load p r) v m s .stored) ≡ v)
-  unfolding loadOf volumeAfter
+      → ((d : Bool) × (outcomeOf (Load p r, noPayload) v m s .state ≡ moved s p r d))
+      × (volumeAfter v (outcomeOf (Load p r, noPayload) v m s .stored) ≡ v)
+  unfolding decided loadDone volumeAfter
   load-out p r e = rw e ((_, refl), refl)
 
   pub put-out : (p : ℕ) → firstOf (changeRows v m s p (Put 0 1)) ≡ 0
-      → (outcomeOf (refresh m s p) v m s .state ≡ appendedState s p (holder s p)) × (volumeAfter v (outcomeOf (refresh m s p) v m s .stored) ≡ v)
-  unfolding changeCall volumeAfter
+      → (outcomeOf (refresh m s p) v m s .state ≡ appendedState s p (holder s p))
+      × (volumeAfter v (outcomeOf (refresh m s p) v m s .stored) ≡ v)
+  unfolding decided changeDone volumeAfter
   put-out p e = rw e (refl, refl)
 
   pub force-out : 1 ≤ s .pending → firstOf (forceRows v m s) ≡ 0
-      → (outcomeOf force v m s .state ≡ forcedState s (g .pages) (field 2 8 (pendingBytes m (suc (s .durable)))))
-      × (volumeAfter v (outcomeOf force v m s .stored) ≡ store g v (logSlot g (suc (s .durable))) (pendingBytes m (suc (s .durable))))
-      × (outcomeOf force v m s .memory ≡ m)
-  unfolding forceOf volumeAfter
+      → (outcomeOf (Force, noPayload) v m s .state ≡ forcedState s (g .pages) (field 2 8 (pendingBytes m (suc (s .durable)))))
+      × (volumeAfter v (outcomeOf (Force, noPayload) v m s .stored) ≡ store g v (logSlot g (suc (s .durable)))
+      (pendingBytes m (suc (s .durable))))
+      × (outcomeOf (Force, noPayload) v m s .memory ≡ m)
+  unfolding decided forceDone volumeAfter
   force-out b e =
       let a1 : s .durable + 1 ≡ suc (s .durable) = add-one (s .durable) in
       rw (e, ne-eqb (s .pending) 0 (λ z. omega arith), geo x, a1) (refl, refl, refl)
@@ -92,14 +98,21 @@ module _ {C : Type 0} {g : Geometry} {v m : List ℕ} {past : List StoredItem} {
   pub force-notes : SameNotes g v (store g v (logSlot g (suc (s .durable))) (pendingBytes m (suc (s .durable))))
   force-notes = by-items g v _ (omega arith) (log-notes g v (x .hs .vol) (omega arith) (s .durable) _ bytes-size)
 
-  pub write-out : (p : ℕ) → firstOf (writeRows v m s p) ≡ 0 → pageDirty s p ≡ true → OweOut g v m s (write p) p 1
-  unfolding writeOf volumeAfter
+  pub write-out : (p : ℕ) → firstOf (writeRows v m s p) ≡ 0 → pageDirty s p ≡ true → OweOut g v m s (Write p, noPayload) p 1
+  unfolding decided writeDone volumeAfter
   write-out p e d =
       let q = writes x p e in let rd = q .ready d in let fo = q .frame-of in
       let ap′ = apart-page g v (x .hs .vol) p (fo .framed .low) (fo .framed .high) _ (sealed-size x p fo (rd .2)) in
       record {
         frames = withFrame s (holder s p) p false;
-        noting = record { number = lastNote s + 1; page = p; kind = 1; slot = 0; lsn = imageLsn (frameBytes m (holder s p)) };
+        noting = record {
+          number = s .notes + 1;
+          page = p;
+          kind = 1;
+          slot = 0;
+          lsn =
+              imageLsn (frameBytes m (holder s p));
+        };
         state-is = rw (e, d) refl;
         page-is = refl;
         kind-is = refl;
@@ -107,14 +120,21 @@ module _ {C : Type 0} {g : Geometry} {v m : List ℕ} {past : List StoredItem} {
         memory-is = rw (e, d) refl;
       }
 
-  pub backup-out : (p b : ℕ) → firstOf (backupRows v m s p b) ≡ 0 → OweOut g v m s (backup p b) p 2
-  unfolding backupOf volumeAfter
+  pub backup-out : (p b : ℕ) → firstOf (backupRows v m s p b) ≡ 0 → OweOut g v m s (Backup p b, noPayload) p 2
+  unfolding decided backupDone volumeAfter
   backup-out p b e =
       let q = backs x p b e in let fo = q .frame-of in
       let ap′ = apart-slot g v (x .hs .vol) b (q .slot-low) (q .slot-high) _ (sealed-size x p fo (q .forced-to)) in
       record {
         frames = s .frames;
-        noting = record { number = lastNote s + 1; page = p; kind = 2; slot = b; lsn = imageLsn (frameBytes m (holder s p)) };
+        noting = record {
+          number = s .notes + 1;
+          page = p;
+          kind = 2;
+          slot = b;
+          lsn =
+              imageLsn (frameBytes m (holder s p));
+        };
         state-is = rw e refl;
         page-is = refl;
         kind-is = refl;
@@ -124,17 +144,18 @@ module _ {C : Type 0} {g : Geometry} {v m : List ℕ} {past : List StoredItem} {
 
   note-of : (n : Note) (y : PendingNote) → y ≡ Present n
       → (noteStored v m s y .state ≡ notedState s n)
-      × (volumeAfter v (noteStored v m s y .stored) ≡ store (geometryOf v) v (noteSlot (geometryOf v) (s .notes + 1)) (noteBytes n))
+      × (volumeAfter v (noteStored v m s y .stored) ≡ store (geometryOf v) v (noteSlot (geometryOf v) (s .notes + 1))
+      (noteBytes n))
       × (noteStored v m s y .memory ≡ m)
   unfolding volumeAfter
   note-of n Absent e = let z : _≡_ {A = ℕ} 0 1 = cc in absurd (omega arith)
   note-of n (Present y) e = let z : y ≡ n = cc in rw z (refl, refl, refl)
 
   pub note-out : (n : Note) → s .note ≡ Present n → firstOf (noteRows v m s) ≡ 0
-      → (outcomeOf note v m s .state ≡ notedState s n)
-      × (volumeAfter v (outcomeOf note v m s .stored) ≡ store g v (noteSlot g (suc (s .notes))) (noteBytes n))
-      × (outcomeOf note v m s .memory ≡ m)
-  unfolding noteCall
+      → (outcomeOf (NoteCall, noPayload) v m s .state ≡ notedState s n)
+      × (volumeAfter v (outcomeOf (NoteCall, noPayload) v m s .stored) ≡ store g v (noteSlot g (suc (s .notes))) (noteBytes n))
+      × (outcomeOf (NoteCall, noPayload) v m s .memory ≡ m)
+  unfolding decided
   note-out n noting e =
       let a1 : s .notes + 1 ≡ suc (s .notes) = add-one (s .notes) in
       rw e (rw (geo x, a1) at (note-of n (s .note) noting))

@@ -1,25 +1,27 @@
--- A machine that a history reached, and in which nothing is pending: no frame is blocked, and every frame's number is durable. So upkeep's
+-- A machine that a history reached, and in which nothing is pending: no frame is blocked, and every frame's number is
+-- durable. So upkeep's
 -- idle excludes 10 and 15.
-use mathlib.Core.Path.{_≡_, refl, sym, ap, _∙_}
-use mathlib.Core.Logic.{_≢_, _⊎_, inl, inr, ⊎-elim}
-use mathlib.Core.Bool.{Bool, true, false, cond, _&&_, _||_, not}
+use mathlib.Core.Path.{_≡_, refl, ap}
+use mathlib.Core.Bool.{false, _&&_, not}
 use mathlib.Core.List.{List, [], _∷_}
-use Prim.Native.Nat.{ℕ, zero, suc, _+_, _-_, _≤_, _<_}
-use native.Mathlib.Nat.{not-suc-le-zero, le-of-suc-le-suc}
+use Prim.Native.Nat.{ℕ, zero, suc, _-_, _≤_}
+use native.Mathlib.Nat.{le-of-suc-le-suc}
 use native.Mathlib.Omega.{arith}
 use native.Mathlib.Decide.{decLt, ℕ-discrete}
-use lib.Dec.{eqb, leb, ltb}
+use lib.Dec.{eqb}
 use lib.ListN.{length, getD}
-use borrow.Author.Tests.{le-ltb, ltb-true, eq-eqb, ne-eqb}
-use Rattle.laws.proofs.Tables.{byCases, and-right, true-not-false}
+use borrow.Author.Tests.{le-ltb, eq-eqb, ne-eqb}
+use Rattle.laws.proofs.Tables.{and-right, true-not-false}
 use Rattle.model.specs.Tables.{Row, firstOf, within}
 use Rattle.model.specs.Geometry.{topNumber, geometryOf}
 use Rattle.model.specs.Item.{imageLsn}
 use Rattle.model.specs.Index.{entryOf, slotUsed}
-use Rattle.model.specs.Change.{fits}
-use Rattle.model.specs.State.{frameCount, frameBytes, frameOf, holder, held, blank, logFull, notesFull, notePending, emptyFrame}
+use Rattle.model.specs.State.{frameCount, frameBytes, frameOf, holder, held, blank, logFull, notesFull, notePending}
+use Rattle.model.specs.State.{emptyFrame}
 use Rattle.model.specs.Refusals.{pagePending, frameBlocked, pageDirty, notDurable, chainBroken, chainBelow}
-use Rattle.model.specs.Calls.{StoredItem, Call, begin, load, change, force, write, backup, release, note, startCarry, restamp, finishCarry, rowsOf, outcomeOf, refusalOf}
+use Rattle.model.specs.Outcome.{StoredItem, refusalOf}
+use Rattle.model.specs.Calls.{Call, outcomeOf, noPayload}
+use Rattle.model.specs.declared.command.Command.the-variants.{Begin, Load, Change, Force, Write, Backup, Release, Note, StartCarry, Restamp, FinishCarry}
 use Rattle.model.specs.AbstractLog.{Logged}
 use Rattle.model.specs.Carry.{carries}
 use Rattle.model.specs.declared.geometry.Geometry.{Geometry}
@@ -28,16 +30,19 @@ use Rattle.model.specs.declared.state.Frame.{Frame}
 use Rattle.model.specs.declared.state.State.{State}
 use Rattle.history.proofs.Logs.{lastAt, lastOf, bodyOf, last-le}
 use Rattle.history.proofs.Leaf.{frame-lsn}
-use Rattle.history.proofs.Inv.{frame}
-use Rattle.history.proofs.Context.{Ctx, in-range, sized, geo, len, few, body-size, entry-is, Found, found-frame}
+use Rattle.history.proofs.Context.{Ctx, in-range, sized, len, few, body-size, entry-is, found-frame}
 use Rattle.history.proofs.Loads.{Others, none-other, until}
 use Rattle.history.proofs.Refusals.{call-refusal, ownRows, rows-are}
 use Rattle.history.proofs.Reached.{live}
-use Rattle.model.specs.UpkeepClaim.{NotBlocked, IdleIsFree}
+use Rattle.upkeep_policy.specs.UpkeepClaim.{NotBlocked, IdleIsFree}
 use Rattle.upkeep_theory.proofs.Idle.{idle-closed}
 
 by-rows : (ts : List Row) → Others 10 ts → Others 15 ts → NotBlocked (firstOf ts)
-by-rows ts a b = record { not-blocked = none-other 10 (λ z. omega arith) ts a; not-early = none-other 15 (λ z. omega arith) ts b }
+by-rows ts a b = record {
+  not-blocked = none-other 10 (λ z. omega arith) ts a;
+  not-early =
+      none-other 15 (λ z. omega arith) ts b;
+}
 
 past-end : (fs : List Frame) (j : ℕ) → length fs ≤ j → getD fs j emptyFrame ≡ emptyFrame
 past-end [] j h = refl
@@ -67,7 +72,8 @@ module _ {C : Type 0} {g : Geometry} {v m : List ℕ} {past : List StoredItem} {
           let i = x .al .frames .inside (f - 1) b nz in
           let fr = x .al .frames .each (f - 1) i nz in
           rw (ne-eqb (frameOf s f .page) 0 nz, page-quiet (frameOf s f .page) (fr .low) (fr .high))
-      | no b ↦ absurd (nz (ap (λ (y : Frame). y .page) (past-end (s .frames) (f - 1) (omega (arith, x .al .frames .size)))))
+      | no b ↦ absurd (nz
+          (ap (λ (y : Frame). y .page) (past-end (s .frames) (f - 1) (omega (arith, x .al .frames .size)))))
     ]
   ]
 
@@ -86,47 +92,56 @@ module _ {C : Type 0} {g : Geometry} {v m : List ℕ} {past : List StoredItem} {
 
   own-free : (c : Call) → carries c ≡ false → NotBlocked (firstOf (ownRows x c))
   unfolding ownRows
-  own-free (begin p f fill) o =
+  own-free (Begin p f fill, _) o =
       rw (never-blocked f)
-      (by-rows ((not (within (geometryOf v .pages) p), 3) ∷ (not (within (frameCount (length m)) f), 4) ∷ (not (blank s p), 9)
+      (by-rows ((not (within (geometryOf v .pages) p), 3) ∷ (not (within (frameCount (length m)) f), 4)
+      ∷ (not (blank s p), 9)
       ∷ (eqb (s .pending) 16, 11) ∷ (logFull (geometryOf v) v s, 12) ∷ []) (omega arith) (omega arith))
-  own-free (load p f) o =
+  own-free (Load p f, _) o =
       rw (never-blocked f)
-      (by-rows ((not (within (geometryOf v .pages) p), 3) ∷ (not (within (frameCount (length m)) f), 4) ∷ (blank s p, 7) ∷ (held s p, 9)
-      ∷ (chainBroken (geometryOf v) v s p, 19) ∷ (chainBelow (geometryOf v) v s p, 23) ∷ []) (omega arith) (omega arith))
-  own-free (change p c payload) o =
-      by-rows (ownRows x (change p c payload)) (omega arith) (omega arith)
-  own-free force o = by-rows [] tt tt
-  own-free (write p) o =
-      let ts = ownRows x (write p) in
+      (by-rows ((not (within (geometryOf v .pages) p), 3) ∷ (not (within (frameCount (length m)) f), 4) ∷ (blank s p, 7)
+      ∷ (held s p, 9)
+      ∷ (chainBroken (geometryOf v) v s p, 19) ∷ (chainBelow (geometryOf v) v s p, 23) ∷ []) (omega arith)
+      (omega arith))
+  own-free (Change p c, payload) o =
+      by-rows (ownRows x (Change p c, payload)) (omega arith) (omega arith)
+  own-free (Force, _) o = by-rows [] tt tt
+  own-free (Write p, _) o =
+      let ts = ownRows x (Write p, noPayload) in
       record {
         not-blocked = none-other 10 (λ z. omega arith) ts (omega arith);
         not-early = λ e.
             let u = until 15
-            ((not (within (geometryOf v .pages) p), 3) ∷ (not (held s p), 8) ∷ (pageDirty s p && notePending (s .note), 13)
-            ∷ (pageDirty s p && notesFull (geometryOf v) v s, 14) ∷ []) (pageDirty s p && notDurable m s p) [] (omega arith) tt (λ z. omega arith) e in
+            ((not (within (geometryOf v .pages) p), 3) ∷ (not (held s p), 8) ∷ (
+              pageDirty s p && notePending
+                  (s .note),
+              13,
+            )
+            ∷ (pageDirty s p && notesFull (geometryOf v) v s, 14) ∷ []) (pageDirty s p && notDurable m s p) []
+            (omega arith) tt (λ z. omega arith) e in
             let r = in-range (geometryOf v .pages) p (u .0 .0) in
             true-not-false (and-right (pageDirty s p) (notDurable m s p) (u .1)) (never-early p (r .0) (u .0 .1 .0));
       }
-  own-free (backup p b) o =
-      let ts = ownRows x (backup p b) in
+  own-free (Backup p b, _) o =
+      let ts = ownRows x (Backup p b, noPayload) in
       record {
         not-blocked = none-other 10 (λ z. omega arith) ts (omega arith);
         not-early = λ e.
             let u = until 15
             ((not (within (geometryOf v .pages) p), 3) ∷ (not (within (geometryOf v .slots) b), 5) ∷ (not (held s p), 8)
-            ∷ (notePending (s .note), 13) ∷ (notesFull (geometryOf v) v s, 14) ∷ []) (notDurable m s p) ((slotUsed b (s .index), 16) ∷ [])
+            ∷ (notePending (s .note), 13) ∷ (notesFull (geometryOf v) v s, 14) ∷ []) (notDurable m s p)
+            ((slotUsed b (s .index), 16) ∷ [])
             (omega arith) (omega arith) (λ z. omega arith) e in
             let r = in-range (geometryOf v .pages) p (u .0 .0) in
             true-not-false (u .1) (never-early p (r .0) (u .0 .1 .1 .0));
       }
-  own-free (release p) o =
+  own-free (Release p, _) o =
       rw (never-blocked (holder s p))
       (by-rows ((not (within (geometryOf v .pages) p), 3) ∷ (not (held s p), 8) ∷ []) (omega arith) (omega arith))
-  own-free note o = by-rows [] tt tt
-  own-free startCarry o = absurd (true-not-false refl o)
-  own-free restamp o = absurd (true-not-false refl o)
-  own-free finishCarry o = absurd (true-not-false refl o)
+  own-free (Note, _) o = by-rows [] tt tt
+  own-free (StartCarry, _) o = absurd (true-not-false refl o)
+  own-free (Restamp, _) o = absurd (true-not-false refl o)
+  own-free (FinishCarry, _) o = absurd (true-not-false refl o)
 
   pub never-waits : (c : Call) → carries c ≡ false → NotBlocked (refusalOf (outcomeOf c v m s .answer))
   never-waits c o = rw (call-refusal c v m s, rows-are x c) (own-free c o)

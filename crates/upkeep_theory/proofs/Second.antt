@@ -1,9 +1,9 @@
 -- T2's measure: the renewal of a backup note at position 2 has three calls left (U3).
-use mathlib.Core.Path.{_≡_, refl, sym, ap, _∙_, subst}
-use mathlib.Core.Logic.{_≢_, _⊎_, inl, inr, ⊎-elim}
-use mathlib.Core.Bool.{Bool, true, false, cond, _&&_, _||_, not}
-use mathlib.Core.List.{List, [], _∷_}
-use Prim.Native.Nat.{ℕ, zero, suc, _+_, _-_, _*_, _≤_, _<_}
+use mathlib.Core.Path.{_≡_, sym, ap, _∙_}
+use mathlib.Core.Logic.{_≢_}
+use mathlib.Core.Bool.{true, false, _&&_, not}
+use mathlib.Core.List.{List}
+use Prim.Native.Nat.{ℕ, suc, _+_, _-_, _≤_, _<_}
 use native.Mathlib.Omega.{arith}
 use lib.ListN.{length}
 use borrow.Author.Tests.{not-true}
@@ -13,7 +13,7 @@ use Rattle.model.specs.Geometry.{ring}
 use Rattle.model.specs.Item.{isWritten}
 use Rattle.model.specs.Scan.{noteRecord}
 use Rattle.model.specs.State.{noteNeeded, noteWhole, noteLike}
-use Rattle.model.specs.Calls.{StoredItem}
+use Rattle.model.specs.Outcome.{StoredItem}
 use Rattle.model.specs.Carry.{countOf}
 use Rattle.model.specs.AbstractLog.{Logged}
 use Rattle.model.specs.declared.geometry.Geometry.{Geometry}
@@ -21,7 +21,7 @@ use Rattle.model.specs.declared.item.Note.{Note}
 use Rattle.model.specs.declared.state.State.{State}
 use Rattle.history.proofs.Entries.{note as note′}
 use Rattle.history.proofs.Context.{Ctx}
-use Rattle.upkeep_theory.proofs.NotesTidy.{NotesTidy, alike-holds}
+use Rattle.upkeep_theory.proofs.NotesTidy.{alike-holds}
 use Rattle.upkeep_theory.proofs.Near.{wroteIn, stands-whole}
 use Rattle.upkeep_theory.proofs.Tidy.{Tidy, sinceWritten}
 use Rattle.upkeep_theory.proofs.Step.{place2}
@@ -42,7 +42,8 @@ module _ {C : Type 0} {g : Geometry} {v m : List ℕ} {past : List StoredItem} {
   is-note = stands-whole g v k (x .hs) (x .ns) (x .no) a ab (omega (arith, x .al .notes-is)) .0
 
   -- a backup note is of kind 2
-  kind-of : (b : ℕ) → b < length (x .ns) → noteRecord g v (suc b) ≡ note′ (x .ns) b → isWritten (noteRecord g v (suc b)) ≡ false
+  kind-of : (b : ℕ) → b < length (x .ns) → noteRecord g v (suc b) ≡ note′ (x .ns) b
+      → isWritten (noteRecord g v (suc b)) ≡ false
       → noteRecord g v (suc b) .kind ≡ 2
   kind-of b l e u = rw e (x .no .fit b l .backed (rw e at u) .kind-is)
 
@@ -55,11 +56,13 @@ module _ {C : Type 0} {g : Geometry} {v m : List ℕ} {past : List StoredItem} {
       let st = stands-whole g v k (x .hs) (x .ns) (x .no) b bb (omega (arith, t .near, x .al .notes-is)) in
       let wh : noteWhole g v (suc b) ≡ true = st .1 in
       let later = and-right (noteWhole g v (suc a))
-      (every (s .notes - suc a) (λ c. not (noteWhole g v (suc (suc a + c)) && noteLike g v (suc a) (suc (suc a + c))))) need in
+      (every (s .notes - suc a) (λ c. not (noteWhole g v (suc (suc a + c)) && noteLike g v (suc a) (suc (suc a + c)))))
+      need in
       let c = b - suc a in
       let sm : suc a + (b - suc a) ≡ b = omega (arith, t .near) in
       let f : not (noteWhole g v (suc (suc a + c)) && noteLike g v (suc a) (suc (suc a + c))) ≡ true =
-      every-at (λ c. not (noteWhole g v (suc (suc a + c)) && noteLike g v (suc a) (suc (suc a + c)))) (s .notes - suc a) later c
+      every-at (λ c. not (noteWhole g v (suc (suc a + c)) && noteLike g v (suc a) (suc (suc a + c))))
+      (s .notes - suc a) later c
       (omega (arith, t .notes .low, t .near)) in
       let f′ : not (noteWhole g v (suc b) && noteLike g v (suc a) (suc b)) ≡ true = rw sm at f in
       let like : noteLike g v (suc a) (suc b) ≡ true =

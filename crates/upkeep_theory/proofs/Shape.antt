@@ -1,32 +1,35 @@
 -- What upkeep advises, by cases: the tree that every proof about its calls goes through.
-use mathlib.Core.Path.{_≡_, refl, sym, ap, _∙_}
-use mathlib.Core.Logic.{_≢_, _⊎_, inl, inr, ⊎-elim}
-use mathlib.Core.Bool.{Bool, true, false, cond, _&&_, _||_, not}
-use mathlib.Core.List.{List, [], _∷_}
-use Prim.Native.Nat.{ℕ, zero, suc, _+_, _-_, _≤_, _<_}
+use mathlib.Core.Path.{_≡_, refl}
+use mathlib.Core.Logic.{_≢_}
+use mathlib.Core.Bool.{Bool, true, false, _||_}
+use mathlib.Core.List.{List}
+use Prim.Native.Nat.{ℕ, _≤_}
 use native.Mathlib.Omega.{arith}
 use lib.Dec.{eqb, leb, ltb}
 use borrow.Author.Tests.{leb-true, ltb-true, ltb-false, leb-false, eqb-false}
-use Rattle.laws.proofs.Tables.{byCases, or-neither, true-not-false}
-use Rattle.laws.proofs.Search.{First, first-from}
+use Rattle.laws.proofs.Tables.{byCases, or-neither}
+use Rattle.laws.proofs.Search.{first-from}
 use Rattle.model.specs.Tables.{firstOf}
 use Rattle.model.specs.Geometry.{ring, geometryOf}
 use Rattle.model.specs.Item.{isWritten}
 use Rattle.model.specs.Scan.{logRecord, noteRecord}
 use Rattle.model.specs.State.{logFull, notesFull, notePending, held}
 use Rattle.model.specs.Refusals.{pageDirty, loadRows}
-use Rattle.model.specs.Calls.{Call, load, force, write, backup, note}
+use Rattle.model.specs.Calls.{Call, noPayload}
+use Rattle.model.specs.declared.command.Command.the-variants.{Load, Force, Write, Backup, Note}
 use Rattle.model.specs.declared.state.State.{State}
-use Rattle.model.specs.Upkeep.{Advice, idle, stuck, make, notePosition, logPosition, noteAhead, logAhead, reserve, firstNeededNote, firstNeededLog, noSlot, freeSlot, refresh, renew, renewNote, renewLog, upkeepOf}
+use Rattle.upkeep_policy.specs.Upkeep.{idle, stuck, make, notePosition, logPosition, noteAhead, logAhead, reserve}
+use Rattle.upkeep_policy.specs.Upkeep.{firstNeededNote, firstNeededLog, noSlot, freeSlot, refresh, renew, upkeepOf}
 
 -- ---- a renewal's next call
 
 pub data Renewal (v m : List ℕ) (s : State) (r p : ℕ) (written : Bool) (c : Call) : Type 0 where
-  loads : held s p ≡ false → firstOf (loadRows v m s p r) ≢ 23 → c ≡ load p r → Renewal v m s r p written c
-  backs : held s p ≡ true → written ≡ false → freeSlot (geometryOf v) s ≤ geometryOf v .slots → notesFull (geometryOf v) v s ≡ false
-      → c ≡ backup p (freeSlot (geometryOf v) s) → Renewal v m s r p written c
+  loads : held s p ≡ false → firstOf (loadRows v m s p r) ≢ 23 → c ≡ (Load p r, noPayload) → Renewal v m s r p written c
+  backs : held s p ≡ true → written ≡ false → freeSlot (geometryOf v) s ≤ geometryOf v .slots
+      → notesFull (geometryOf v) v s ≡ false
+      → c ≡ (Backup p (freeSlot (geometryOf v) s), noPayload) → Renewal v m s r p written c
   writes : held s p ≡ true → written ≡ true → pageDirty s p ≡ true → notesFull (geometryOf v) v s ≡ false
-      → c ≡ write p → Renewal v m s r p written c
+      → c ≡ (Write p, noPayload) → Renewal v m s r p written c
   puts : held s p ≡ true → written ≡ true → pageDirty s p ≡ false → logFull (geometryOf v) v s ≡ false
       → c ≡ refresh m s p → Renewal v m s r p written c
 
@@ -47,8 +50,10 @@ renewal v m s r p written c e =
     byCases (held s p)
     (λ h. byCases written
     (λ t. byCases (pageDirty s p)
-    (λ d. byCases (notesFull g v s) (λ f. not-made p c (rw (h, t, d, f) at e)) (λ f. writes h t d f (made _ c (rw (h, t, d, f) at e))))
-    (λ d. byCases (logFull g v s) (λ f. not-made p c (rw (h, t, d, f) at e)) (λ f. puts h t d f (made _ c (rw (h, t, d, f) at e)))))
+    (λ d. byCases (notesFull g v s) (λ f. not-made p c (rw (h, t, d, f) at e))
+    (λ f. writes h t d f (made _ c (rw (h, t, d, f) at e))))
+    (λ d. byCases (logFull g v s) (λ f. not-made p c (rw (h, t, d, f) at e))
+    (λ f. puts h t d f (made _ c (rw (h, t, d, f) at e)))))
     (λ t. byCases (noSlot g s || notesFull g v s)
     (λ f. not-made p c (rw (h, t, f) at e))
     (λ f. let q = or-neither (noSlot g s) (notesFull g v s) f in
@@ -60,8 +65,8 @@ renewal v m s r p written c e =
 -- ---- the advice
 
 pub data Advised (v m : List ℕ) (s : State) (r : ℕ) (c : Call) : Type 0 where
-  notes : notePending (s .note) ≡ true → c ≡ note → Advised v m s r c
-  forces : notePending (s .note) ≡ false → 1 ≤ s .pending → c ≡ force → Advised v m s r c
+  notes : notePending (s .note) ≡ true → c ≡ (Note, noPayload) → Advised v m s r c
+  forces : notePending (s .note) ≡ false → 1 ≤ s .pending → c ≡ (Force, noPayload) → Advised v m s r c
   -- U3: the note at position i
   byNote : notePending (s .note) ≡ false → s .pending ≡ 0 → ring (geometryOf v) ≡ true
       → (i : ℕ) → 1 ≤ i → i ≤ 2 → noteAhead (geometryOf v) v s i ≡ true
@@ -71,7 +76,8 @@ pub data Advised (v m : List ℕ) (s : State) (r : ℕ) (c : Call) : Type 0 wher
   -- U4: the record at position i; note positions 1 and 2 are spare
   byLog : notePending (s .note) ≡ false → s .pending ≡ 0 → ring (geometryOf v) ≡ true
       → noteAhead (geometryOf v) v s 1 ≡ false → noteAhead (geometryOf v) v s 2 ≡ false
-      → (i : ℕ) → 1 ≤ i → i ≤ reserve (geometryOf v) → logAhead (geometryOf v) v s i ≡ true → i ≡ firstNeededLog (geometryOf v) v s
+      → (i : ℕ) → 1 ≤ i → i ≤ reserve (geometryOf v) → logAhead (geometryOf v) v s i ≡ true
+      → i ≡ firstNeededLog (geometryOf v) v s
       → Renewal v m s r (logRecord (geometryOf v) v (logPosition (geometryOf v) s i) .page) false c
       → Advised v m s r c
 

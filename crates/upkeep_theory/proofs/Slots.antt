@@ -1,30 +1,29 @@
--- With more slots than pages one is outside the index. And T4's half that stands already: a page whose Load is 23 has lost its start.
-use mathlib.Core.Path.{_≡_, refl, sym, ap, _∙_}
-use mathlib.Core.Logic.{_≢_, _⊎_, inl, inr, ⊎-elim}
-use mathlib.Core.Bool.{Bool, true, false, cond, _&&_, _||_, not}
+-- With more slots than pages one is outside the index. And T4's half that stands already: a page whose Load is 23 has
+-- lost its start.
+use mathlib.Core.Path.{_≡_, refl, ap}
+use mathlib.Core.Logic.{⊎-elim}
+use mathlib.Core.Bool.{true, false, cond, not}
 use mathlib.Core.List.{List, [], _∷_}
-use Prim.Native.Nat.{ℕ, zero, suc, _+_, _-_, _≤_, _<_}
+use Prim.Native.Nat.{ℕ, zero, suc, _+_, _≤_}
 use native.Mathlib.Nat.{le-of-suc-le-suc}
 use native.Mathlib.Omega.{arith}
-use native.Mathlib.Decide.{decLt, ℕ-discrete}
-use lib.Dec.{eqb, leb, ltb}
+use native.Mathlib.Decide.{decLt}
+use lib.Dec.{eqb}
 use lib.ListN.{length, getD}
-use borrow.Author.Tests.{eqb-true, leb-true, le-leb, lt-leb, le-ltb, not-false}
+use borrow.Author.Tests.{eqb-true, le-ltb, not-false}
 use Rattle.laws.proofs.Tables.{byCases, or-cases, all-at, within-bounds, within-holds, true-not-false}
-use Rattle.laws.proofs.Search.{First, first-from}
-use Rattle.laws.proofs.WellFormed.{Formed, formed}
+use Rattle.laws.proofs.Search.{first-from}
+use Rattle.laws.proofs.WellFormed.{formed}
 use Rattle.model.specs.Tables.{within}
 use Rattle.model.specs.Geometry.{geometryOf}
 use Rattle.model.specs.Index.{emptyEntry, entryRow, slotUsed}
-use Rattle.model.specs.State.{pageFits, entryFits, entryZero, wellFormed}
+use Rattle.model.specs.State.{pageFits, entryZero}
 use Rattle.model.specs.History.{Power, off, on}
-use Rattle.model.specs.Claim.{History, Legal, reached, Gone, Proviso}
-use Rattle.model.specs.declared.geometry.Geometry.{Geometry}
+use Rattle.model.specs.Claim.{reached, Gone, Proviso}
 use Rattle.model.specs.declared.state.Entry.{Entry}
-use Rattle.model.specs.declared.state.State.{State}
 use Rattle.history.proofs.Theorem.{demand2}
-use Rattle.model.specs.Upkeep.{freeSlot}
-use Rattle.model.specs.UpkeepClaim.{SlotLeft, LostIn, LostIsLost}
+use Rattle.upkeep_policy.specs.Upkeep.{freeSlot}
+use Rattle.upkeep_policy.specs.UpkeepClaim.{SlotLeft, LostIn, LostIsLost}
 
 -- ---- a count of slots in use
 
@@ -35,7 +34,8 @@ used n (e ∷ es) = cond (within n (e .slot)) 1 0 + used n es
 
 within-more : (n b : ℕ) → cond (within n b) 1 0 ≤ cond (within (suc n) b) 1 0
 within-more n b = byCases (within n b)
-    (λ t. let w = within-bounds n b t in rw (t, within-holds (suc n) b (w .0) (omega (arith, w .1))) (omega arith)) (λ t. rw t (omega arith))
+    (λ t. let w = within-bounds n b t in
+    rw (t, within-holds (suc n) b (w .0) (omega (arith, w .1))) (omega arith)) (λ t. rw t (omega arith))
 
 used-more : (n : ℕ) (es : List Entry) → used n es ≤ used (suc n) es
 used-more n [] = omega arith
@@ -48,7 +48,8 @@ used-next n [] h = absurd (true-not-false h refl)
 used-next n (e ∷ es) h = ⊎-elim
     (λ t. let q : e .slot ≡ suc n = eqb-true (e .slot) (suc n) t in
     let a : within (suc n) (e .slot) ≡ true = within-holds (suc n) (e .slot) (omega arith) (omega arith) in
-    let b : within n (e .slot) ≡ false = byCases (within n (e .slot)) (λ u. absurd (omega (arith, within-bounds n (e .slot) u .1))) (λ u. u) in
+    let b : within n (e .slot) ≡ false =
+    byCases (within n (e .slot)) (λ u. absurd (omega (arith, within-bounds n (e .slot) u .1))) (λ u. u) in
     rw (a, b) (omega (arith, used-more n es)))
     (λ t. omega (arith, within-more n (e .slot), used-next n es t))
     (or-cases (eqb (e .slot) (suc n)) (slotUsed (suc n) es) h)
@@ -86,13 +87,18 @@ slot-left v frames s wf p64 size more =
           let e = entryRow (s .index) i in
           let t : entryZero e ≡ true = rw (le-ltb i (g .pages) b) at (f .pages i y) in
           eqb-true (e .slot) 0
-          (all-at (eqb (e .last) 0 ∷ eqb (e .durable) 0 ∷ eqb (e .written) 0 ∷ eqb (e .slot) 0 ∷ eqb (e .backup) 0 ∷ []) 3 t)
+          (all-at (eqb (e .last) 0 ∷ eqb (e .durable) 0 ∷ eqb (e .written) 0 ∷ eqb (e .slot) 0 ∷ eqb (e .backup) 0 ∷ [])
+          3 t)
       | no n ↦ ap (λ (e : Entry). e .slot) (past-end (s .index) i (omega arith))
     ] in
     let few = used-few (g .slots) (g .pages) (s .index) rows in (
       q .low,
       elim (decLt (g .slots) (freeSlot g s)) [
-        | yes y ↦ absurd (omega (arith, used-all (g .slots) (s .index) (λ b x z. not-false _ (q .before b x (omega arith)))))
+        | yes y ↦ absurd (omega (
+          arith,
+          used-all (g .slots) (s .index)
+              (λ b x z. not-false _ (q .before b x (omega arith))),
+        ))
         | no n ↦ omega arith
       ],
     )

@@ -1,49 +1,42 @@
 -- T2's invariant is kept by every call: a user's where upkeep is idle, and the one that upkeep advises.
-use mathlib.Core.Path.{_≡_, refl, sym, ap, _∙_, subst}
-use mathlib.Core.Logic.{_≢_, _⊎_, inl, inr, ⊎-elim}
-use mathlib.Core.Bool.{Bool, true, false, cond, _&&_, _||_, not}
-use mathlib.Core.List.{List, [], _∷_, _++_}
-use Prim.Native.Nat.{ℕ, zero, suc, _+_, _-_, _/_, _≤_, _<_}
-use native.Mathlib.Numerals.{add-one}
+use mathlib.Core.Path.{_≡_, refl}
+use mathlib.Core.Logic.{_≢_, ⊎-elim}
+use mathlib.Core.Bool.{true, false}
+use mathlib.Core.List.{List}
+use Prim.Native.Nat.{ℕ, suc, _+_, _-_, _≤_}
 use native.Mathlib.Omega.{arith}
-use native.Mathlib.Decide.{decLt, ℕ-discrete}
+use native.Mathlib.Decide.{ℕ-discrete}
 use lib.Dec.{eqb, leb, ltb}
-use lib.ListN.{length}
-use borrow.Author.Tests.{eqb-true, ltb-true, leb-true, ne-eqb, eq-eqb}
+use borrow.Author.Tests.{eqb-true, ltb-true, leb-true, eq-eqb}
 use Rattle.laws.proofs.Tables.{byCases, and-left, and-right, true-not-false}
-use Rattle.laws.proofs.Notes.{note-length}
-use Rattle.laws.proofs.WellFormed.{memory-facts, pending-length}
-use Rattle.laws.proofs.Search.{count-same}
 use Rattle.model.specs.Tables.{Row, firstOf}
-use Rattle.model.specs.Bytes.{field}
-use Rattle.model.specs.Geometry.{ring, geometryOf, store, logSlot, noteSlot, pageAt, slotAt}
-use Rattle.model.specs.Item.{imageLsn, isWritten, noteOf, noteBytes}
-use Rattle.model.specs.Checksum.{sealImage}
-use Rattle.model.specs.Index.{entryOf, entryRow}
-use Rattle.model.specs.Scan.{logRecord, noteRecord}
-use Rattle.model.specs.State.{pendingBytes, frameBytes, holder, held, lastNote, notePending, noteNeeded, recordNeeded}
-use Rattle.model.specs.Refusals.{pageDirty, beginRows, loadRows, changeRows, forceRows, writeRows, backupRows, releaseRows, noteRows}
-use Rattle.model.specs.Calls.{StoredItem, nothing, oneItem, Outcome, volumeAfter, unchanged, decided, Call, begin, load, change, force, write, backup, release, note, startCarry, restamp, finishCarry, outcomeOf, beginOf, loadOf, changeCall, forceOf, writeOf, backupOf, releaseOf, noteCall, noteStored, notedState, forcedState, appendedState}
-use Rattle.model.specs.Carry.{carries, countOf}
+use Rattle.model.specs.Geometry.{ring}
+use Rattle.model.specs.Item.{isWritten}
+use Rattle.model.specs.Scan.{noteRecord}
+use Rattle.model.specs.State.{holder, held, notePending, noteNeeded, recordNeeded}
+use Rattle.model.specs.Refusals.{pageDirty, beginRows, loadRows, changeRows, forceRows, writeRows, backupRows}
+use Rattle.model.specs.Refusals.{releaseRows, noteRows}
+use Rattle.model.specs.Outcome.{StoredItem, Outcome, volumeAfter, decided}
+use Rattle.model.specs.Effects.{noteStored, appendedState, backupDone, beginDone, changeDone, forceDone, loadDone, releaseDone, writeDone}
+use Rattle.model.specs.Calls.{Call, outcomeOf}
+use Rattle.model.specs.declared.command.Command.the-variants.{Begin, Load, Change, Force, Write, Backup, Release, Note as NoteCall, StartCarry, Restamp, FinishCarry}
+use Rattle.model.specs.Carry.{carries}
 use Rattle.model.specs.AbstractLog.{Logged}
 use Rattle.model.specs.declared.geometry.Geometry.{Geometry}
 use Rattle.model.specs.declared.item.Note.{Note}
-use Rattle.model.specs.declared.state.Entry.{Entry}
 use Rattle.model.specs.declared.state.PendingNote.{PendingNote}
 use Rattle.model.specs.declared.state.PendingNote.the-variants.{Absent, Present}
 use Rattle.model.specs.declared.state.State.{State}
-use Rattle.history.proofs.Entries.{markAt, mark-hit, mark-miss, mark-append, noteN, lenN}
 use Rattle.history.proofs.Images.{sealed-size}
-use Rattle.history.proofs.Keeps.{Writes, writes, Backs, backs, note-store}
-use Rattle.history.proofs.Context.{Ctx, sized, geo, entry-is, Found}
-use Rattle.history.proofs.WellFormed.{memory-ok}
-use Rattle.model.specs.Upkeep.{idle, upkeepOf, reserve, noteAhead, logAhead, notePosition, logPosition, freeSlot, refresh, everWritten, pendingWritten}
+use Rattle.history.proofs.Keeps.{writes, backs}
+use Rattle.history.proofs.Context.{Ctx, geo}
+use Rattle.upkeep_policy.specs.Upkeep.{idle, upkeepOf, reserve, noteAhead, notePosition}
 use Rattle.upkeep_theory.proofs.Idle.{Rest, idle-rests}
-use Rattle.upkeep_theory.proofs.NotesTidy.{NotesTidy, leave-user, leave-second, ahead-is}
-use Rattle.upkeep_theory.proofs.Tidy.{Tidy, Reset, still, user-record, put-record, leave, apart-none, apart-page, apart-slot, marks-index, Busy}
-use Rattle.upkeep_theory.proofs.TidyStores.{force-tidy, note-tidy}
-use Rattle.upkeep_theory.proofs.Tidy.{idle as reset}
-use Rattle.upkeep_theory.proofs.Live.{marks-appended, marks-forced, noting-ok, noting-number, noting-back, noted-slot, noted-backup, noted-more, noted-wrote, frame-above}
+use Rattle.upkeep_theory.proofs.NotesTidy.{NotesTidy, leave-user}
+use Rattle.upkeep_theory.proofs.Tidy.{Tidy, Reset, idle as reset}
+use Rattle.upkeep_theory.proofs.Apart.{apart-none, apart-page, apart-slot, marks-index}
+use Rattle.upkeep_theory.proofs.TidySteps.{still, user-record, leave}
+use Rattle.upkeep_theory.proofs.Live.{marks-appended, frame-above}
 
 pub no-note : (n : PendingNote) → notePending n ≡ false → n ≡ Absent
 no-note Absent e = refl
@@ -57,10 +50,12 @@ module _ {C : Type 0} {g : Geometry} {v m : List ℕ} {past : List StoredItem} {
   abbrev After : Outcome → ℕ → Type 0
   After o cuts = Tidy g (volumeAfter v (o .stored)) (o .state) cuts
 
-  pub by-table : (cuts : ℕ) → Tidy g v s cuts → (rows : List Row) (done : Outcome) → (firstOf rows ≡ 0 → After done cuts)
+  pub by-table : (cuts : ℕ) → Tidy g v s cuts → (rows : List Row) (done : Outcome)
+      → (firstOf rows ≡ 0 → After done cuts)
       → After (decided rows m s done) cuts
-  unfolding volumeAfter
-  by-table cuts t rows done h = byCases (eqb (firstOf rows) 0) (λ e. rw e (h (eqb-true (firstOf rows) 0 e))) (λ e. rw e t)
+  unfolding volumeAfter decided
+  by-table cuts t rows done h = byCases (eqb (firstOf rows) 0) (λ e. rw e (h (eqb-true (firstOf rows) 0 e)))
+      (λ e. rw e t)
 
   -- ---- where upkeep is idle
 
@@ -82,7 +77,8 @@ module _ {C : Type 0} {g : Geometry} {v m : List ℕ} {past : List StoredItem} {
     abbrev t : Tidy g v s cuts
     t = idle-reset .tidy
 
-    frames-only : (s′ : State) → s′ .index ≡ s .index → s′ .notes ≡ s .notes → s′ .durable ≡ s .durable → s′ .pending ≡ s .pending
+    frames-only : (s′ : State) → s′ .index ≡ s .index → s′ .notes ≡ s .notes → s′ .durable ≡ s .durable
+        → s′ .pending ≡ s .pending
         → s′ .note ≡ s .note → Tidy g v s′ cuts
     frames-only s′ a b c d e =
         still g v (x .hs .vol) s l2 n2 cuts t v (apart-none g v) s′ (marks-index g s s′ a) b c d e 0 (omega arith)
@@ -90,8 +86,10 @@ module _ {C : Type 0} {g : Geometry} {v m : List ℕ} {past : List StoredItem} {
 
     one-more : (p f : ℕ) → Tidy g v (appendedState s p f) cuts
     unfolding appendedState
-    one-more p f = user-record g v (x .hs .vol) s l2 n2 cuts t v (apart-none g v) (appendedState s p f) (marks-appended g s p f) refl refl
-        quiet (omega (arith, quiet)) (idle-reset .k-is) (idle-reset .d-is) (idle-reset .u-is) absent absent (idle-reset .b-is)
+    one-more p f = user-record g v (x .hs .vol) s l2 n2 cuts t v (apart-none g v) (appendedState s p f)
+        (marks-appended g s p f) refl refl
+        quiet (omega (arith, quiet)) (idle-reset .k-is) (idle-reset .d-is) (idle-reset .u-is) absent absent
+        (idle-reset .b-is)
 
     -- the user's owed note
     no-next : {A : Type 0} (j : ℕ) → s .durable ≤ j + g .records → suc j + g .records ≡ t .z .d0 + t .z .u + reserve g
@@ -107,30 +105,33 @@ module _ {C : Type 0} {g : Geometry} {v m : List ℕ} {past : List StoredItem} {
     no-note-step (Present n) e = let q : _≡_ {A = ℕ} 0 1 = cc in absurd (omega arith)
 
     pub user-step : (c : Call) → carries c ≡ false → After (outcomeOf c v m s) cuts
-    unfolding beginOf loadOf changeCall forceOf writeOf backupOf releaseOf noteCall volumeAfter
-    user-step (begin p f fill) o = by-table cuts t (beginRows v m s p f) _ (λ e. one-more p f)
-    user-step (load p f) o = by-table cuts t (loadRows v m s p f) _ (λ e. frames-only _ refl refl refl refl refl)
-    user-step (change p c payload) o = by-table cuts t (changeRows v m s p c) _ (λ e. one-more p (holder s p))
-    user-step force o = by-table cuts t (forceRows v m s) _ (λ e. rw (eq-eqb (s .pending) 0 quiet) t)
-    user-step (write p) o = by-table cuts t (writeRows v m s p) _ (λ e. byCases (pageDirty s p)
+    unfolding decided beginDone loadDone changeDone forceDone writeDone backupDone releaseDone volumeAfter
+    user-step (Begin p f fill, _) o = by-table cuts t (beginRows v m s p f) _ (λ e. one-more p f)
+    user-step (Load p f, _) o = by-table cuts t (loadRows v m s p f) _ (λ e. frames-only _ refl refl refl refl refl)
+    user-step (Change p c, payload) o = by-table cuts t (changeRows v m s p c) _ (λ e. one-more p (holder s p))
+    user-step (Force, _) o = by-table cuts t (forceRows v m s) _ (λ e. rw (eq-eqb (s .pending) 0 quiet) t)
+    user-step (Write p, _) o = by-table cuts t (writeRows v m s p) _ (λ e. byCases (pageDirty s p)
         (λ d. let q = writes x p e in let rd = q .ready d in let fo = q .frame-of in
         rw (d, geo x) (leave g v (x .hs .vol) s l2 n2 cuts t _
-        (apart-page g v (x .hs .vol) p (fo .framed .low) (fo .framed .high) _ (sealed-size x p fo (rd .2))) _ (marks-index g s _ refl) refl refl
+        (apart-page g v (x .hs .vol) p (fo .framed .low) (fo .framed .high) _ (sealed-size x p fo (rd .2))) _
+        (marks-index g s _ refl) refl refl
         quiet quiet _ refl (user-notes _) (λ u. absurd (true-not-false refl u)) (λ j a e y. no-next j a e y)
         0 (omega arith) (omega (arith, idle-reset .b-is)) (λ h. absurd (omega arith)) .0))
         (λ d. rw d t))
-    user-step (backup p b) o = by-table cuts t (backupRows v m s p b) _ (λ e.
+    user-step (Backup p b, _) o = by-table cuts t (backupRows v m s p b) _ (λ e.
         let q = backs x p b e in let fo = q .frame-of in
         rw (geo x) (leave g v (x .hs .vol) s l2 n2 cuts t _
-        (apart-slot g v (x .hs .vol) b (q .slot-low) (q .slot-high) _ (sealed-size x p fo (q .forced-to))) _ (marks-index g s _ refl) refl refl
-        quiet quiet _ refl (user-notes _) (λ u j a c e y. (frame-above x quiet p fo j a c e y, fo .framed .low, fo .framed .high))
+        (apart-slot g v (x .hs .vol) b (q .slot-low) (q .slot-high) _ (sealed-size x p fo (q .forced-to))) _
+        (marks-index g s _ refl) refl refl
+        quiet quiet _ refl (user-notes _)
+        (λ u j a c e y. (frame-above x quiet p fo j a c e y, fo .framed .low, fo .framed .high))
         (λ j a e y. no-next j a e y)
         0 (omega arith) (omega (arith, idle-reset .b-is)) (λ h. absurd (omega arith)) .0))
-    user-step (release p) o = by-table cuts t (releaseRows v m s p) _ (λ e. frames-only _ refl refl refl refl refl)
-    user-step note o = by-table cuts t (noteRows v m s) _ (λ e. no-note-step (s .note) absent)
-    user-step startCarry o = absurd (true-not-false refl o)
-    user-step restamp o = absurd (true-not-false refl o)
-    user-step finishCarry o = absurd (true-not-false refl o)
+    user-step (Release p, _) o = by-table cuts t (releaseRows v m s p) _ (λ e. frames-only _ refl refl refl refl refl)
+    user-step (NoteCall, _) o = by-table cuts t (noteRows v m s) _ (λ e. no-note-step (s .note) absent)
+    user-step (StartCarry, _) o = absurd (true-not-false refl o)
+    user-step (Restamp, _) o = absurd (true-not-false refl o)
+    user-step (FinishCarry, _) o = absurd (true-not-false refl o)
 
   -- ---- the call that upkeep advises
 
@@ -141,10 +142,13 @@ module _ {C : Type 0} {g : Geometry} {v m : List ℕ} {past : List StoredItem} {
   module _ (cuts : ℕ) (t : Tidy g v s cuts) where
     -- of the two positions it is the second that is needed
     pub needs-second : (i : ℕ) → 1 ≤ i → i ≤ 2 → noteAhead g v s i ≡ true
-        → (i ≡ 2) × (place2 + g .notes ≡ suc (s .notes)) × (noteNeeded g v (s .notes) (suc place2) ≡ true) × (notePosition g s i ≡ suc place2)
+        → (i ≡ 2) × (place2 + g .notes ≡ suc (s .notes)) × (noteNeeded g v (s .notes) (suc place2) ≡ true)
+        × (notePosition g s i ≡ suc place2)
     unfolding noteAhead
     needs-second i lo hi y =
-        let b = ltb-true (g .notes) (s .notes + i) (and-left (ltb (g .notes) (s .notes + i)) (noteNeeded g v (s .notes) (notePosition g s i)) y) in
+        let b =
+        ltb-true (g .notes) (s .notes + i)
+        (and-left (ltb (g .notes) (s .notes + i)) (noteNeeded g v (s .notes) (notePosition g s i)) y) in
         let q : noteNeeded g v (s .notes) (notePosition g s i) ≡ true =
         and-right (ltb (g .notes) (s .notes + i)) (noteNeeded g v (s .notes) (notePosition g s i)) y in
         elim (ℕ-discrete i 2) [
@@ -158,17 +162,22 @@ module _ {C : Type 0} {g : Geometry} {v m : List ℕ} {past : List StoredItem} {
         ]
 
     -- where position 2 is needed a note came since k0
-    pub note-came : place2 + g .notes ≡ suc (s .notes) → noteNeeded g v (s .notes) (suc place2) ≡ true → s .notes ≢ t .z .k0
+    pub note-came : place2 + g .notes ≡ suc (s .notes) → noteNeeded g v (s .notes) (suc place2) ≡ true
+        → s .notes ≢ t .z .k0
     note-came e y z = true-not-false y (t .notes .second z place2 e)
 
     -- and so the record at the reserve is spare
-    pub no-record : {A : Type 0} → s .notes ≢ t .z .k0 → (j : ℕ) → s .durable ≤ j + g .records → suc j + g .records ≡ t .z .d0 + t .z .u + reserve g
+    pub no-record : {A : Type 0} → s .notes ≢ t .z .k0 → (j : ℕ) → s .durable ≤ j + g .records
+        → suc j + g .records ≡ t .z .d0 + t .z .u + reserve g
         → recordNeeded g v s (suc j) ≡ true → A
-    no-record ne j a e y = ⊎-elim (λ f. absurd (ne (f .0))) (λ f. absurd (true-not-false y (f j a (omega arith)))) (t .log .next)
+    no-record ne j a e y = ⊎-elim (λ f. absurd (ne (f .0))) (λ f. absurd (true-not-false y (f j a (omega arith))))
+        (t .log .next)
 
     -- no renewal of a written note is under way while upkeep has something else to do
-    pub not-busy : ((place2 + g .notes ≡ suc (s .notes)) → noteNeeded g v (s .notes) (suc place2) ≡ true → isWritten (noteRecord g v (suc place2)) ≡ true
-        → ((held s (noteRecord g v (suc place2) .page) ≡ true) × (pageDirty s (noteRecord g v (suc place2) .page) ≡ true)) → ⊥)
+    pub not-busy : ((place2 + g .notes ≡ suc (s .notes)) → noteNeeded g v (s .notes) (suc place2) ≡ true
+        → isWritten (noteRecord g v (suc place2)) ≡ true
+        → ((held s (noteRecord g v (suc place2) .page) ≡ true)
+        × (pageDirty s (noteRecord g v (suc place2) .page) ≡ true)) → ⊥)
         → notePending (s .note) ≡ false → t .b ≡ 0
     not-busy h noting = elim (ℕ-discrete (t .b) 0) [
       | yes q ↦ q

@@ -1,24 +1,27 @@
--- T4: where the invariant holds upkeep is stuck for one reason alone: the page to be renewed is in no frame, and its Load is 23.
-use mathlib.Core.Path.{_≡_, refl, sym, ap, _∙_, subst}
-use mathlib.Core.Logic.{_≢_, _⊎_, inl, inr, ⊎-elim}
-use mathlib.Core.Bool.{Bool, true, false, cond, _&&_, _||_, not, and-false}
-use mathlib.Core.List.{List, [], _∷_, _++_}
-use Prim.Native.Nat.{ℕ, zero, suc, _+_, _-_, _/_, _≤_, _<_}
+-- T4: where the invariant holds upkeep is stuck for one reason alone: the page to be renewed is in no frame, and its
+-- Load is 23.
+use mathlib.Core.Path.{_≡_, refl, sym, ap, _∙_}
+use mathlib.Core.Logic.{_≢_, _⊎_, ⊎-elim}
+use mathlib.Core.Bool.{Bool, true, false, _&&_, not, and-false}
+use mathlib.Core.List.{List}
+use Prim.Native.Nat.{ℕ, suc, _+_, _-_, _≤_, _<_}
 use native.Mathlib.Omega.{arith}
-use native.Mathlib.Decide.{decLt, ℕ-discrete}
 use lib.Dec.{eqb, leb, ltb}
 use lib.ListN.{length}
-use borrow.Author.Tests.{eqb-true, leb-true, leb-false, ltb-true, ltb-false, le-ltb, lt-leb, ne-eqb, not-true, eq-eqb}
-use Rattle.laws.proofs.Tables.{byCases, and-left, and-right, every-at, true-not-false}
-use Rattle.laws.proofs.Search.{First, first-from}
+use borrow.Author.Tests.{eqb-true, leb-true, ltb-false, le-ltb, lt-leb, ne-eqb, not-true, eq-eqb}
+use Rattle.laws.proofs.Tables.{byCases, and-right, every-at, true-not-false}
+use Rattle.laws.proofs.Search.{first-from}
 use Rattle.model.specs.Tables.{firstOf, every}
 use Rattle.model.specs.Geometry.{ring, topNumber, geometryOf}
 use Rattle.model.specs.Item.{isWritten}
 use Rattle.model.specs.Index.{entryOf}
-use Rattle.model.specs.Scan.{logRecord, noteRecord}
-use Rattle.model.specs.State.{frameCount, logFull, notesFull, notePending, held, noteNeeded, noteWhole, noteLike, recordNeeded}
+use Rattle.model.specs.Scan.{noteRecord}
+use Rattle.model.specs.State.{frameCount, logFull, notesFull, notePending, held, noteNeeded, noteWhole, noteLike}
+use Rattle.model.specs.State.{recordNeeded}
 use Rattle.model.specs.Refusals.{pageDirty, loadRows}
-use Rattle.model.specs.Calls.{StoredItem, Call, load, force, write, backup, note, loadOf, refusalOf}
+use Rattle.model.specs.Outcome.{StoredItem, refusalOf}
+use Rattle.model.specs.Calls.{Call, loadOf, noPayload}
+use Rattle.model.specs.declared.command.Command.the-variants.{Load, Force, Write, Backup, Note as NoteCall}
 use Rattle.model.specs.AbstractLog.{Logged}
 use Rattle.model.specs.Carry.{countOf}
 use Rattle.model.specs.declared.geometry.Geometry.{Geometry}
@@ -29,12 +32,13 @@ use Rattle.history.proofs.Entries.{note as note′, markAt}
 use Rattle.history.proofs.Context.{Ctx, sized, geo, entry-is}
 use Rattle.history.proofs.Refusals.{call-refusal}
 use Rattle.history.proofs.WellFormed.{state-ok}
-use Rattle.model.specs.Upkeep.{Advice, idle, stuck, make, reserve, notePosition, noteAhead, logAhead, firstNeededNote, firstNeededLog, noSlot, freeSlot, refresh, renew, renewNote, renewLog, upkeepOf}
+use Rattle.upkeep_policy.specs.Upkeep.{idle, stuck, make, reserve, notePosition, noteAhead, firstNeededNote}
+use Rattle.upkeep_policy.specs.Upkeep.{firstNeededLog, noSlot, freeSlot, refresh, renew, upkeepOf}
 use Rattle.upkeep_theory.proofs.Slots.{slot-left}
 use Rattle.upkeep_theory.proofs.NotesTidy.{NotesTidy, alike-holds}
 use Rattle.upkeep_theory.proofs.Near.{wroteIn, stands-whole, wrote-note, since-room}
 use Rattle.upkeep_theory.proofs.Tidy.{Tidy, sinceWritten}
-use Rattle.upkeep_theory.proofs.Step.{l2, place2, needs-second, note-came, not-busy}
+use Rattle.upkeep_theory.proofs.Step.{place2, needs-second, note-came, not-busy}
 
 -- ---- the advice
 
@@ -60,19 +64,21 @@ renew-stuck v m s r p written q e nf ns lf =
     byCases (held s p)
     (λ h. byCases written
     (λ t. byCases (pageDirty s p)
-    (λ d. no-make (write p) q (rw (h, t, d, nf) at e))
+    (λ d. no-make (Write p, noPayload) q (rw (h, t, d, nf) at e))
     (λ d. no-make (refresh m s p) q (rw (h, t, d, lf t h d) at e)))
-    (λ t. no-make (backup p (freeSlot g s)) q (rw (h, t, ns, nf) at e)))
+    (λ t. no-make (Backup p (freeSlot g s), noPayload) q (rw (h, t, ns, nf) at e)))
     (λ h. byCases (eqb (firstOf (loadRows v m s p r)) 23)
-    (λ f. let z : q ≡ p = the-page p q (rw (h, f) at e) in rw z (record { away = h; below = eqb-true (firstOf (loadRows v m s p r)) 23 f }))
-    (λ f. no-make (load p r) q (rw (h, f) at e)))
+    (λ f. let z : q ≡ p = the-page p q (rw (h, f) at e) in
+    rw z (record { away = h; below = eqb-true (firstOf (loadRows v m s p r)) 23 f }))
+    (λ f. no-make (Load p r, noPayload) q (rw (h, f) at e)))
 
 upkeep-stuck : (v m : List ℕ) (s : State) (r q : ℕ) → upkeepOf v m s r ≡ stuck q
     → (notePending (s .note) ≡ false → s .pending ≡ 0 → ring (geometryOf v) ≡ true
     → (notesFull (geometryOf v) v s ≡ false) × (noSlot (geometryOf v) s ≡ false)
     × ((i : ℕ) → 1 ≤ i → i ≤ 2 → noteAhead (geometryOf v) v s i ≡ true
     → isWritten (noteRecord (geometryOf v) v (notePosition (geometryOf v) s i)) ≡ true
-    → pageDirty s (noteRecord (geometryOf v) v (notePosition (geometryOf v) s i) .page) ≡ false → logFull (geometryOf v) v s ≡ false))
+    → pageDirty s (noteRecord (geometryOf v) v (notePosition (geometryOf v) s i) .page) ≡ false
+    → logFull (geometryOf v) v s ≡ false))
     → Lost v m s r q
 unfolding upkeepOf firstNeededNote firstNeededLog
 upkeep-stuck v m s r q e facts =
@@ -81,14 +87,15 @@ upkeep-stuck v m s r q e facts =
     let j = firstNeededLog g v s in
     let n = first-from (noteAhead g v s) 2 1 in
     byCases (notePending (s .note))
-    (λ a. no-make note q (rw a at e))
+    (λ a. no-make (NoteCall, noPayload) q (rw a at e))
     (λ a. byCases (ltb 0 (s .pending))
-    (λ b. no-make force q (rw (a, b) at e))
+    (λ b. no-make (Force, noPayload) q (rw (a, b) at e))
     (λ b. byCases (ring g)
     (λ o. let f = facts a (omega (arith, ltb-false 0 (s .pending) b)) o in
     byCases (leb i 2)
     (λ d. let hi = leb-true i 2 d in
-    renew-stuck v m s r _ _ q (rw (a, b, o, d) at e) (f .0) (f .1) (λ w h c. f .2 i (n .low) hi (n .hit (omega arith)) w c))
+    renew-stuck v m s r _ _ q (rw (a, b, o, d) at e) (f .0) (f .1)
+    (λ w h c. f .2 i (n .low) hi (n .hit (omega arith)) w c))
     (λ d. byCases (leb j (reserve g))
     (λ l. renew-stuck v m s r _ false q (rw (a, b, o, d, l) at e) (f .0) (f .1) (λ w. absurd (true-not-false w refl)))
     (λ l. no-idle q (rw (a, b, o, d, l) at e))))
@@ -112,12 +119,14 @@ module _ {C : Type 0} {g : Geometry} {v m : List ℕ} {past : List StoredItem} {
   slots-open : g .pages < g .slots → noSlot g s ≡ false
   slots-open more =
       let f : (1 ≤ freeSlot g s) × (freeSlot g s ≤ g .slots) =
-      rw (geo x) at (slot-left v (frameCount (length m)) s (state-ok x) (rw (geo x) (sized x .p-high)) (x .al .index .size) (rw (geo x) more)) in
+      rw (geo x) at (slot-left v (frameCount (length m)) s (state-ok x) (rw (geo x) (sized x .p-high))
+      (x .al .index .size) (rw (geo x) more)) in
       le-ltb (g .slots) (freeSlot g s) (f .1)
 
   -- a put has room: the written notes since k0 are fewer than W
   module _ (W : ℕ) (fl : countOf 64 (wroteIn (x .ns)) ≤ W) (at2 : place2 x turns n2 + g .notes ≡ suc (s .notes))
-      (need : noteNeeded g v (s .notes) (suc (place2 x turns n2)) ≡ true) (wr : isWritten (noteRecord g v (suc (place2 x turns n2))) ≡ true) where
+      (need : noteNeeded g v (s .notes) (suc (place2 x turns n2)) ≡ true)
+      (wr : isWritten (noteRecord g v (suc (place2 x turns n2))) ≡ true) where
     abbrev a : ℕ
     a = place2 x turns n2
 
@@ -134,13 +143,16 @@ module _ {C : Type 0} {g : Geometry} {v m : List ℕ} {past : List StoredItem} {
     none-since i lt u e =
         let b = t .z .k0 + i in
         let kk = x .al .notes-is in
-        let wh : noteWhole g v (suc b) ≡ true = stands-whole g v k (x .hs) (x .ns) (x .no) b (omega (arith, t .notes .low)) (omega (arith, t .near)) .1 in
+        let wh : noteWhole g v (suc b) ≡ true =
+        stands-whole g v k (x .hs) (x .ns) (x .no) b (omega (arith, t .notes .low)) (omega (arith, t .near)) .1 in
         let later = and-right (noteWhole g v (suc a))
-        (every (s .notes - suc a) (λ c. not (noteWhole g v (suc (suc a + c)) && noteLike g v (suc a) (suc (suc a + c))))) need in
+        (every (s .notes - suc a)
+        (λ c. not (noteWhole g v (suc (suc a + c)) && noteLike g v (suc a) (suc (suc a + c))))) need in
         let c = b - suc a in
         let sm : suc a + (b - suc a) ≡ b = omega (arith, t .near) in
         let f : not (noteWhole g v (suc (suc a + c)) && noteLike g v (suc a) (suc (suc a + c))) ≡ true =
-        every-at (λ c. not (noteWhole g v (suc (suc a + c)) && noteLike g v (suc a) (suc (suc a + c)))) (s .notes - suc a) later c
+        every-at (λ c. not (noteWhole g v (suc (suc a + c)) && noteLike g v (suc a) (suc (suc a + c))))
+        (s .notes - suc a) later c
         (omega (arith, t .notes .low, t .near)) in
         let f′ : not (noteWhole g v (suc b) && noteLike g v (suc a) (suc b)) ≡ true = rw sm at f in
         let like : noteLike g v (suc a) (suc b) ≡ true =
@@ -154,11 +166,13 @@ module _ {C : Type 0} {g : Geometry} {v m : List ℕ} {past : List StoredItem} {
         let e = x .al .notes-is in
         let f = x .no .fit a ab in
         let nt : NotesTidy g v (length (x .ns)) (t .z .k0) (s .note) = rw e at (t .notes) in
-        rw e (since-room g v k (x .hs) (x .ns) (x .no) (t .z .k0) nt (omega (arith, t .near)) W fl (note′ (x .ns) a .page) (f .low) (f .high)
+        rw e (since-room g v k (x .hs) (x .ns) (x .no) (t .z .k0) nt (omega (arith, t .near)) W fl
+        (note′ (x .ns) a .page) (f .low) (f .high)
         (wrote-note g v k (x .hs) (x .ns) (x .no) a ab (rw is-note at wr)) none-since)
 
     pub log-open : W + cuts ≤ reserve g → notePending (s .note) ≡ false → s .pending ≡ 0
-        → pageDirty s (noteRecord g v (suc (place2 x turns n2)) .page) ≡ false → s .durable < topNumber → logFull g v s ≡ false
+        → pageDirty s (noteRecord g v (suc (place2 x turns n2)) .page) ≡ false → s .durable < topNumber
+        → logFull g v s ≡ false
     unfolding logFull
     log-open cap noting silent clean b =
         let zz : s .durable + s .pending ≡ s .durable = omega arith in
@@ -181,11 +195,14 @@ module _ {C : Type 0} {g : Geometry} {v m : List ℕ} {past : List StoredItem} {
       → g .pages < g .slots → s .durable < topNumber → s .notes < topNumber
       → (r q : ℕ) → upkeepOf v m s r ≡ stuck q → (held s q ≡ false) × (refusalOf (loadOf v m s q r .answer) ≡ 23)
   stuck-lost W fl cap more dn kn r q e =
-      let l = upkeep-stuck v m s r q e (rw (geo x) (λ noting silent o. (notes-open kn, slots-open more, logs noting silent))) in
-      (l .away, call-refusal (load q r) v m s ∙ l .below)
+      let l =
+      upkeep-stuck v m s r q e
+      (rw (geo x) (λ noting silent o. (notes-open kn, slots-open more, logs noting silent))) in
+      (l .away, call-refusal (Load q r, noPayload) v m s ∙ l .below)
     where
       logs : notePending (s .note) ≡ false → s .pending ≡ 0 → (i : ℕ) → 1 ≤ i → i ≤ 2 → noteAhead g v s i ≡ true
-          → isWritten (noteRecord g v (notePosition g s i)) ≡ true → pageDirty s (noteRecord g v (notePosition g s i) .page) ≡ false
+          → isWritten (noteRecord g v (notePosition g s i)) ≡ true
+          → pageDirty s (noteRecord g v (notePosition g s i) .page) ≡ false
           → logFull g v s ≡ false
       logs noting silent i lo hi y wr clean =
           let f = needs-second x turns n2 cuts t i lo hi y in
@@ -196,15 +213,18 @@ module _ {C : Type 0} {g : Geometry} {v m : List ℕ} {past : List StoredItem} {
           (λ h. log-open W fl (f .1) (f .2) w2 h noting silent c2 dn) cap
         where
           unwritten : ((p : ℕ) → 1 ≤ p → p ≤ g .pages → entryOf (s .index) p .written ≡ 0)
-              → place2 x turns n2 + g .notes ≡ suc (s .notes) → isWritten (noteRecord g v (suc (place2 x turns n2))) ≡ true → ⊥
+              → place2 x turns n2 + g .notes ≡ suc (s .notes)
+              → isWritten (noteRecord g v (suc (place2 x turns n2))) ≡ true → ⊥
           unwritten h at2 w2 =
               let a = place2 x turns n2 in
               let ab : a < length (x .ns) = omega (arith, x .al .notes-is) in
-              let is : noteRecord g v (suc a) ≡ note′ (x .ns) a = stands-whole g v k (x .hs) (x .ns) (x .no) a ab (omega (arith, x .al .notes-is)) .0 in
+              let is : noteRecord g v (suc a) ≡ note′ (x .ns) a =
+              stands-whole g v k (x .hs) (x .ns) (x .no) a ab (omega (arith, x .al .notes-is)) .0 in
               let f = x .no .fit a ab in
               let p = note′ (x .ns) a .page in
               let q : suc (note′ (x .ns) a .page - 1) ≡ note′ (x .ns) a .page = omega (arith, f .low) in
-              let y : wroteIn (x .ns) (note′ (x .ns) a .page - 1) ≡ true = wrote-note g v k (x .hs) (x .ns) (x .no) a ab (rw is at w2) in
+              let y : wroteIn (x .ns) (note′ (x .ns) a .page - 1) ≡ true =
+              wrote-note g v k (x .hs) (x .ns) (x .no) a ab (rw is at w2) in
               let y′ : not (eqb (markAt p (x .ns) (length (x .ns)) .written) 0) ≡ true = rw q at y in
               let e : markAt p (x .ns) (length (x .ns)) .written ≡ 0 =
               sym (ap (λ (y : Entry). y .written) (entry-is x p (f .low) (f .high))) ∙ h p (f .low) (f .high) in

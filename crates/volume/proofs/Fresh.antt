@@ -14,7 +14,7 @@ use Rattle.laws.proofs.Zeros.{zeros, take-zeros, drop-zeros}
 use Rattle.model.specs.Bytes.{bytesOf, splice}
 use Rattle.model.specs.Geometry.{magic, slotCountAt, recordCountAt, noteCountAt, lengthFor, validCounts, emptyVolume}
 use Rattle.model.specs.Refusals.{makeRows}
-use Rattle.model.specs.Calls.{makeOf}
+use Rattle.model.specs.Restart.{makeOf}
 use Rattle.model.specs.declared.geometry.Heading.{Heading}
 use Rattle.model.specs.declared.answer.Answer.the-variants.{Refused, Done}
 

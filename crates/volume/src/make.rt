@@ -2,7 +2,7 @@
 ghost use mathlib.Core.Path.{_≡_};
 ghost use lib.ListN.{length};
 ghost use Rattle.model.specs.Geometry.{lengthFor, emptyVolume};
-ghost use Rattle.model.specs.Calls.{makeOf};
+ghost use Rattle.model.specs.Restart.{makeOf};
 ghost use Rattle.model.specs.declared.geometry.Heading.the-variants.{First, Second};
 use crate::heading;
 use codec::field;

@@ -3,12 +3,13 @@ ghost use mathlib.Core.Path.{_≡_};
 ghost use Prim.Native.Nat.{_-_, _%_, _≤_, _<_};
 ghost use Rattle.model.specs.Geometry.{ring, most, mostNotes, slotOf};
 use model::geometry::Geometry;
+use model::geometry::SECOND_TAG;
 
 // The log and the notes are rings: the second heading and at least two log slots.
 pub fn ring(g: Geometry) -> bool
     ensures { λ r. ⌜ r ≡ ring g ⌝ }
 {
-    (g.tag == 0x32) & (2 <= g.records)
+    (g.tag == SECOND_TAG) & (2 <= g.records)
 }
 
 // The last number that a log record may have.

@@ -1,9 +1,9 @@
 //! Volumes with every log record and every note stored.
 
-use reference::geometry::Geometry;
-use reference::heading::Heading;
-use reference::note::{Note, NoteKind};
-use reference::record::{Change, Record, PAYLOAD_LEN};
+use reference::store::geometry::Geometry;
+use reference::store::heading::Heading;
+use reference::store::note::{Note, NoteKind};
+use reference::store::record::{Change, Record, PAYLOAD_LEN};
 
 /// Records of each page that has any.
 pub const CHAIN: usize = 16;

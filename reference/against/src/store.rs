@@ -1,9 +1,9 @@
 //! The proved calls on the state, called as C calls them: slices as pointers and lengths, the state
 //! as its numbers.
 
-use reference::cell::Call;
-use reference::heading::Heading;
-use reference::record::Change;
+use reference::script::cell::Call;
+use reference::store::heading::Heading;
+use reference::store::record::Change;
 
 mod c {
     macro_rules! calls {

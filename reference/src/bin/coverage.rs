@@ -2,10 +2,10 @@
 //! behind that output, it counts them for each call; with `--kind`, it also lists what scripts
 //! of that kind are to reach and this one does not.
 
-use reference::args::value;
-use reference::cell::Cell;
-use reference::coverage::{call_name, count_output, hits, label, sought};
-use reference::driver::cells;
+use reference::checks::coverage::{call_name, count_output, hits, label, sought};
+use reference::script::args::value;
+use reference::script::cell::Cell;
+use reference::script::driver::cells;
 use std::collections::BTreeMap;
 use std::fs;
 use std::io::{self, Read};

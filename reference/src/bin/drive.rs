@@ -6,6 +6,6 @@ fn main() -> io::Result<()> {
     let mut script = Vec::new();
     io::stdin().read_to_end(&mut script)?;
     let mut out = BufWriter::new(io::stdout().lock());
-    reference::driver::drive(&script, &mut out)?;
+    reference::script::driver::drive(&script, &mut out)?;
     out.flush()
 }

@@ -1,13 +1,15 @@
 //! Writes one script: `gen --seed N --kind KIND --cells N`, the kind one of `KINDS`.
 
-use reference::arbitrary::arbitrary_script;
-use reference::args::value;
-use reference::full::full_script;
-use reference::history::{history_script, ring_script};
-use reference::mixed::mixed_script;
-use reference::reading::{carrying_script, mirror_script, reading_script, rehearse_script};
-use reference::rng::Rng;
-use reference::upkeep_episodes::upkeep_script;
+use reference::generators::arbitrary::arbitrary_script;
+use reference::generators::full::full_script;
+use reference::generators::history::{history_script, ring_script};
+use reference::generators::mixed::mixed_script;
+use reference::generators::reading::{
+    carrying_script, mirror_script, reading_script, rehearse_script,
+};
+use reference::generators::rng::Rng;
+use reference::generators::upkeep_episodes::upkeep_script;
+use reference::script::args::value;
 use std::io::{self, Write};
 use std::process::ExitCode;
 

@@ -1,6 +1,6 @@
 //! Document 01's program: reads one volume on standard input and prints a line per page.
 
-use reference::scan::{scan, MAX_VOLUME};
+use reference::store::scan::{scan, MAX_VOLUME};
 use std::io::{self, Read};
 
 fn main() -> io::Result<()> {

@@ -3,12 +3,12 @@
 // Each test program uses a part of it.
 #![allow(dead_code)]
 
-use reference::calls::make;
-use reference::geometry::Geometry;
-use reference::heading::Heading;
-use reference::image::{blank_image, set_image_lsn};
-use reference::note::{Note, NoteKind};
-use reference::record::{Change, Record};
+use reference::store::calls::make;
+use reference::store::geometry::Geometry;
+use reference::store::heading::Heading;
+use reference::store::image::{blank_image, set_image_lsn};
+use reference::store::note::{Note, NoteKind};
+use reference::store::record::{Change, Record};
 
 pub const COUNTS: [u32; 4] = [2, 1, 4, 4];
 

@@ -2,14 +2,14 @@
 use mathlib.Core.Path.{_∙_}
 use mathlib.Core.Bool.{_||_}
 use lib.Dec.{eqb}
-use Rattle.compare.specs.Volumes.{goneIn}
+use Rattle.index.specs.Scanned.{goneIn}
 use Rattle.compare.proofs.Outcomes.{chained}
 use borrow.Author.Needs.{needs}
 use Rattle.compare.proofs.refusal.Statement.{statement}
 use Rattle.compare.proofs.refusal.Tie as tie
 use Rattle.compare.proofs.refusal.Reads as reads
 use Rattle.compare.proofs.refusal.Lts as lts
-use Rattle.compare.proofs.gone.Reads as gone-reads
+use Rattle.index.proofs.gone.Reads as gone-reads
 use Rattle.volume.proofs.rows.first.Reads as first-reads
 
 -- src/lib.rt:33:28

@@ -7,14 +7,14 @@ use Rattle.drive.proofs.main.Statement.{statement}
 use Rattle.drive.proofs.main.Tie as tie
 
 abbrev Inv-loop : tie.InvT-loop
-Inv-loop volume₀ memory₀ lent₀ second₀ d₀ left₀ volume memory lent second d left =
+Inv-loop volume₀ memory₀ lent₀ second₀ b₀ left₀ volume memory lent second b left =
     (length volume ≡ 131200) × (length memory ≡ 5376) × (length lent ≡ 65920) × (length second ≡ 131200)
 
 abbrev μ-loop : tie.MeasureT-loop
-μ-loop volume₀ memory₀ lent₀ second₀ d₀ left₀ volume memory lent second d left = left
+μ-loop volume₀ memory₀ lent₀ second₀ b₀ left₀ volume memory lent second b left = left
 
-empty-requires : tie.Need-empty-requires Inv-loop μ-loop
-empty-requires c κs = search needs
+start-requires : tie.Need-start-requires Inv-loop μ-loop
+start-requires c κs = search needs
 
 loop-holds : tie.Need-loop-holds Inv-loop μ-loop
 loop-holds c = (
@@ -69,7 +69,7 @@ main-spec =
     (tie.spec
     Inv-loop
     μ-loop
-    empty-requires
+    start-requires
     loop-holds
     slice-aggregate-read-full
     read-full-requires

@@ -5,7 +5,7 @@ use native.Mathlib.Omega.{arith}
 use denote.Ref.{now}
 use Rattle.model.specs.Tables.{firstOf}
 use Rattle.model.specs.Refusals.{stateRows}
-use Rattle.force.proofs.Outcomes.{refused, idle, Room, room, lent-fits, finish}
+use Rattle.force.proofs.Outcomes.{force-refused, force-idle, Room, room, lent-fits, finish}
 use borrow.Author.Needs.{needs}
 use Rattle.force.proofs.force.Statement.{statement}
 use Rattle.force.proofs.force.Tie as tie
@@ -17,7 +17,7 @@ same-length : tie.Need-same-length
 same-length c = search needs
 
 returns : tie.Need-returns
-returns c = refused _ _ _ _ (c .before .refusal .ensures (now (c .before .before .before .before .before .args .memory)) refl)
+returns c = force-refused _ _ _ _ (c .before .refusal .ensures (now (c .before .before .before .before .before .args .memory)) refl)
     (c .if1 .taken)
 
 same-length-2 : tie.Need-same-length-2
@@ -26,7 +26,7 @@ same-length-2 c = search needs
 returns-2 : tie.Need-returns-2
 returns-2 c =
     let i = c .before .before in
-    idle _ _ _ (sym (i .before .refusal .ensures (now (i .before .before .before .before .before .args .memory)) refl) ∙ i .if1 .left)
+    force-idle _ _ _ (sym (i .before .refusal .ensures (now (i .before .before .before .before .before .args .memory)) refl) ∙ i .if1 .left)
     (c .if2 .taken)
 
 geometry-requires : tie.Need-geometry-requires

@@ -5,6 +5,7 @@ use borrow.Author.Needs.{needs}
 use borrow.Author.Tests.{not-true, not-false}
 use denote.Ref.{now}
 use Rattle.volume.proofs.Readings.{unknown-read}
+use Rattle.repair.proofs.Replays.{answered}
 use Rattle.inspect.proofs.Outcomes.{invalid, early, refusal-is, refused, Open, opened, below, done}
 use Rattle.inspect.proofs.inspect.Statement.{statement}
 use Rattle.inspect.proofs.inspect.Tie as tie
@@ -62,17 +63,14 @@ seal-requires : tie.Need-seal-requires
 seal-requires c κs = let z = known (c .before .before .before .before .before .before .before .before) .size in search needs
 
 answer-requires : tie.Need-answer-requires
-answer-requires c κs = (
-  known (c .before .before .before .before .before .before .before .before .before .before .before) .ready,
-  c .before .before .before .before .before .before .before .before .before .before .follow .ensures,
-)
+answer-requires c κs = search needs
 
 same-length : tie.Need-same-length
 same-length c = search needs
 
 returns-4 : tie.Need-returns-4
 returns-4 c =
-    done _ _ _ _ (c .before .before .before .before .before .before .before .before .before .before .before .before .before .before .before .seek .result) (known (c .before .before .before .before .before .before .before .before .before .before .before .before)) _ _ _ _ _ (c .before .before .before .before .before .before .before .before .before .before .before .follow .ensures) (c .before .before .before .before .before .before .before .before .before .before .below .ensures) (c .before .before .before .before .before .before .before .before .before .if3 .left) (c .answer .ensures)
+    done _ _ _ _ (c .before .before .before .before .before .before .before .before .before .before .before .before .before .before .before .seek .result) (known (c .before .before .before .before .before .before .before .before .before .before .before .before)) _ _ _ _ _ (c .before .before .before .before .before .before .before .before .before .before .before .follow .ensures) (c .before .before .before .before .before .before .before .before .before .before .below .ensures) (c .before .before .before .before .before .before .before .before .before .if3 .left) (answered _ _ _ _ (c .before .before .before .before .before .before .before .before .before .before .before .follow .ensures) _ (c .answer .ensures))
     (c .before .before .before .before .before .before .before .rebuild .ensures) (c .before .before .before .seal .ensures)
 
 pub inspect-spec : {M : Type 1} → statement M

@@ -1,7 +1,8 @@
 -- `load::restore` leaves the rebuilt page in the frame, and nothing else changed.
 use mathlib.Core.Path.{_∙_}
 use denote.Ref.{now}
-use Rattle.load.proofs.Outcomes.{lent-length, put-back}
+use Rattle.repair.proofs.Replays.{answered}
+use Rattle.load.proofs.Outcomes.{frame-length, put-back}
 use borrow.Author.Needs.{needs}
 use Rattle.load.proofs.restore.Statement.{statement}
 use Rattle.load.proofs.restore.Tie as tie
@@ -25,7 +26,7 @@ rebuild-requires : tie.Need-rebuild-requires
 rebuild-requires c κs =
     let b = c .before .before .before .before in
     let h = b .pre in
-    (h .0, (h .1 .0, lent-length (now (b .args .memory)) _ _ (c .before .frame-at .ensures) (h .1 .1)))
+    (h .0, (h .1 .0, frame-length (now (b .args .memory)) _ _ (c .before .frame-at .ensures) (h .1 .1)))
 
 answer-requires : tie.Need-answer-requires
 answer-requires c κs = search needs
@@ -38,9 +39,9 @@ returns c =
     let r = c .before .before .before in
     let f = r .before .before in
     let b = f .before .before .before in (
-      c .answer .ensures,
+      answered _ _ _ _ (b .pre .1 .0) _ (c .answer .ensures),
       put-back (now (b .args .memory)) _ _ _ _ (f .frame-at .ensures)
-          (r .rebuild .kept .1 .1 .1 .1 .1 .1 .0 ∙ lent-length (now (b .args .memory)) _ _ (f .frame-at .ensures) (b .pre .1 .1))
+          (r .rebuild .kept .1 .1 .1 .0 ∙ frame-length (now (b .args .memory)) _ _ (f .frame-at .ensures) (b .pre .1 .1))
           (r .rebuild .ensures),
     )
 

@@ -1,6 +1,5 @@
-use Rattle.numbers.proofs.NumberLaws.{head-long}
+use Rattle.numbers.proofs.NumberLaws.{head-long, covered}
 use Rattle.face.specs.Numbers.{numbersOf}
-use Rattle.numbers.proofs.NumberLaws.{covered}
 use mathlib.Core.Path.{ap, _∙_}
 use lib.ListN.{length}
 use borrow.Author.Needs.{needs}

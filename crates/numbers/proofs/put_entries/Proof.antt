@@ -1,4 +1,4 @@
-use Rattle.state.proofs.Tables.{length-mapped}
+use Rattle.laws.proofs.Tabulated.{length-mapped}
 -- `numbers::put_entries` meets its contract.
 use mathlib.Core.Path.{_≡_, sym}
 use Prim.Native.Nat.{_+_, _*_, _≤_, _-_}

@@ -13,18 +13,27 @@ refused-requires : tie.Need-refused-requires
 refused-requires c κs = search needs
 
 returns : tie.Need-returns
-returns c = let a = c .before .before .before .before .before .args in advise-refused (now (a .volume)) (now (a .memory)) (a .s) (a .frame) _ (c .before .before .refusal .ensures) _ (c .before .if1 .taken) (c .refused .ensures)
+returns c =
+    let a = c .before .before .before .before .before .args in
+    advise-refused (now (a .volume)) (now (a .memory)) (a .s) (a .frame) _ (c .before .before .refusal .ensures) _
+    (c .before .if1 .taken) (c .refused .ensures)
 
 geometry-requires : tie.Need-geometry-requires
 geometry-requires c κs = search needs
 
 policy-requires : tie.Need-policy-requires
 policy-requires c κs =
-    let a = c .before .before .before .before .before .args in
-    (advise-valid (now (a .volume)) (now (a .memory)) (a .s) (a .frame) (sym (c .before .before .refusal .ensures) ∙ c .before .if1 .left), c .geometry .ensures)
+    let a = c .before .before .before .before .before .args in (
+      advise-valid (now (a .volume)) (now (a .memory)) (a .s) (a .frame) (sym (c .before .before .refusal .ensures)
+          ∙ c .before .if1 .left),
+      c .geometry .ensures,
+    )
 
 returns-2 : tie.Need-returns-2
-returns-2 c = let a = c .before .before .before .before .before .before .args in advise-open (now (a .volume)) (now (a .memory)) (a .s) (a .frame) _ (c .before .before .before .refusal .ensures) _ (c .before .before .if1 .left) (c .policy .ensures)
+returns-2 c =
+    let a = c .before .before .before .before .before .before .args in
+    advise-open (now (a .volume)) (now (a .memory)) (a .s) (a .frame) _ (c .before .before .before .refusal .ensures)
+    _ (c .before .before .if1 .left) (c .policy .ensures)
 
 pub advise-spec : {M : Type 1} → statement M
 advise-spec =

@@ -1,5 +1,5 @@
 -- `upkeep::policy` meets its contract.
-use mathlib.Core.Path.{ap}
+use mathlib.Core.Path.{sym, ap, _∙_}
 use denote.Ref.{now}
 use borrow.Author.Tests.{not-true, not-false}
 use Rattle.model.specs.State.{notePending}
@@ -15,7 +15,10 @@ make-requires : tie.Need-make-requires
 make-requires c κs = search needs
 
 returns : tie.Need-returns
-returns c = let a = c .before .before .before .before .before .args in policy-note (now (a .volume)) (now (a .memory)) (a .s) (a .frame) _ (ap notePending (c .before .enum-told .given .1)) (c .make .ensures)
+returns c =
+    let a = c .before .before .before .before .before .args in
+    policy-note (now (a .volume)) (now (a .memory)) (a .s) (a .frame) _
+    (ap notePending (c .before .enum-told .given .1)) (c .make .ensures)
 
 enum-told-2 : tie.Need-enum-told-2
 enum-told-2 c = search needs
@@ -24,7 +27,10 @@ make-requires-2 : tie.Need-make-requires-2
 make-requires-2 c κs = search needs
 
 returns-2 : tie.Need-returns-2
-returns-2 c = let a = c .before .before .before .before .before .before .before .args in policy-force (now (a .volume)) (now (a .memory)) (a .s) (a .frame) _ (ap notePending (c .before .before .before .enum-told2 .given .1)) (c .before .if1 .taken) (c .make2 .ensures)
+returns-2 c =
+    let a = c .before .before .before .before .before .before .before .args in
+    policy-force (now (a .volume)) (now (a .memory)) (a .s) (a .frame) _
+    (ap notePending (c .before .before .before .enum-told2 .given .1)) (c .before .if1 .taken) (c .make2 .ensures)
 
 ring-requires : tie.Need-ring-requires
 ring-requires c κs = search needs
@@ -33,14 +39,26 @@ idle-requires : tie.Need-idle-requires
 idle-requires c κs = search needs
 
 returns-3 : tie.Need-returns-3
-returns-3 c = let a = c .before .before .before .before .before .before .before .before .before .args in let p = c .before .before .before .before .before .before .before .before .before .pre in policy-flat (now (a .volume)) (now (a .memory)) (a .s) (a .frame) _ (ap notePending (c .before .before .before .before .before .enum-told2 .given .1)) (c .before .before .before .if1 .left) (a .g) (p .1) _
+returns-3 c =
+    let a = c .before .before .before .before .before .before .before .before .before .args in
+    let p = c .before .before .before .before .before .before .before .before .before .pre in
+    policy-flat (now (a .volume)) (now (a .memory)) (a .s) (a .frame) _
+    (ap notePending (c .before .before .before .before .before .enum-told2 .given .1))
+    (c .before .before .before .if1 .left) (a .g) (p .1) _
     (c .before .before .ring .ensures) (not-true _ (c .before .if2 .taken)) (c .idle .ensures)
 
 renewed-requires : tie.Need-renewed-requires
-renewed-requires c κs = search needs
+renewed-requires c κs =
+    let p = c .before .before .before .before .before .before .before .before .pre in
+    (p .0, p .1, sym (c .before .ring .ensures) ∙ not-false _ (c .if2 .left))
 
 returns-4 : tie.Need-returns-4
-returns-4 c = let a = c .before .before .before .before .before .before .before .before .before .args in let p = c .before .before .before .before .before .before .before .before .before .pre in policy-ring (now (a .volume)) (now (a .memory)) (a .s) (a .frame) _ (ap notePending (c .before .before .before .before .before .enum-told2 .given .1)) (c .before .before .before .if1 .left) (a .g) (p .1) _
+returns-4 c =
+    let a = c .before .before .before .before .before .before .before .before .before .args in
+    let p = c .before .before .before .before .before .before .before .before .before .pre in
+    policy-ring (now (a .volume)) (now (a .memory)) (a .s) (a .frame) _
+    (ap notePending (c .before .before .before .before .before .enum-told2 .given .1))
+    (c .before .before .before .if1 .left) (a .g) (p .1) _
     (c .before .before .ring .ensures) (not-false _ (c .before .if2 .left)) (c .renewed .ensures)
 
 pub policy-spec : {M : Type 1} → statement M

@@ -6,7 +6,7 @@ use Rattle.upkeep.proofs.refusal.Statement.{statement}
 use Rattle.upkeep.proofs.refusal.Tie as tie
 use Rattle.upkeep.proofs.refusal.Reads as reads
 use Rattle.upkeep.proofs.refusal.Lts as lts
-use Rattle.state.proofs.rows.refusal.Reads as refusal-reads
+use Rattle.state.proofs.refusal.refusal.Reads as refusal-reads
 use Rattle.volume.proofs.memory.frames.Reads as frames-reads
 use Rattle.volume.proofs.rows.first.Reads as first-reads
 
@@ -28,8 +28,11 @@ first-requires-2 c κs = search needs
 
 -- src/lib.rt:24:1
 returns : tie.Need-returns
-returns c = let a = c .before .before .before .before .before .before .args in refusal-is (now (a .volume)) (now (a .memory)) (a .s) _ _ _ (a .frame) _ _
-    (c .before .before .before .refusal .ensures (now (a .memory)) refl) (c .before .before .frames .ensures) refl (c .before .first .ensures) (c .first2 .ensures)
+returns c =
+    let a = c .before .before .before .before .before .before .args in
+    refusal-is (now (a .volume)) (now (a .memory)) (a .s) _ _ _ (a .frame) _ _
+    (c .before .before .before .refusal .ensures (now (a .memory)) refl) (c .before .before .frames .ensures) refl
+    (c .before .first .ensures) (c .first2 .ensures)
 
 pub refusal-spec : {M : Type 1} → statement M
 refusal-spec =

@@ -3,18 +3,18 @@
 //! `against_inspect [--seed N] [--scripts N]`; exits 1 at the first difference.
 
 use against::{full, proved};
-use reference::answer::Answer;
-use reference::arbitrary::arbitrary_script;
-use reference::args::value;
-use reference::bytes::put_u32;
-use reference::calls::inspect;
-use reference::cell::decode;
-use reference::driver::Driver;
-use reference::geometry::Geometry;
-use reference::heading::Heading;
-use reference::history::{choose_geometry, history_script, ring_script};
-use reference::mutate::{edit_image, edit_note, edit_record, seal_item};
-use reference::rng::Rng;
+use reference::store::answer::Answer;
+use reference::generators::arbitrary::arbitrary_script;
+use reference::script::args::value;
+use reference::store::bytes::put_u32;
+use reference::store::calls::inspect;
+use reference::script::cell::decode;
+use reference::script::driver::Driver;
+use reference::store::geometry::Geometry;
+use reference::store::heading::Heading;
+use reference::generators::history::{choose_geometry, history_script, ring_script};
+use reference::generators::mutate::{edit_image, edit_note, edit_record, seal_item};
+use reference::generators::rng::Rng;
 use std::collections::BTreeMap;
 use std::process::ExitCode;
 
@@ -70,7 +70,7 @@ fn main() -> ExitCode {
 }
 
 /// The volumes that a script goes through.
-fn played(script: &[reference::cell::Cell], tally: &mut Tally, rng: &mut Rng) {
+fn played(script: &[reference::script::cell::Cell], tally: &mut Tally, rng: &mut Rng) {
     let mut driver = Driver::default();
     for (at, cell) in script.iter().enumerate() {
         driver.run(&decode(cell));

@@ -3,15 +3,15 @@
 //! `against_store [--seed N] [--calls N]`; exits 1 at the first difference.
 
 use against::store::Lent;
-use reference::answer::{Answer, Class, Start};
-use reference::arbitrary::arbitrary_script;
-use reference::args::value;
-use reference::cell::{decode, Call, Op};
-use reference::driver::Driver;
-use reference::geometry::Geometry;
-use reference::history::{history_script, ring_script};
-use reference::reading::carrying_script;
-use reference::rng::Rng;
+use reference::store::answer::{Answer, Class, Start};
+use reference::generators::arbitrary::arbitrary_script;
+use reference::script::args::value;
+use reference::script::cell::{decode, Call, Op};
+use reference::script::driver::Driver;
+use reference::store::geometry::Geometry;
+use reference::generators::history::{history_script, ring_script};
+use reference::generators::reading::carrying_script;
+use reference::generators::rng::Rng;
 use std::collections::BTreeMap;
 use std::ops::Range;
 use std::process::ExitCode;
@@ -55,7 +55,7 @@ fn main() -> ExitCode {
 }
 
 /// Plays a script; false at the first difference.
-fn played(script: &[reference::cell::Cell], tally: &mut Tally, rng: &mut Rng) -> bool {
+fn played(script: &[reference::script::cell::Cell], tally: &mut Tally, rng: &mut Rng) -> bool {
     let mut driver = Driver::default();
     for cell in script {
         let op = decode(cell);

@@ -2,14 +2,14 @@
 //! `bench [--rounds N]`; prints the best round of each, in nanoseconds for one operation.
 
 use against::{full, proved};
-use reference::answer::Answer;
-use reference::args::value;
-use reference::bytes::{byte_checksum, checksum};
-use reference::calls::{inspect, make, restart};
-use reference::geometry::Geometry;
-use reference::heading::Heading;
-use reference::record::Change;
-use reference::rng::Rng;
+use reference::store::answer::Answer;
+use reference::script::args::value;
+use reference::store::bytes::{byte_checksum, checksum};
+use reference::store::calls::{inspect, make, restart};
+use reference::store::geometry::Geometry;
+use reference::store::heading::Heading;
+use reference::store::record::Change;
+use reference::generators::rng::Rng;
 use std::hint::black_box;
 use std::time::{Duration, Instant};
 

@@ -3,7 +3,8 @@ use mathlib.Core.Path.{_≡_, refl}
 use native.Mathlib.Omega.{arith}
 use denote.Ref.{now}
 use Rattle.append.proofs.Outcomes.{no-row, clauses, begin-refused, begin-done}
-use Rattle.append.proofs.Parts.{lent-length, format-fits, begun-is}
+use Rattle.laws.proofs.Parts.{lent-length}
+use Rattle.append.proofs.Parts.{format-fits, begun-is}
 use Rattle.append.proofs.Open.{Open, begin-open}
 use Rattle.model.specs.Tables.{firstOf}
 use Rattle.model.specs.Refusals.{beginRows}

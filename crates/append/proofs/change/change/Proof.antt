@@ -4,15 +4,16 @@ use mathlib.Core.Bool.{true}
 use native.Mathlib.Omega.{arith}
 use denote.Ref.{now}
 use lib.ListN.{length}
-use Rattle.state.proofs.Tables.{length-mapped}
+use Rattle.laws.proofs.Tabulated.{length-mapped}
 use Rattle.append.proofs.Outcomes.{no-row, clauses, change-refused, change-done}
-use Rattle.append.proofs.Parts.{lent-length, altered-is}
+use Rattle.laws.proofs.Parts.{lent-length}
+use Rattle.append.proofs.Parts.{altered-is}
 use Rattle.append.proofs.Open.{Open, change-open, change-fits}
 use Rattle.model.specs.Tables.{firstOf}
 use Rattle.model.specs.Change.{fits}
 use Rattle.model.specs.State.{frameAt, holder}
 use Rattle.model.specs.Refusals.{changeRows}
-use Rattle.model.specs.Calls.{appendedState}
+use Rattle.model.specs.Effects.{appendedState}
 use borrow.Author.Needs.{needs}
 use Rattle.append.proofs.change.change.Statement.{statement}
 use Rattle.append.proofs.change.change.Tie as tie

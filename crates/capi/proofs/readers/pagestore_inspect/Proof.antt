@@ -1,6 +1,6 @@
 -- `capi::readers::pagestore_inspect` hands on what `inspect` ensures.
 use mathlib.Core.Path.{ap, _∙_}
-use Rattle.model.specs.Calls.{refusalOf}
+use Rattle.model.specs.Outcome.{refusalOf}
 use borrow.Author.Needs.{needs}
 use Rattle.capi.proofs.readers.pagestore_inspect.Statement.{statement}
 use Rattle.capi.proofs.readers.pagestore_inspect.Tie as tie

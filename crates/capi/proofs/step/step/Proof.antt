@@ -1,8 +1,9 @@
-use Rattle.capi.proofs.FaceLaws.{unfit, sized, fitting, fit}
-use Rattle.numbers.proofs.FitLaws.{long}
-use Rattle.model.specs.Commands.{callOf}
+-- `capi::step::step` meets its contract.
 use mathlib.Core.Path.{_≡_, ap}
 use lib.ListN.{length}
+use Rattle.numbers.proofs.FitLaws.{long}
+use Rattle.capi.proofs.FaceLaws.{unfit, sized, fitting, fit}
+use Rattle.capi.proofs.RowLaws.{told}
 use borrow.Author.Needs.{needs}
 use Rattle.capi.proofs.step.step.Statement.{statement}
 use Rattle.capi.proofs.step.step.Tie as tie
@@ -10,17 +11,15 @@ use Rattle.capi.proofs.step.step.Tie as tie
 -- past the test: the numbers fit, the report has five
 right : (c : tie.Else1) → length (c .before .before .before .before .before .before .before .args .report .now) ≡ 5
 right c =
-    let s = c .before .before .before .before .before .before .before in
-    let a = s .args in
-    sized (callOf (a .command) (a .payload)) (a .volume .now) (a .memory .now) (a .state .now) (a .report .now) (c .before .fits2 .result)
+    let a = c .before .before .before .before .before .before .before .args in
+    sized (a .command, a .payload) (a .volume .now) (a .memory .now) (a .state .now) (a .report .now) (c .before .fits2 .result)
     (c .before .fits2 .ensures) (c .if1 .left)
 
 whole : (c : tie.Else1) → length (c .before .before .before .before .before .before .before .args .state .now) ≡ 360
 whole c =
-    let s = c .before .before .before .before .before .before .before in
-    let a = s .args in
+    let a = c .before .before .before .before .before .before .before .args in
     long (a .state .now)
-    (fitting (callOf (a .command) (a .payload)) (a .volume .now) (a .memory .now) (a .state .now) (a .report .now) (c .before .fits2 .result)
+    (fitting (a .command, a .payload) (a .volume .now) (a .memory .now) (a .state .now) (a .report .now) (c .before .fits2 .result)
     (c .before .fits2 .ensures) (c .if1 .left))
 
 fits-requires : tie.Need-fits-requires
@@ -43,7 +42,7 @@ returns c =
     let i = c .before .before .before in
     let s = i .before .before .before .before .before .before .before in
     let a = s .args in
-    unfit (callOf (a .command) (a .payload)) (a .volume .now) (a .memory .now) (a .state .now) (a .report .now) (i .before .fits2 .result)
+    unfit (a .command, a .payload) (a .volume .now) (a .memory .now) (a .state .now) (a .report .now) (i .before .fits2 .result)
     (i .before .fits2 .ensures)
     (c .first .result) (a .own) (c .before .misheaded .result) (i .if1 .taken) (s .pre) (c .before .misheaded .ensures) (c .first .ensures)
 
@@ -53,14 +52,17 @@ decode-requires c κs = whole (c .before)
 aim-requires : tie.Need-aim-requires
 aim-requires c κs = search needs
 
+row-requires : tie.Need-row-requires
+row-requires c κs = search needs
+
 perform-requires : tie.Need-perform-requires
 perform-requires c κs = search needs
 
-encode-requires : tie.Need-encode-requires
-encode-requires c κs = whole (c .before .before .before .before .before .before .before .before .before .before .before .before .before .before)
+update-requires : tie.Need-update-requires
+update-requires c κs = (whole (c .before .before .before .before .before .before .before .before .before .before .before .before .before .before .before .before), c .before .before .before .before .before .before .before .before .before .before .row .ensures .1)
 
 tell-requires : tie.Need-tell-requires
-tell-requires c κs = right (c .before .before .before .before .before .before .before .before .before .before .before .before .before .before .before .before .before .before)
+tell-requires c κs = right (c .before .before .before .before .before .before .before .before .before .before .before .before .before .before .before .before .before .before .before .before)
 
 number-requires : tie.Need-number-requires
 number-requires c κs = search needs
@@ -79,19 +81,26 @@ same-length-6 c = search needs
 
 returns-2 : tie.Need-returns-2
 returns-2 c =
-    let p = c .before .before .before .before .before .before .before .before .before .before .before .before .before .before .before in
-    let x = p .before .before .before in
-    let d = x .before .before in
-    let i = d .before .before in
-    let s = i .before .before .before .before .before .before .before in
-    let a = s .args in
-    let o = p .perform in
-    fit (callOf (a .command) (a .payload)) (a .volume .now) (a .memory .now) (a .state .now) (a .report .now) (i .before .fits2 .result)
+    let u = c .before .before .before .before .before .before .before .update in
+    let o = c .before .before .before .before .before .before .before .before .before .before .before .before .before .before .before .perform in
+    let r = c .before .before .before .before .before .before .before .before .before .before .before .before .before .before .before .before .before .before .row in
+    let x = c .before .before .before .before .before .before .before .before .before .before .before .before .before .before .before .before .before .before .before .before .aim in
+    let d = c .before .before .before .before .before .before .before .before .before .before .before .before .before .before .before .before .before .before .before .before .before .before .decode in
+    let i = c .before .before .before .before .before .before .before .before .before .before .before .before .before .before .before .before .before .before .before .before .before .before .before .before in
+    let a = i .before .before .before .before .before .before .before .args in
+    let z = ap (λ y. y .store .state) (o .ensures .0) in
+    let h =
+    fitting (a .command, a .payload) (a .volume .now) (a .memory .now) (a .state .now) (a .report .now) (i .before .fits2 .result)
+    (i .before .fits2 .ensures) (i .if1 .left) in
+    fit (a .command, a .payload) (a .volume .now) (a .memory .now) (a .state .now) (a .report .now) (i .before .fits2 .result)
     (i .before .fits2 .ensures) (i .if1 .left)
-    (d .decode .result) (d .decode .ensures) (o .result .answer) (o .result .store .state) (x .aim .result) (c .number .result)
-    (c .before .before .before .before .before .before .before .encode .last .1 .0) (c .before .before .before .tell .last .1 .1 .0) (o .last .1 .1 .0) (o .last .1 .0)
-    (ap (λ r. r .answer) (o .ensures .0)) (ap (λ r. r .store .state) (o .ensures .0)) (o .ensures .1 .0) (o .ensures .1 .1)
-    (x .aim .ensures (a .payload)) (c .number .ensures) (c .before .before .before .before .before .before .before .encode .ensures) (c .before .before .before .tell .ensures)
+    (d .result) (d .ensures) (o .result .answer) (o .result .store .state) (x .result) (c .number .result)
+    (u .last .1 .1 .0) (c .before .before .before .tell .last .1 .1 .0) (o .last .1 .1 .0) (o .last .1 .0)
+    (ap (λ y. y .answer) (o .ensures .0)) z (o .ensures .1 .0) (o .ensures .1 .1)
+    (x .ensures (a .payload)) (c .number .ensures)
+    (told (a .command, a .payload) (a .volume .now) (a .memory .now) (a .state .now) h (d .result) (d .ensures)
+    (o .result .store .state) z (r .result) (r .ensures .0 (a .payload)) (u .last .1 .1 .0) (u .ensures))
+    (c .before .before .before .tell .ensures)
 
 pub step-spec : {M : Type 1} → statement M
 step-spec =
@@ -105,8 +114,9 @@ step-spec =
     returns
     decode-requires
     aim-requires
+    row-requires
     perform-requires
-    encode-requires
+    update-requires
     tell-requires
     number-requires
     same-length-3

@@ -5,7 +5,7 @@ use Rattle.convert.proofs.heading.refusal.Statement.{statement}
 use Rattle.convert.proofs.heading.refusal.Tie as tie
 use Rattle.convert.proofs.heading.refusal.Reads as reads
 use Rattle.convert.proofs.heading.refusal.Lts as lts
-use Rattle.state.proofs.rows.refusal.Reads as refusal-reads
+use Rattle.state.proofs.refusal.refusal.Reads as refusal-reads
 use Rattle.volume.proofs.heading.headed.Reads as headed-reads
 
 -- src/heading.rt:21:9

@@ -4,7 +4,8 @@ use Prim.Native.Nat.{ℕ, _+_, _-_, _≤_}
 use native.Mathlib.Omega.{arith}
 use denote.Ref.{now}
 use Rattle.model.specs.Passes.{oldAt, firstFrom, firstOld}
-use Rattle.convert.proofs.Places.{few, first-here, first-on, first-end, first-start}
+use Rattle.laws.proofs.Search.{first-here, first-on, first-end}
+use Rattle.convert.proofs.Places.{few, first-start}
 use borrow.Author.Needs.{needs}
 use Rattle.convert.proofs.images.first_old.Statement.{statement}
 use Rattle.convert.proofs.images.first_old.Tie as tie

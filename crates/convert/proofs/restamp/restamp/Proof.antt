@@ -10,7 +10,8 @@ use Rattle.model.specs.Tables.{firstOf}
 use Rattle.model.specs.Geometry.{carryTag, validVolume}
 use Rattle.convert.proofs.Rows.{headRows, valid-volume}
 use Rattle.convert.proofs.Places.{few, image-fits}
-use Rattle.convert.proofs.Outcomes.{restamp-refused, restamp-idle, restamp-done, lent-length}
+use Rattle.laws.proofs.Parts.{lent-length}
+use Rattle.convert.proofs.Outcomes.{restamp-refused, restamp-idle, restamp-done}
 use borrow.Author.Needs.{needs}
 use Rattle.convert.proofs.restamp.restamp.Statement.{statement}
 use Rattle.convert.proofs.restamp.restamp.Tie as tie
@@ -87,7 +88,7 @@ part-old-end : tie.Need-part-old-end
 part-old-end c = omega (arith, room c)
 
 seal-requires : tie.Need-seal-requires
-seal-requires c κs = lent-length _ _ (room (c .before))
+seal-requires c κs = lent-length _ _ 256 (room (c .before))
 
 same-length-3 : tie.Need-same-length-3
 same-length-3 c = search needs

@@ -4,7 +4,7 @@ use Prim.Native.Nat.{ℕ}
 use native.Mathlib.Omega.{arith}
 use denote.Ref.{now}
 use Rattle.index.specs.Columns.{columnRow}
-use Rattle.index.proofs.Entries.{row-below, row-is}
+use Rattle.index.proofs.EntryLaws.{row-below, row-is}
 use Rattle.index.proofs.ColumnLaws.{row-past}
 use borrow.Author.Needs.{needs}
 use Rattle.index.proofs.columns.entry.Statement.{statement}
@@ -12,7 +12,7 @@ use Rattle.index.proofs.columns.entry.Tie as tie
 use Rattle.index.proofs.columns.entry.Reads as reads
 use Rattle.index.proofs.columns.entry.Lts as lts
 use Rattle.index.proofs.columns.row.Reads as columns-row-reads
-use Rattle.index.proofs.rows.row.Reads as rows-row-reads
+use Rattle.index.proofs.entries.row.Reads as rows-row-reads
 
 row-requires : tie.Need-row-requires
 row-requires c κs = search needs

@@ -12,7 +12,7 @@ use Rattle.model.specs.Geometry.{logSlot, item}
 use Rattle.model.specs.Scan.{logIndex, recordFits}
 use Rattle.model.specs.declared.geometry.Geometry.{Geometry}
 use Rattle.section.specs.declared.Section.{Section}
-use Rattle.index.proofs.Entries.{row-below}
+use Rattle.index.proofs.EntryLaws.{row-below}
 use Rattle.index.proofs.Located.{record-here, record-length, log-placed}
 use Rattle.index.proofs.LogPass.{log-known, Judged, judged-none, judged-more, run-low, log-judged, log-breaks, log-ends, log-columns}
 use Rattle.section.proofs.SectionLaws.{slot-starts, slot-low, slot-next, slot-of}
@@ -23,7 +23,7 @@ use Rattle.index.proofs.log.scan.Lts as lts
 use Rattle.section.proofs.whole.Reads as whole-reads
 use Rattle.index.proofs.log.fits.Reads as fits-reads
 use Rattle.index.proofs.log.locate.Reads as locate-reads
-use Rattle.index.proofs.rows.row.Reads as row-reads
+use Rattle.index.proofs.entries.row.Reads as row-reads
 use Rattle.section.proofs.ends.Reads as ends-reads
 use Rattle.section.proofs.nth.Reads as nth-reads
 use Rattle.section.proofs.span.Reads as span-reads

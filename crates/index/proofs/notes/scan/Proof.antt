@@ -12,7 +12,7 @@ use Rattle.model.specs.Scan.{noteIndex, noteFits}
 use Rattle.model.specs.declared.geometry.Geometry.{Geometry}
 use Rattle.section.specs.declared.Run.{Run}
 use Rattle.section.specs.declared.Section.{Section}
-use Rattle.index.proofs.Entries.{row-below}
+use Rattle.index.proofs.EntryLaws.{row-below}
 use Rattle.index.proofs.ColumnLaws.{Long, blank-long}
 use Rattle.index.proofs.Located.{note-here, note-placed}
 use Rattle.index.proofs.NotePass.{note-whole, Entered, entered-none, entered-more, run-low, run-some, note-judged, notes-break, notes-end, notes-columns}
@@ -28,8 +28,8 @@ use Rattle.index.proofs.notes.earlier.Reads as earlier-reads
 use Rattle.index.proofs.notes.fits.Reads as fits-reads
 use Rattle.index.proofs.notes.follows.Reads as follows-reads
 use Rattle.index.proofs.notes.locate.Reads as locate-reads
-use Rattle.index.proofs.rows.noted.Reads as noted-reads
-use Rattle.index.proofs.rows.row.Reads as row-reads
+use Rattle.index.proofs.entries.noted.Reads as noted-reads
+use Rattle.index.proofs.entries.row.Reads as row-reads
 use Rattle.section.proofs.ends.Reads as ends-reads
 use Rattle.section.proofs.nth.Reads as nth-reads
 use Rattle.section.proofs.span.Reads as span-reads
@@ -39,11 +39,11 @@ use Rattle.section.proofs.start.Reads as start-reads
 use Rattle.section.proofs.after.Reads as after-reads
 
 abbrev Inv-loop : tie.InvT-loop
-Inv-loop volume g log run written₀ slots₀ backup₀ pages count first front span s slot₀ i₀ written slots backup slot i =
+Inv-loop volume g log run written₀ slots₀ backup₀ span s slot₀ i₀ written slots backup slot i =
     (i ≤ span) × Entered g volume (run .first) i written slots backup × (1 ≤ g .notes → slot ≡ (run .first + i - 1) % g .notes)
 
 abbrev μ-loop : tie.MeasureT-loop
-μ-loop volume g log run written₀ slots₀ backup₀ pages count first front span s slot₀ i₀ written slots backup slot i = span - i
+μ-loop volume g log run written₀ slots₀ backup₀ span s slot₀ i₀ written slots backup slot i = span - i
 
 abbrev head : tie.After-fits2 Inv-loop μ-loop → tie.At-loop Inv-loop μ-loop
 head c = c .before .before .before .before .before .before .before .before .before .before .before .before .before .before .before .before .before

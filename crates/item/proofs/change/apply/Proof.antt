@@ -4,8 +4,7 @@ use native.Mathlib.Omega.{arith}
 use native.Mathlib.Nat.{sub-zero}
 use lib.ListN.{length-take}
 use denote.Ref.{now}
-use Rattle.item.proofs.Changes.{Ready}
-use Rattle.item.proofs.Changes.{put-ready, slide-ready, format-is, put-is, slide-is}
+use Rattle.item.proofs.Changes.{Ready, put-ready, slide-ready, format-is, put-is, slide-is}
 use Rattle.item.proofs.change.apply.Statement.{statement}
 use Rattle.item.proofs.change.apply.Tie as tie
 

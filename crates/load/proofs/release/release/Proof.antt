@@ -3,7 +3,7 @@ use mathlib.Core.Path.{_≡_, sym, _∙_}
 use native.Mathlib.Omega.{arith}
 use lib.ListN.{length}
 use denote.Ref.{now}
-use Rattle.state.proofs.Tables.{length-mapped}
+use Rattle.laws.proofs.Tabulated.{length-mapped}
 use Rattle.model.specs.Tables.{firstOf}
 use Rattle.model.specs.Refusals.{releaseRows}
 use Rattle.load.proofs.Releases.{release-refused, release-held, release-done}

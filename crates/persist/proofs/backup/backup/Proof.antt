@@ -4,7 +4,7 @@ use Prim.Native.Nat.{_≤_}
 use native.Mathlib.Omega.{arith}
 use lib.ListN.{length}
 use denote.Ref.{now}
-use Rattle.state.proofs.Tables.{length-mapped}
+use Rattle.laws.proofs.Tabulated.{length-mapped}
 use Rattle.model.specs.Tables.{firstOf}
 use Rattle.model.specs.Geometry.{slotAt}
 use Rattle.model.specs.Refusals.{backupRows}

@@ -6,7 +6,7 @@ use lib.ListN.{length}
 use denote.Ref.{now}
 use borrow.Author.Tests.{not-false}
 use Rattle.laws.proofs.Tables.{not-true}
-use Rattle.state.proofs.Tables.{length-mapped}
+use Rattle.laws.proofs.Tabulated.{length-mapped}
 use Rattle.model.specs.Tables.{firstOf}
 use Rattle.model.specs.Geometry.{pageAt}
 use Rattle.model.specs.Refusals.{pageDirty, writeRows}

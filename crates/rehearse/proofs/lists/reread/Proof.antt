@@ -5,48 +5,30 @@ use Rattle.rehearse.proofs.lists.reread.Statement.{statement}
 use Rattle.rehearse.proofs.lists.reread.Tie as tie
 
 abbrev Inv-loop : tie.InvT-loop
-Inv-loop page l₀ counter₀ l counter = counter ≤ 7
+Inv-loop page l₀ p₀ l p = p ≤ 17
 
 abbrev μ-loop : tie.MeasureT-loop
-μ-loop page l₀ counter₀ l counter = 7 - counter
+μ-loop page l₀ p₀ l p = 17 - p
 
-abbrev Inv-loop2 : tie.InvT-loop2
-Inv-loop2 page l₀ p₀ l p = p ≤ 17
+changes-requires : tie.Need-changes-requires Inv-loop μ-loop
+changes-requires c κs = search needs
 
-abbrev μ-loop2 : tie.MeasureT-loop2
-μ-loop2 page l₀ p₀ l p = 17 - p
-
-loop-holds : tie.Need-loop-holds Inv-loop μ-loop Inv-loop2 μ-loop2
+loop-holds : tie.Need-loop-holds Inv-loop μ-loop
 loop-holds c = search needs
 
-change-requires : tie.Need-change-requires Inv-loop μ-loop Inv-loop2 μ-loop2
-change-requires c κs = search needs
-
-add-counter : tie.Need-add-counter Inv-loop μ-loop Inv-loop2 μ-loop2
-add-counter c = search needs
-
-loop-less : tie.Need-loop-less Inv-loop μ-loop Inv-loop2 μ-loop2
-loop-less c = search needs
-
-loop-again : tie.Need-loop-again Inv-loop μ-loop Inv-loop2 μ-loop2
-loop-again c = search needs
-
-loop2-holds : tie.Need-loop2-holds Inv-loop μ-loop Inv-loop2 μ-loop2
-loop2-holds c = search needs
-
-read-requires : tie.Need-read-requires Inv-loop μ-loop Inv-loop2 μ-loop2
+read-requires : tie.Need-read-requires Inv-loop μ-loop
 read-requires c κs = search needs
 
-add-p : tie.Need-add-p Inv-loop μ-loop Inv-loop2 μ-loop2
+add-p : tie.Need-add-p Inv-loop μ-loop
 add-p c = search needs
 
-loop2-less : tie.Need-loop2-less Inv-loop μ-loop Inv-loop2 μ-loop2
-loop2-less c = search needs
+loop-less : tie.Need-loop-less Inv-loop μ-loop
+loop-less c = search needs
 
-loop2-again : tie.Need-loop2-again Inv-loop μ-loop Inv-loop2 μ-loop2
-loop2-again c = search needs
+loop-again : tie.Need-loop-again Inv-loop μ-loop
+loop-again c = search needs
 
-returns : tie.Need-returns Inv-loop μ-loop Inv-loop2 μ-loop2
+returns : tie.Need-returns Inv-loop μ-loop
 returns c = search needs
 
 pub reread-spec : {M : Type 1} → statement M
@@ -55,16 +37,10 @@ reread-spec =
     (tie.spec
     Inv-loop
     μ-loop
-    Inv-loop2
-    μ-loop2
+    changes-requires
     loop-holds
-    change-requires
-    add-counter
-    loop-less
-    loop-again
-    loop2-holds
     read-requires
     add-p
-    loop2-less
-    loop2-again
+    loop-less
+    loop-again
     returns)

@@ -1,6 +1,8 @@
--- `repair::answer::answer` meets its contract, from what the walk found and what start ensures.
+-- `repair::answer::answer` meets its contract, by what start ensures.
+use mathlib.Core.Path.{ap}
 use borrow.Author.Needs.{needs}
-use Rattle.repair.proofs.Replays.{answered}
+use Rattle.model.specs.declared.answer.Start.{Start}
+use Rattle.model.specs.declared.answer.Repair.{Repair}
 use Rattle.repair.proofs.answer.answer.Statement.{statement}
 use Rattle.repair.proofs.answer.answer.Tie as tie
 use Rattle.repair.proofs.answer.answer.Reads as reads
@@ -11,7 +13,7 @@ start-requires : tie.Need-start-requires
 start-requires c κs = search needs
 
 returns : tie.Need-returns
-returns c = let b = c .before .before in answered _ _ _ (b .args .w) (b .pre .1) _ (c .start .ensures)
+returns c = let w = c .before .args .w in ap {B = Repair} (λ (s : Start). record { class = w .class; start = s; count = w .count }) (c .start .ensures)
 
 pub answer-spec : {M : Type 1} → statement M
 answer-spec = tie.close (tie.spec start-requires returns)

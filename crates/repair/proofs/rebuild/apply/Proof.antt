@@ -19,10 +19,10 @@ use Rattle.item.proofs.record.replay.Reads as replay-reads
 use Rattle.volume.proofs.place.record.Reads as record-reads
 
 abbrev Inv-loop : tie.InvT-loop
-Inv-loop volume g first page lsns count body₀ i₀ body i = Replaying (logOf g volume) count lsns body₀ body i
+Inv-loop volume lsns count body₀ g i₀ body i = Replaying (logOf g volume) count lsns body₀ body i
 
 abbrev μ-loop : tie.MeasureT-loop
-μ-loop volume g first page lsns count body₀ i₀ body i = i
+μ-loop volume lsns count body₀ g i₀ body i = i
 
 -- every number of the chain is that of a record that the walk read
 linked : (v : List ℕ) (g : Geometry) (f : ℕ) (e : Entry) (page : ℕ) (l : List ℕ) → l ≡ walkOf g page (viewOf g v f e page) .chain
@@ -30,7 +30,7 @@ linked : (v : List ℕ) (g : Geometry) (f : ℕ) (e : Entry) (page : ℕ) (l : L
 linked v g f e page l h = subst (Linked (logOf g v) page (e .durable)) (sym h) (chain-linked g page (viewOf g v f e page))
 
 loop-holds : tie.Need-loop-holds Inv-loop μ-loop
-loop-holds c = let h = c .before .before .before .pre in replaying-start _ _ _ _ (h .1 .1 .0) (h .1 .1 .1)
+loop-holds c = let h = c .before .before .before .before .pre in replaying-start _ _ _ _ (h .1 .1 .0) (h .1 .1 .1)
 
 sub-i : tie.Need-sub-i Inv-loop μ-loop
 sub-i c = search needs
@@ -44,17 +44,17 @@ shared-slice-read-n c =
 
 record-requires : tie.Need-record-requires Inv-loop μ-loop
 record-requires c κs =
-    let b = c .before .before .before .before .before .before in
+    let b = c .before .before .before .before .before .before .before in
     let h = b .pre in
     (sized _ _ (h .0 .valid) (h .0 .geometry) .some, record-fits _ _ (h .0 .valid) (h .0 .geometry) _)
 
 replay-requires : tie.Need-replay-requires Inv-loop μ-loop
 replay-requires c κs =
-    let b = c .before .before .before .before .before .before .before .before in
+    let b = c .before .before .before .before .before .before .before .before .before in
     let h = b .pre in
     let l = c .before .before .before .before .loop in
     let k = replayed _ _ _ _ _ (l .i) (omega (arith, c .before .before .before .loop-test .taken)) (l .inv) _ _
-    (linked _ _ (b .args .first) (b .args .e) _ _ (h .1 .0)) in
+    (linked _ _ (b .args .t .first) (b .args .t .entry) _ _ (h .1 .0)) in
     rw (c .before .«record» .ensures)
     (record-length _ _ (h .0 .valid) (h .0 .geometry) _, k .layout, l .inv .size)
 
@@ -69,7 +69,7 @@ loop-again c =
     (c .before .before .replay .ensures) (c .before .before .replay .kept .1 .0)
 
 same-length : tie.Need-same-length Inv-loop μ-loop
-same-length c = let h = c .before .before .before .before .before .pre in c .before .loop .inv .size ∙ sym (h .1 .1 .1)
+same-length c = let h = c .before .before .before .before .before .before .pre in c .before .loop .inv .size ∙ sym (h .1 .1 .1)
 
 returns : tie.Need-returns Inv-loop μ-loop
 returns c =

@@ -17,11 +17,11 @@ enum-told : tie.Need-enum-told
 enum-told c = search needs
 
 page-requires : tie.Need-page-requires
-page-requires c κs = page-fits _ _ _ _ _ (c .before .before .before .before .pre .0)
+page-requires c κs = page-fits _ _ _ _ _ (c .before .before .before .before .before .before .pre .0)
 
 copy-body-requires : tie.Need-copy-body-requires
 copy-body-requires c κs =
-    let h = c .before .before .before .before .before .before .pre in
+    let h = c .before .before .before .before .before .before .before .before .pre in
     (ap length (c .before .page .ensures) ∙ page-length _ _ _ _ _ (h .0), h .1 .1)
 
 enum-told-2 : tie.Need-enum-told-2
@@ -32,16 +32,16 @@ cast-slot c = search needs
 
 slot-requires : tie.Need-slot-requires
 slot-requires c κs =
-    let h = c .before .before .before .before .before .pre in
-    slot-fits _ _ _ _ _ (h .0) (backup-some _ _ (c .before .before .before .before .before .args .first)
-    (c .before .before .before .before .before .args .e) _ (stop-backup _ _ _ (sym (h .1 .0) ∙ c .before .enum-told2 .given .1)))
+    let h = c .before .before .before .before .before .before .before .pre in
+    slot-fits _ _ _ _ _ (h .0) (backup-some _ _ (c .before .before .before .before .before .before .before .args .t .first)
+    (c .before .before .before .before .before .before .before .args .t .entry) _ (stop-backup _ _ _ (sym (h .1 .0) ∙ c .before .enum-told2 .given .1)))
 
 copy-body-requires-2 : tie.Need-copy-body-requires-2
 copy-body-requires-2 c κs =
-    let h = c .before .before .before .before .before .before .before .pre in (
+    let h = c .before .before .before .before .before .before .before .before .before .pre in (
       ap length (c .before .slot .ensures)
-          ∙ slot-length _ _ _ _ _ (h .0) (backup-some _ _ (c .before .before .before .before .before .before .before .args .first)
-          (c .before .before .before .before .before .before .before .args .e) _
+          ∙ slot-length _ _ _ _ _ (h .0) (backup-some _ _ (c .before .before .before .before .before .before .before .before .before .args .t .first)
+          (c .before .before .before .before .before .before .before .before .before .args .t .entry) _
           (stop-backup _ _ _ (sym (h .1 .0) ∙ c .before .before .before .enum-told2 .given .1))),
       h .1 .1,
     )
@@ -69,8 +69,8 @@ same-length c = search needs
 
 returns : tie.Need-returns
 returns c =
-    begun-own _ _ (c .before .before .before .before .before .before .before .before .before .args .first)
-    (c .before .before .before .before .before .before .before .before .before .args .e) _ _ _ _
+    begun-own _ _ (c .before .before .before .before .before .before .before .before .before .before .before .args .t .first)
+    (c .before .before .before .before .before .before .before .before .before .before .before .args .t .entry) _ _ _ _
     (c .before .before .before .before .before .enum-told .given .1) (c .before .before .before .before .page .ensures)
     (c .before .before .copy-body .ensures)
 
@@ -79,8 +79,8 @@ same-length-2 c = search needs
 
 returns-2 : tie.Need-returns-2
 returns-2 c =
-    begun-backup _ _ (c .before .before .before .before .before .before .before .before .before .before .args .first)
-    (c .before .before .before .before .before .before .before .before .before .before .args .e) _ _ _ _
+    begun-backup _ _ (c .before .before .before .before .before .before .before .before .before .before .before .before .args .t .first)
+    (c .before .before .before .before .before .before .before .before .before .before .before .before .args .t .entry) _ _ _ _
     (c .before .before .before .before .before .before .enum-told2 .given .1) (c .before .before .before .before .slot .ensures)
     (c .before .before .copy-body2 .ensures)
 
@@ -89,9 +89,9 @@ same-length-3 c = search needs
 
 returns-3 : tie.Need-returns-3
 returns-3 c =
-    begun-format _ _ (c .before .before .before .before .before .before .before .before .args .first)
-    (c .before .before .before .before .before .before .before .before .args .e) _ _ _ _
-    (c .before .before .before .before .before .before .before .before .pre .1 .1) (c .before .before .fill .ensures)
+    begun-format _ _ (c .before .before .before .before .before .before .before .before .before .before .args .t .first)
+    (c .before .before .before .before .before .before .before .before .before .before .args .t .entry) _ _ _ _
+    (c .before .before .before .before .before .before .before .before .before .before .pre .1 .1) (c .before .before .fill .ensures)
     (c .before .before .before .before .enum-told3 .given .1)
 
 same-length-4 : tie.Need-same-length-4
@@ -99,9 +99,9 @@ same-length-4 c = search needs
 
 returns-4 : tie.Need-returns-4
 returns-4 c =
-    begun-broken _ _ (c .before .before .before .before .before .before .before .before .args .first)
-    (c .before .before .before .before .before .before .before .before .args .e) _ _ _ _
-    (c .before .before .before .before .before .before .before .before .pre .1 .1) (c .before .before .fill2 .ensures)
+    begun-broken _ _ (c .before .before .before .before .before .before .before .before .before .before .args .t .first)
+    (c .before .before .before .before .before .before .before .before .before .before .args .t .entry) _ _ _ _
+    (c .before .before .before .before .before .before .before .before .before .before .pre .1 .1) (c .before .before .fill2 .ensures)
     (c .before .before .before .before .enum-told4 .given .1)
 
 same-length-5 : tie.Need-same-length-5
@@ -109,9 +109,9 @@ same-length-5 c = search needs
 
 returns-5 : tie.Need-returns-5
 returns-5 c =
-    begun-below _ _ (c .before .before .before .before .before .before .before .before .args .first)
-    (c .before .before .before .before .before .before .before .before .args .e) _ _ _ _
-    (c .before .before .before .before .before .before .before .before .pre .1 .1) (c .before .before .fill3 .ensures)
+    begun-below _ _ (c .before .before .before .before .before .before .before .before .before .before .args .t .first)
+    (c .before .before .before .before .before .before .before .before .before .before .args .t .entry) _ _ _ _
+    (c .before .before .before .before .before .before .before .before .before .before .pre .1 .1) (c .before .before .fill3 .ensures)
     (c .before .before .before .before .enum-told5 .given .1)
 
 pub begin-spec : {M : Type 1} → statement M

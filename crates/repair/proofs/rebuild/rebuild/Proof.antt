@@ -24,23 +24,23 @@ part-body-end c = search needs
 
 begin-requires : tie.Need-begin-requires
 begin-requires c κs =
-    let b = c .before .before .before .before in
+    let b = c .before .before .before .before .before in
     let h = b .pre in
     (h .0, (stop-is _ _ _ _ (h .1 .0), body-length (now (b .args .dst)) (h .1 .1)))
 
 replay-requires : tie.Need-replay-requires
 replay-requires c κs =
-    let b = c .before .before .before .before .before .before .before in
+    let b = c .before .before .before .before .before .before .before .before in
     let h = b .pre in
-    (h .0, (count-is _ _ _ _ (h .1 .0), c .before .before .begin .kept .1 .1 .1 .1 .1 .1 .0 ∙ body-length (now (b .args .dst)) (h .1 .1)))
+    (h .0, (count-is _ _ _ _ (h .1 .0), c .before .before .begin .kept .1 .1 .1 .0 ∙ body-length (now (b .args .dst)) (h .1 .1)))
 
 build-requires : tie.Need-build-requires
 build-requires c κs =
-    let b = c .before .before .before .before .before .before .before .before .before .before .before in
+    let b = c .before .before .before .before .before .before .before .before .before .before .before .before in
     let h = b .pre in (
-      around-length (now (b .args .dst)) (c .before .before .before .replay .last .1 .1 .1 .1 .1 .1 .0) (h .1 .1)
-          (c .before .before .before .replay .kept .1 .1 .1 .1 .1 .1 .0
-          ∙ c .before .before .before .before .before .before .begin .kept .1 .1 .1 .1 .1 .1 .0
+      around-length (now (b .args .dst)) (c .before .before .before .replay .last .1 .1 .1 .0) (h .1 .1)
+          (c .before .before .before .replay .kept .1 .1 .1 .0
+          ∙ c .before .before .before .before .before .before .begin .kept .1 .1 .1 .0
           ∙ body-length (now (b .args .dst)) (h .1 .1)),
       omega (arith, h .0 .high, ready-sized _ _ _ _ _ (h .0) .pages),
     )
@@ -50,12 +50,12 @@ same-length c = search needs
 
 returns : tie.Need-returns
 returns c =
-    let b = c .before .before .before .before .before .before .before .before .before .before .before .before .before .before in
+    let b = c .before .before .before .before .before .before .before .before .before .before .before .before .before .before .before in
     let h = b .pre in
     built _ _ _ _ (h .1 .0) (now (b .args .dst)) _
-    (c .before .before .before .before .before .before .replay .last .1 .1 .1 .1 .1 .1 .0) _ (h .1 .1)
-    (c .before .before .before .before .before .before .replay .kept .1 .1 .1 .1 .1 .1 .0
-    ∙ c .before .before .before .before .before .before .before .before .before .begin .kept .1 .1 .1 .1 .1 .1 .0 ∙ body-length
+    (c .before .before .before .before .before .before .replay .last .1 .1 .1 .0) _ (h .1 .1)
+    (c .before .before .before .before .before .before .replay .kept .1 .1 .1 .0
+    ∙ c .before .before .before .before .before .before .before .before .before .begin .kept .1 .1 .1 .0 ∙ body-length
     (now (b .args .dst)) (h .1 .1)) (c .before .before .before .before .before .before .before .before .before .begin .ensures)
     (c .before .before .before .before .before .before .replay .ensures) (c .before .before .build .ensures)
 

@@ -37,7 +37,7 @@ slice-aggregate-replay-in-2 c = search needs
 replay-in-requires-2 : tie.Need-replay-in-requires-2
 replay-in-requires-2 c κs =
     let b = c .before .before .before .before .before in
-    let m = most _ _ (b .args .first) (b .args .e) _ _ (b .pre .0) (b .pre .1 .0) in
+    let m = most _ _ (b .args .t .first) (b .args .t .entry) _ _ (b .pre .0) (b .pre .1 .0) in
     (b .pre .0, (b .pre .1 .0, (search needs, b .pre .1 .1)))
 
 same-length : tie.Need-same-length

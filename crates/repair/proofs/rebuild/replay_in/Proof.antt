@@ -24,16 +24,16 @@ module _ (v : List ℕ) (g : Geometry) (f : ℕ) (e : Entry) (page count : ℕ) 
   collected lsns t = t ∙ ap (λ (n : ℕ). chainFrom n (logOf g v) (e .durable)) k ∙ sym (chain-is g page (viewOf g v f e page))
 
 collect-requires : tie.Need-collect-requires
-collect-requires c κs = let b = c .before .before .before .before in
+collect-requires c κs = let b = c .before .before .before .before .before .before in
     ((b .pre .0 .valid, b .pre .0 .geometry), b .pre .1 .1 .0)
 
 apply-requires : tie.Need-apply-requires
 apply-requires c κs =
-    let b = c .before .before .before .before .before .before .before .before .before in
+    let b = c .before .before .before .before .before .before .before .before .before .before .before in
     let l = c .before .before .before .before .collect in
     let size = b .pre .1 .1 .0 in (
       b .pre .0,
-      (collected _ _ (b .args .first) (b .args .e) _ _ (b .pre .0) (b .pre .1 .0) _ (l .ensures), (search needs, b .pre .1 .1 .1)),
+      (collected _ _ (b .args .t .first) (b .args .t .entry) _ _ (b .pre .0) (b .pre .1 .0) _ (l .ensures), (search needs, b .pre .1 .1 .1)),
     )
 
 same-length : tie.Need-same-length
@@ -44,10 +44,10 @@ same-length-2 c = search needs
 
 returns : tie.Need-returns
 returns c =
-    let b = c .before .before .before .before .before .before .before .before .before .before .before .before in
+    let b = c .before .before .before .before .before .before .before .before .before .before .before .before .before .before in
     c .before .before .apply .ensures
-    ∙ ap (λ (l : List ℕ). replayChain (logOf (b .args .g) (now (b .args .volume))) l (now (b .args .body)))
-    (collected _ _ (b .args .first) (b .args .e) _ _ (b .pre .0) (b .pre .1 .0) _
+    ∙ ap (λ (l : List ℕ). replayChain (logOf (b .args .t .g) (now (b .args .volume))) l (now (b .args .body)))
+    (collected _ _ (b .args .t .first) (b .args .t .entry) _ _ (b .pre .0) (b .pre .1 .0) _
     (c .before .before .before .before .before .before .before .collect .ensures))
 
 pub replay-in-spec : {M : Type 1} → statement M

@@ -14,22 +14,22 @@ use Rattle.repair.proofs.walk.trace.Lts as lts
 use Rattle.repair.proofs.walk.look.Reads as look-reads
 
 abbrev Inv-loop : tie.InvT-loop
-Inv-loop volume g first page own backup sure from n₀ count₀ n count = Down (logOf g volume) first page own backup n₀ n count
+Inv-loop volume g c from n₀ count₀ n count = Down (logOf g volume) (c .first) (c .page) (c .own) (c .backup) n₀ n count
 
 abbrev μ-loop : tie.MeasureT-loop
-μ-loop volume g first page own backup sure from n₀ count₀ n count = n
+μ-loop volume g c from n₀ count₀ n count = n
 
 -- where the walk halts: the step
 halted : (c : tie.After-known-told Inv-loop μ-loop)
     → let a = c .before .before .before .before .before .before .args in
-    stepOf (logOf (a .g) (now (a .volume))) (a .first) (a .page) (a .own) (a .backup) (c .before .before .before .before .loop .n)
+    stepOf (logOf (a .g) (now (a .volume))) (a .c .first) (a .c .page) (a .c .own) (a .c .backup) (c .before .before .before .before .loop .n)
     ≡ Halt (c .before .s .given .0 .0)
 halted c = sym (c .before .before .before .look .ensures) ∙ c .before .s .given .1
 
 -- at a record that is read: the step, and room for its number
 on : (c : tie.After-known-told2 Inv-loop μ-loop)
     → let a = c .before .before .before .before .before .before .args in
-    stepOf (logOf (a .g) (now (a .volume))) (a .first) (a .page) (a .own) (a .backup) (c .before .before .before .before .loop .n)
+    stepOf (logOf (a .g) (now (a .volume))) (a .c .first) (a .c .page) (a .c .own) (a .c .backup) (c .before .before .before .before .loop .n)
     ≡ Read (c .before .prev .given .0 .0) (c .before .prev .given .0 .1 .0)
 on c = sym (c .before .before .before .look .ensures) ∙ c .before .prev .given .1
 

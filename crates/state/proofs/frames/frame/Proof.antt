@@ -1,5 +1,5 @@
 -- `state::frames::frame` meets its contract.
-use Rattle.state.proofs.Tables.{length-mapped, past-end}
+use Rattle.laws.proofs.Tabulated.{length-mapped, past-end}
 use borrow.Author.Needs.{needs}
 use Rattle.state.proofs.frames.frame.Statement.{statement}
 use Rattle.state.proofs.frames.frame.Tie as tie

@@ -5,7 +5,8 @@ use lib.ListN.{length, drop}
 use native.Mathlib.Omega.{arith}
 use borrow.Author.Needs.{needs}
 use Rattle.model.specs.State.{holderFrom}
-use Rattle.state.proofs.Tables.{length-mapped, holder-here, holder-later, holder-end}
+use Rattle.laws.proofs.Tabulated.{length-mapped}
+use Rattle.state.proofs.Tables.{holder-here, holder-later, holder-end}
 use Rattle.state.proofs.frames.search.Statement.{statement}
 use Rattle.state.proofs.frames.search.Tie as tie
 

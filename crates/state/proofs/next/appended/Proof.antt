@@ -1,5 +1,5 @@
 -- `state::next::appended` meets its contract.
-use Rattle.model.specs.Calls.{appendedState}
+use Rattle.model.specs.Effects.{appendedState}
 use mathlib.Core.Path.{refl}
 use borrow.Author.Needs.{needs}
 use Rattle.state.proofs.next.appended.Statement.{statement}

@@ -1,5 +1,5 @@
 -- `state::next::noted` meets its contract.
-use Rattle.model.specs.Calls.{notedState}
+use Rattle.model.specs.Effects.{notedState}
 use borrow.Author.Needs.{needs}
 use Rattle.state.proofs.next.noted.Statement.{statement}
 use Rattle.state.proofs.next.noted.Tie as tie

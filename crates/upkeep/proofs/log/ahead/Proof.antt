@@ -21,7 +21,9 @@ add-number c = search needs
 
 -- src/log.rt:21:9
 returns : tie.Need-returns
-returns c = let a = c .before .before .before .before .args in log-new (a .g) (now (a .volume)) (a .s) (a .i) (c .if1 .taken)
+returns c =
+    let a = c .before .before .before .before .args in
+    log-new (a .g) (now (a .volume)) (a .s) (a .i) (c .if1 .taken)
 
 -- src/log.rt:23:38
 sub-needed : tie.Need-sub-needed
@@ -37,7 +39,9 @@ needed-requires c κs = search needs
 
 -- src/log.rt:14:1
 returns-2 : tie.Need-returns-2
-returns-2 c = let a = c .before .before .before .before .before .args in log-turned (a .g) (now (a .volume)) (a .s) (a .i) _ (c .before .if1 .left) (c .needed .ensures)
+returns-2 c =
+    let a = c .before .before .before .before .before .args in
+    log-turned (a .g) (now (a .volume)) (a .s) (a .i) _ (c .before .if1 .left) (c .needed .ensures)
 
 pub ahead-spec : {M : Type 1} → statement M
 ahead-spec =

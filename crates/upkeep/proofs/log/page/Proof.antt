@@ -24,7 +24,10 @@ add-number c = search needs
 
 -- src/log.rt:50:52
 sub-record : tie.Need-sub-record
-sub-record c = let a = c .before .before .before .args in let p = c .before .before .before .pre in omega (arith, log-number (a .g) (now (a .volume)) (a .s) (a .i) (p .3))
+sub-record c =
+    let a = c .before .before .before .args in
+    let p = c .before .before .before .pre in
+    omega (arith, log-number (a .g) (now (a .volume)) (a .s) (a .i) (p .3))
 
 -- src/log.rt:50:51
 cast-record : tie.Need-cast-record
@@ -32,7 +35,9 @@ cast-record c = search needs
 
 -- src/log.rt:50:26
 record-requires : tie.Need-record-requires
-record-requires c κs = let p = c .before .before .before .pre in (records-some _ _ (p .0) (p .1), record-fits _ _ (p .0) (p .1) _)
+record-requires c κs =
+    let p = c .before .before .before .pre in
+    (records-some _ _ (p .0) (p .1), record-fits _ _ (p .0) (p .1) _)
 
 -- src/log.rt:50:9
 read-requires : tie.Need-read-requires
@@ -44,7 +49,10 @@ cast-result c = search needs
 
 -- src/log.rt:43:1
 returns : tie.Need-returns
-returns c = let a = c .before .before .before .before .before .before .args in log-page (a .g) (now (a .volume)) (a .s) (a .i) _ _ (c .before .before .«record» .ensures) (c .before .read .ensures)
+returns c =
+    let a = c .before .before .before .before .before .before .args in
+    log-page (a .g) (now (a .volume)) (a .s) (a .i) _ _ (c .before .before .«record» .ensures)
+    (c .before .read .ensures)
 
 pub page-spec : {M : Type 1} → statement M
 page-spec =

@@ -1,32 +1,62 @@
-use mathlib.Core.Path.{_≡_, refl, sym, ap, _∙_}
+-- `upkeep::notes::first` meets its contract.
 use denote.Ref.{now}
-use Rattle.upkeep.proofs.NotePositions.{first-one, first-two, first-none}
+use Rattle.upkeep.proofs.NotePositions.{none-ahead, past-new, found-one, found-two, found-none}
 use borrow.Author.Needs.{needs}
 use Rattle.upkeep.proofs.notes.first.Statement.{statement}
 use Rattle.upkeep.proofs.notes.first.Tie as tie
-use Rattle.upkeep.proofs.notes.first.Reads as reads
-use Rattle.upkeep.proofs.notes.first.Lts as lts
-use Rattle.upkeep.proofs.notes.ahead.Reads as ahead-reads
 
--- src/notes.rt:48:8
-ahead-requires : tie.Need-ahead-requires
-ahead-requires c κs = search needs
+cast-k : tie.Need-cast-k
+cast-k c = search needs
 
--- src/notes.rt:49:9
+cast-slots : tie.Need-cast-slots
+cast-slots c = search needs
+
+add-if1 : tie.Need-add-if1
+add-if1 c = search needs
+
 returns : tie.Need-returns
-returns c = let a = c .before .before .before .args in first-one (a .g) (now (a .volume)) (a .s) (sym (c .before .ahead .ensures) ∙ c .if1 .taken)
+returns c =
+    let a = c .before .before .before .before .args in
+    let p = c .before .before .before .before .pre in
+    none-ahead (now (a .volume)) (a .g) (p .0) (p .1) (a .s) (c .if1 .taken)
 
--- src/notes.rt:51:8
-ahead-requires-2 : tie.Need-ahead-requires-2
-ahead-requires-2 c κs = search needs
+positions-requires : tie.Need-positions-requires
+positions-requires c κs =
+    let a = c .before .before .before .before .args in
+    let p = c .before .before .before .before .pre in
+    let q = past-new (a .g) (now (a .volume)) (a .s) (c .if1 .left) in
+    (p .0, p .1, q .0, q .1)
 
--- src/notes.rt:52:9
 returns-2 : tie.Need-returns-2
-returns-2 c = let a = c .before .before .before .before .before .args in first-two (a .g) (now (a .volume)) (a .s) (sym (c .before .before .before .ahead .ensures) ∙ c .before .before .if1 .left) (sym (c .before .ahead2 .ensures) ∙ c .if2 .taken)
+returns-2 c =
+    let a = c .before .before .before .before .before .before .before .args in
+    let x = c .before .before .positions .ensures in
+    let q = past-new (a .g) (now (a .volume)) (a .s) (c .before .before .before .if1 .left) in
+    found-one (a .g) (now (a .volume)) (a .s) _ _ (q .1) (x .0) (x .1) (c .if2 .taken)
 
--- src/notes.rt:44:1
 returns-3 : tie.Need-returns-3
-returns-3 c = let a = c .before .before .before .before .before .args in first-none (a .g) (now (a .volume)) (a .s) (sym (c .before .before .before .ahead .ensures) ∙ c .before .before .if1 .left) (sym (c .before .ahead2 .ensures) ∙ c .if2 .left)
+returns-3 c =
+    let a = c .before .before .before .before .before .before .before .before .args in
+    let x = c .before .before .before .positions .ensures in
+    let q = past-new (a .g) (now (a .volume)) (a .s) (c .before .before .before .before .if1 .left) in
+    found-two (a .g) (now (a .volume)) (a .s) _ _ (q .1) (x .0) (x .1) (c .before .if2 .left) (c .if3 .taken)
+
+returns-4 : tie.Need-returns-4
+returns-4 c =
+    let a = c .before .before .before .before .before .before .before .before .args in
+    let x = c .before .before .before .positions .ensures in
+    let q = past-new (a .g) (now (a .volume)) (a .s) (c .before .before .before .before .if1 .left) in
+    found-none (a .g) (now (a .volume)) (a .s) _ _ (q .1) (x .0) (x .1) (c .before .if2 .left) (c .if3 .left)
 
 pub first-spec : {M : Type 1} → statement M
-first-spec = tie.close (tie.spec ahead-requires returns ahead-requires-2 returns-2 returns-3)
+first-spec =
+    tie.close
+    (tie.spec
+    cast-k
+    cast-slots
+    add-if1
+    returns
+    positions-requires
+    returns-2
+    returns-3
+    returns-4)

@@ -8,21 +8,26 @@ use Rattle.upkeep.proofs.renewal.back_up.Tie as tie
 free-slot-requires : tie.Need-free-slot-requires
 free-slot-requires c κs = search needs
 
-full-requires : tie.Need-full-requires
-full-requires c κs = search needs
-
 stuck-requires : tie.Need-stuck-requires
 stuck-requires c κs = search needs
 
 returns : tie.Need-returns
-returns c = let a = c .before .before .before .before .before .before .args in let p = c .before .before .before .before .before .before .pre in back-stuck (now (a .volume)) (a .s) (a .page) _ (a .g) (p .1) _ _ (c .before .before .before .before .free-slot .ensures) (c .before .before .before .full .ensures)
+returns c =
+    let a = c .before .before .before .before .before .args in
+    let p = c .before .before .before .before .before .pre in
+    back-stuck (now (a .volume)) (a .s) (a .page) _ (a .g) (p .1) _ _ (c .before .before .before .free-slot .ensures)
+    (p .2)
     (c .before .if1 .taken) (c .stuck .ensures)
 
 make-requires : tie.Need-make-requires
 make-requires c κs = search needs
 
 returns-2 : tie.Need-returns-2
-returns-2 c = let a = c .before .before .before .before .before .before .args in let p = c .before .before .before .before .before .before .pre in back-makes (now (a .volume)) (a .s) (a .page) _ (a .g) (p .1) _ _ (c .before .before .before .before .free-slot .ensures) (c .before .before .before .full .ensures)
+returns-2 c =
+    let a = c .before .before .before .before .before .args in
+    let p = c .before .before .before .before .before .pre in
+    back-makes (now (a .volume)) (a .s) (a .page) _ (a .g) (p .1) _ _ (c .before .before .before .free-slot .ensures)
+    (p .2)
     (c .before .if1 .left) (c .make .ensures)
 
 pub back-up-spec : {M : Type 1} → statement M
@@ -30,7 +35,6 @@ back-up-spec =
     tie.close
     (tie.spec
     free-slot-requires
-    full-requires
     stuck-requires
     returns
     make-requires

@@ -13,19 +13,30 @@ bring-in-requires : tie.Need-bring-in-requires
 bring-in-requires c κs = search needs
 
 returns : tie.Need-returns
-returns c = let a = c .before .before .before .before .before .args in renew-load (now (a .volume)) (now (a .memory)) (a .s) (a .frame) (a .page) (a .written) _ _ (c .before .before .held .ensures) (not-true _ (c .before .if1 .taken)) (c .bring-in .ensures)
+returns c =
+    let a = c .before .before .before .before .before .args in
+    renew-load (now (a .volume)) (now (a .memory)) (a .s) (a .frame) (a .page) (a .written) _ _
+    (c .before .before .held .ensures) (not-true _ (c .before .if1 .taken)) (c .bring-in .ensures)
 
 write-out-requires : tie.Need-write-out-requires
 write-out-requires c κs = search needs
 
 returns-2 : tie.Need-returns-2
-returns-2 c = let a = c .before .before .before .before .before .before .args in renew-write (now (a .volume)) (now (a .memory)) (a .s) (a .frame) (a .page) (a .written) _ _ (c .before .before .before .held .ensures) (not-false _ (c .before .before .if1 .left)) (c .before .if2 .taken) (c .write-out .ensures)
+returns-2 c =
+    let a = c .before .before .before .before .before .before .args in
+    renew-write (now (a .volume)) (now (a .memory)) (a .s) (a .frame) (a .page) (a .written) _ _
+    (c .before .before .before .held .ensures) (not-false _ (c .before .before .if1 .left)) (c .before .if2 .taken)
+    (c .write-out .ensures)
 
 back-up-requires : tie.Need-back-up-requires
 back-up-requires c κs = search needs
 
 returns-3 : tie.Need-returns-3
-returns-3 c = let a = c .before .before .before .before .before .before .args in renew-back (now (a .volume)) (now (a .memory)) (a .s) (a .frame) (a .page) (a .written) _ _ (c .before .before .before .held .ensures) (not-false _ (c .before .before .if1 .left)) (c .before .if2 .left) (c .back-up .ensures)
+returns-3 c =
+    let a = c .before .before .before .before .before .before .args in
+    renew-back (now (a .volume)) (now (a .memory)) (a .s) (a .frame) (a .page) (a .written) _ _
+    (c .before .before .before .held .ensures) (not-false _ (c .before .before .if1 .left)) (c .before .if2 .left)
+    (c .back-up .ensures)
 
 pub renew-spec : {M : Type 1} → statement M
 renew-spec =

@@ -1,0 +1,21 @@
+-- `archive_read::read_number` meets its contract: the number that stands for the answer.
+use mathlib.Core.Path.{_∙_}
+use Rattle.archive_read.proofs.Outcomes.{number-is}
+use borrow.Author.Needs.{needs}
+use Rattle.archive_read.proofs.read_number.Statement.{statement}
+use Rattle.archive_read.proofs.read_number.Tie as tie
+use Rattle.archive_read.proofs.read_number.Reads as reads
+use Rattle.archive_read.proofs.read_number.Lts as lts
+use Rattle.archive_read.proofs.fill.Reads as fill-reads
+
+fill-requires : tie.Need-fill-requires
+fill-requires c κs = search needs
+
+same-length : tie.Need-same-length
+same-length c = search needs
+
+returns : tie.Need-returns
+returns c = let f = c .before .before .fill in (f .ensures .0 ∙ number-is _ _, f .ensures .1)
+
+pub read-number-spec : {M : Type 1} → statement M
+read-number-spec = tie.close (tie.spec fill-requires same-length returns)

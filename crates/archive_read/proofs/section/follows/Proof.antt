@@ -1,0 +1,31 @@
+-- `archive_read::section::follows` meets its contract: its tests are those of `inSection`, on the fields that were read.
+use Rattle.archive_read.proofs.Records.{follows-is}
+use borrow.Author.Needs.{needs}
+use Rattle.archive_read.proofs.section.follows.Statement.{statement}
+use Rattle.archive_read.proofs.section.follows.Tie as tie
+use Rattle.archive_read.proofs.section.follows.Reads as reads
+use Rattle.archive_read.proofs.section.follows.Lts as lts
+use Rattle.sums.proofs.checksum.holds.Reads as holds-reads
+use Rattle.item.proofs.record.layout.Reads as layout-reads
+use Rattle.item.proofs.record.read.Reads as read-reads
+
+read-requires : tie.Need-read-requires
+read-requires c κs = search needs
+
+cast-owner : tie.Need-cast-owner
+cast-owner c = search needs
+
+holds-requires : tie.Need-holds-requires
+holds-requires c κs = search needs
+
+layout-requires : tie.Need-layout-requires
+layout-requires c κs = search needs
+
+returns : tie.Need-returns
+returns c =
+    let h = c .before .holds in
+    let e = c .before .before .before .before .read in
+    follows-is _ _ _ _ _ _ (e .ensures) (h .ensures) (c .layout .ensures)
+
+pub follows-spec : {M : Type 1} → statement M
+follows-spec = tie.close (tie.spec read-requires cast-owner holds-requires layout-requires returns)

@@ -1,0 +1,71 @@
+-- `archive_write::fill` meets its contract: the laws of Outcomes say what each case is.
+use mathlib.Core.Path.{_≡_, _∙_}
+use mathlib.Core.Bool.{cond, not}
+use lib.Dec.{eqb}
+use lib.ListN.{length}
+use denote.Ref.{now}
+use borrow.Author.Needs.{needs}
+use Rattle.archive_write.proofs.Outcomes.{write-refused, write-ready, write-done}
+use Rattle.archive_write.proofs.fill.Statement.{statement}
+use Rattle.archive_write.proofs.fill.Tie as tie
+use Rattle.archive_write.proofs.fill.Reads as reads
+use Rattle.archive_write.proofs.fill.Lts as lts
+use Rattle.archive_write.proofs.measure.Reads as measure-reads
+use Rattle.archive_write.proofs.section.sections.Reads as sections-reads
+use Rattle.volume.proofs.heading.geometry.Reads as geometry-reads
+use Rattle.volume.proofs.rows.first.Reads as first-reads
+
+-- the call's number, of what was measured
+number : (c : tie.After-first2)
+    → let e = c .before .before .before .before .measure .result in
+    let b = now (c .before .before .before .before .before .before .before .args .buffer) in
+    c .first2 .result ≡ cond (not (eqb (e .refusal) 0)) (e .refusal) (cond (not (eqb (length b) (e .size))) 21 0)
+number c = c .first2 .ensures ∙ rw (c .before .first .ensures)
+
+measure-requires : tie.Need-measure-requires
+measure-requires c κs = search needs
+
+cast-other : tie.Need-cast-other
+cast-other c = search needs
+
+first-requires : tie.Need-first-requires
+first-requires c κs = search needs
+
+first-requires-2 : tie.Need-first-requires-2
+first-requires-2 c κs = search needs
+
+returns : tie.Need-returns
+returns c = write-refused _ _ (c .before .before .before .before .before .measure .ensures) _ _ (number (c .before)) (c .if1 .taken)
+
+geometry-requires : tie.Need-geometry-requires
+geometry-requires c κs = search needs
+
+sections-requires : tie.Need-sections-requires
+sections-requires c κs =
+    let b = now (c .before .before .before .before .before .before .before .before .before .before .args .buffer) in
+    let o = c .before .before in
+    write-ready _ _ (o .before .before .before .before .before .measure .ensures) b _ (number (o .before)) (o .if1 .left) _
+    (c .before .geometry .ensures)
+
+same-length : tie.Need-same-length
+same-length c = search needs
+
+returns-2 : tie.Need-returns-2
+returns-2 c =
+    let o = c .before .before .before .before .before in
+    write-done _ _ (o .before .before .before .before .before .measure .ensures) _ _ (number (o .before)) (o .if1 .left) _
+    (c .before .before .before .before .geometry .ensures) _ (c .before .before .sections .ensures)
+
+pub fill-spec : {M : Type 1} → statement M
+fill-spec =
+    tie.close
+    (tie.spec
+    measure-requires
+    cast-other
+    first-requires
+    first-requires-2
+    returns
+    geometry-requires
+    sections-requires
+    same-length
+    returns-2)

@@ -1,0 +1,62 @@
+-- `archive_write::measure` meets its contract: the laws of Outcomes say what each case is.
+use mathlib.Core.Path.{_≡_, sym, _∙_}
+use native.Mathlib.Omega.{arith}
+use denote.Ref.{now}
+use borrow.Author.Needs.{needs}
+use Rattle.archive_write.proofs.Outcomes.{refusal-is, Known, known, extent-none, extent-some}
+use Rattle.archive_write.specs.Extent.{wholeRefusal}
+use Rattle.archive_write.proofs.measure.Statement.{statement}
+use Rattle.archive_write.proofs.measure.Tie as tie
+use Rattle.archive_write.proofs.measure.Reads as reads
+use Rattle.archive_write.proofs.measure.Lts as lts
+use Rattle.archive_write.proofs.refusal.Reads as refusal-reads
+use Rattle.index.proofs.count.Reads as count-reads
+use Rattle.volume.proofs.heading.geometry.Reads as geometry-reads
+
+-- the refusal's number is the table's
+number : (c : tie.After-refusal) → c .refusal .result ≡ wholeRefusal (now (c .before .before .before .before .args .volume))
+number c = let k = c .before .before .count in refusal-is _ (k .result) (k .ensures .0) (k .ensures .1) _ (c .refusal .ensures)
+
+opened : (c : tie.Else1)
+    → let a = c .before .before .before .before .before .args in
+    Known (now (a .volume)) (c .before .before .geometry .result) (c .before .before .before .count .result)
+opened c =
+    let k = c .before .before .before .count in
+    known _ _ (c .before .before .geometry .ensures) (k .result) (k .ensures .0) (k .ensures .1) (sym (number (c .before)) ∙ c .if1 .left)
+
+count-requires : tie.Need-count-requires
+count-requires c κs = search needs
+
+geometry-requires : tie.Need-geometry-requires
+geometry-requires c κs = search needs
+
+refusal-requires : tie.Need-refusal-requires
+refusal-requires c κs = search needs
+
+returns : tie.Need-returns
+returns c = extent-none _ _ (number (c .before)) (c .if1 .taken)
+
+mul-t6 : tie.Need-mul-t6
+mul-t6 c = omega (arith, opened (c .before) .pages)
+
+mul-t7 : tie.Need-mul-t7
+mul-t7 c = omega (arith, opened (c .before .before) .few)
+
+add-t8 : tie.Need-add-t8
+add-t8 c = let k = opened (c .before .before) in omega (arith, k .few, k .pages)
+
+returns-2 : tie.Need-returns-2
+returns-2 c = extent-some _ _ _ (opened (c .before .before))
+
+pub measure-spec : {M : Type 1} → statement M
+measure-spec =
+    tie.close
+    (tie.spec
+    count-requires
+    geometry-requires
+    refusal-requires
+    returns
+    mul-t6
+    mul-t7
+    add-t8
+    returns-2)

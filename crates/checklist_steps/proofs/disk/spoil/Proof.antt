@@ -1,0 +1,16 @@
+-- `checklist_steps::disk::spoil` gives back bytes of an older copy that is all junk.
+use borrow.Author.Needs.{needs}
+use Rattle.checklist_steps.proofs.disk.spoil.Statement.{statement}
+use Rattle.checklist_steps.proofs.disk.spoil.Tie as tie
+use Rattle.checklist_steps.proofs.disk.spoil.Reads as reads
+use Rattle.checklist_steps.proofs.disk.spoil.Lts as lts
+use Rattle.checklist_steps.proofs.disk.give_back.Reads as give-back-reads
+
+give-back-requires : tie.Need-give-back-requires
+give-back-requires c κs = search needs
+
+returns : tie.Need-returns
+returns c = c .give-back .ensures
+
+pub spoil-spec : {M : Type 1} → statement M
+spoil-spec = tie.close (tie.spec give-back-requires returns)

@@ -1,0 +1,38 @@
+-- `checklist_steps::verdict::after` meets its contract.
+use borrow.Author.Needs.{needs}
+use denote.Ref.{now}
+use Rattle.model.specs.Restart.{inspectOf}
+use Rattle.checklist_steps.proofs.Verdicts.{rebuilt-not, rebuilt-is}
+use Rattle.checklist_steps.proofs.verdict.after.Statement.{statement}
+use Rattle.checklist_steps.proofs.verdict.after.Tie as tie
+use Rattle.checklist_steps.proofs.verdict.after.Reads as reads
+use Rattle.checklist_steps.proofs.verdict.after.Lts as lts
+use Rattle.checklist_steps.proofs.verdict.inspect.Reads as inspect-reads
+use Rattle.checklist_steps.proofs.text.whole.Reads as whole-reads
+use Rattle.print.proofs.say.Reads as say-reads
+
+say-requires : tie.Need-say-requires
+say-requires c κs = search needs
+
+inspect-requires : tie.Need-inspect-requires
+inspect-requires c κs = search needs
+
+returns : tie.Need-returns
+returns c =
+    let a = c .before .before .before .before .before .args in
+    let o = inspectOf (now (a .v)) 1 (now (a .after)) in
+    (rebuilt-not _ o (now (a .before)) (c .before .inspect .ensures .0) (c .if1 .taken), search needs)
+
+whole-requires : tie.Need-whole-requires
+whole-requires c κs = search needs
+
+returns-2 : tie.Need-returns-2
+returns-2 c =
+    let k = c .before .before .before .before in
+    let i = k .before .inspect .ensures in
+    let a = k .before .before .before .before .before .args in
+    let o = inspectOf (now (a .v)) 1 (now (a .after)) in
+    (rebuilt-is _ o (now (a .before)) (i .0) (k .if1 .left) _ (i .1) _ (c .whole .ensures), search needs)
+
+pub after-spec : {M : Type 1} → statement M
+after-spec = tie.close (tie.spec say-requires inspect-requires returns whole-requires returns-2)

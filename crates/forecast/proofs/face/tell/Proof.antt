@@ -1,0 +1,96 @@
+-- `forecast::face::tell` meets its contract: the loop writes two numbers a page.
+use Prim.Native.Nat.{_-_, _*_, _≤_}
+use mathlib.Core.Path.{refl}
+use native.Mathlib.Omega.{arith}
+use lib.ListN.{getD, length-set}
+use Rattle.reports.specs.Forecast.{counted}
+use borrow.Author.Needs.{needs}
+use Rattle.forecast.proofs.Fills.{Telling, none-told, one-told, all-told}
+use Rattle.forecast.proofs.face.tell.Statement.{statement}
+use Rattle.forecast.proofs.face.tell.Tie as tie
+use Rattle.forecast.proofs.face.tell.Reads as reads
+use Rattle.forecast.proofs.face.tell.Lts as lts
+
+abbrev Inv-loop : tie.InvT-loop
+Inv-loop figures₀ pages i₀ figures i = (i ≤ 64) × Telling pages figures i
+
+abbrev μ-loop : tie.MeasureT-loop
+μ-loop figures₀ pages i₀ figures i = 64 - i
+
+loop-holds : tie.Need-loop-holds Inv-loop μ-loop
+loop-holds c = (omega arith, none-told _ _ (c .pre))
+
+mul-f : tie.Need-mul-f Inv-loop μ-loop
+mul-f c = search needs
+
+array-copy-out-f : tie.Need-array-copy-out-f Inv-loop μ-loop
+array-copy-out-f c = search needs
+
+mul-figures : tie.Need-mul-figures Inv-loop μ-loop
+mul-figures c = search needs
+
+mul-figures-2 : tie.Need-mul-figures-2 Inv-loop μ-loop
+mul-figures-2 c = search needs
+
+slice-write-figures : tie.Need-slice-write-figures Inv-loop μ-loop
+slice-write-figures c = search needs
+
+mul-figures-3 : tie.Need-mul-figures-3 Inv-loop μ-loop
+mul-figures-3 c = search needs
+
+add-figures : tie.Need-add-figures Inv-loop μ-loop
+add-figures c = search needs
+
+mul-figures-4 : tie.Need-mul-figures-4 Inv-loop μ-loop
+mul-figures-4 c = search needs
+
+slice-write-figures-2 : tie.Need-slice-write-figures-2 Inv-loop μ-loop
+slice-write-figures-2 c =
+    let k = c .before .before .loop in
+    let a = c .before .before .before .args in
+    let l = length-set (k .figures) (2 * k .i) (getD (a .t1) (k .i) (counted 0) .refusal) in
+    omega (arith, k .inv .1 .size, c .before .loop-test .taken, l)
+
+add-i : tie.Need-add-i Inv-loop μ-loop
+add-i c = search needs
+
+loop-less : tie.Need-loop-less Inv-loop μ-loop
+loop-less c = search needs
+
+loop-again : tie.Need-loop-again Inv-loop μ-loop
+loop-again c =
+    let t = c .before .loop-test .taken in
+    let k = c .before .before .loop in
+    let a = c .before .before .before .args in
+    (omega (arith, t), one-told (a .t1) (k .figures) (k .i) _ _ (k .inv .1) (search needs) t refl refl)
+
+same-length : tie.Need-same-length Inv-loop μ-loop
+same-length c = search needs
+
+returns : tie.Need-returns Inv-loop μ-loop
+returns c =
+    let k = c .before .loop in
+    all-told (c .before .before .args .t1) (k .figures) (k .i) (k .inv .1) (search needs)
+    (omega (arith, k .inv .0, c .loop-test .left))
+
+pub tell-spec : {M : Type 1} → statement M
+tell-spec =
+    tie.close
+    (tie.spec
+    Inv-loop
+    μ-loop
+    loop-holds
+    mul-f
+    array-copy-out-f
+    mul-figures
+    mul-figures-2
+    slice-write-figures
+    mul-figures-3
+    add-figures
+    mul-figures-4
+    slice-write-figures-2
+    add-i
+    loop-less
+    loop-again
+    same-length
+    returns)

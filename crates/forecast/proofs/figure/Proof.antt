@@ -1,0 +1,22 @@
+-- `forecast::figure` meets its contract.
+use mathlib.Core.Path.{sym, _∙_}
+use mathlib.Core.Bool.{true, false}
+use borrow.Author.Needs.{needs}
+use Rattle.model.specs.Repair.{isBelow}
+use Rattle.forecast.proofs.figure.Statement.{statement}
+use Rattle.forecast.proofs.figure.Tie as tie
+use Rattle.forecast.proofs.figure.Reads as reads
+use Rattle.forecast.proofs.figure.Lts as lts
+use Rattle.repair.proofs.walk.below.Reads as below-reads
+
+below-requires : tie.Need-below-requires
+below-requires c κs = search needs
+
+returns : tie.Need-returns
+returns c = rw (sym (c .before .below .ensures) ∙ c .if1 .taken)
+
+returns-2 : tie.Need-returns-2
+returns-2 c = rw (sym (c .before .below .ensures) ∙ c .if1 .left)
+
+pub figure-spec : {M : Type 1} → statement M
+figure-spec = tie.close (tie.spec below-requires returns returns-2)

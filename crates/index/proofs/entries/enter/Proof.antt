@@ -1,0 +1,45 @@
+use mathlib.Core.Path.{_≡_, refl, sym, ap, _∙_}
+use native.Mathlib.Omega.{arith}
+use Rattle.index.proofs.EntryLaws.{row-below, entered}
+use borrow.Author.Needs.{needs}
+use Rattle.index.proofs.entries.enter.Statement.{statement}
+use Rattle.index.proofs.entries.enter.Tie as tie
+
+cast-row : tie.Need-cast-row
+cast-row c = search needs
+
+row-requires : tie.Need-row-requires
+row-requires c κs = search needs
+
+mul-e : tie.Need-mul-e
+mul-e c = omega (arith, c .row .ensures, row-below (c .before .before .args .n .page))
+
+array-copy-out-e : tie.Need-array-copy-out-e
+array-copy-out-e c = omega (arith, c .row .ensures, row-below (c .before .before .args .n .page))
+
+noted-requires : tie.Need-noted-requires
+noted-requires c κs = search needs
+
+mul-index : tie.Need-mul-index
+mul-index c = omega (arith, c .before .before .row .ensures, row-below (c .before .before .before .before .args .n .page))
+
+array-set-from-index : tie.Need-array-set-from-index
+array-set-from-index c = omega (arith, c .before .before .row .ensures, row-below (c .before .before .before .before .args .n .page))
+
+returns : tie.Need-returns
+returns c =
+    let b = c .before .before .before .before in
+    entered (b .args .t1) (b .args .n) _ _ (b .pre .1) (c .before .before .row .ensures) (c .noted .ensures)
+
+pub enter-spec : {M : Type 1} → statement M
+enter-spec =
+    tie.close
+    (tie.spec
+    cast-row
+    row-requires
+    mul-e
+    array-copy-out-e
+    noted-requires
+    mul-index
+    array-set-from-index
+    returns)

@@ -1,0 +1,66 @@
+use mathlib.Core.Path.{_≡_, refl, sym, ap, _∙_}
+use Prim.Native.Nat.{ℕ, suc, _+_, _-_, _≤_, _<_}
+use borrow.Author.Needs.{needs}
+use lib.ListN.{length, drop}
+use Rattle.model.specs.Index.{slotUsed}
+use Rattle.index.proofs.EntryLaws.{used-here, used-on, used-end}
+use Rattle.index.proofs.entries.used.Statement.{statement}
+use Rattle.index.proofs.entries.used.Tie as tie
+
+abbrev Inv-loop : tie.InvT-loop
+Inv-loop slot index i₀ i = (i ≤ 64) × (slotUsed slot (drop i index) ≡ slotUsed slot index)
+
+abbrev μ-loop : tie.MeasureT-loop
+μ-loop slot index i₀ i = 64 - i
+
+loop-holds : tie.Need-loop-holds Inv-loop μ-loop
+loop-holds c = search needs
+
+mul-e : tie.Need-mul-e Inv-loop μ-loop
+mul-e c = search needs
+
+array-copy-out-e : tie.Need-array-copy-out-e Inv-loop μ-loop
+array-copy-out-e c = search needs
+
+cast-if1 : tie.Need-cast-if1 Inv-loop μ-loop
+cast-if1 c = search needs
+
+returns : tie.Need-returns Inv-loop μ-loop
+returns c =
+    let l = c .before .before .before .before .loop in
+    let a = c .before .before .before .before .before .args in
+    sym (used-here (a .slot) (a .t1) (l .i) (search needs) (c .if1 .taken)) ∙ l .inv .1
+
+add-i : tie.Need-add-i Inv-loop μ-loop
+add-i c = search needs
+
+loop-less : tie.Need-loop-less Inv-loop μ-loop
+loop-less c = search needs
+
+loop-again : tie.Need-loop-again Inv-loop μ-loop
+loop-again c =
+    let l = c .before .before .before .before .loop in
+    let a = c .before .before .before .before .before .args in
+    (search needs, sym (used-on (a .slot) (a .t1) (l .i) (search needs) (c .if1 .left)) ∙ l .inv .1)
+
+returns-2 : tie.Need-returns-2 Inv-loop μ-loop
+returns-2 c =
+    let l = c .before .loop in
+    let a = c .before .before .args in
+    sym (used-end (a .slot) (a .t1) (l .i) (search needs)) ∙ l .inv .1
+
+pub used-spec : {M : Type 1} → statement M
+used-spec =
+    tie.close
+    (tie.spec
+    Inv-loop
+    μ-loop
+    loop-holds
+    mul-e
+    array-copy-out-e
+    cast-if1
+    returns
+    add-i
+    loop-less
+    loop-again
+    returns-2)

@@ -1,0 +1,2 @@
+// Inspection with its report: class, start and count.
+pub mod examine;

@@ -1,3 +1,0 @@
-pub mod Damage
-pub mod Same
-pub mod Verdicts

@@ -1,0 +1,9 @@
+pub mod Reading
+pub mod Forecast
+pub mod Room
+pub mod Archive
+pub mod Mirror
+pub mod Neighbours
+pub mod ReadingClaim
+pub mod Examine
+pub mod ReportsOrdered

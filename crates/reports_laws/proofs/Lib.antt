@@ -1,0 +1,13 @@
+pub mod Scans
+pub mod Forecast
+pub mod ArchiveSections
+pub mod Archive
+pub mod Area
+pub mod Mirror
+pub mod Compare
+pub mod Refuses
+pub mod Neighbours
+pub mod SameRepair
+pub mod Same
+pub mod Room
+pub mod ReportsOrdered

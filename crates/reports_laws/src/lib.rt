@@ -1,0 +1,1 @@
+// Facts about the definitions of `reports`, over plain variables. No code: see proofs/.

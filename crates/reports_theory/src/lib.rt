@@ -1,0 +1,1 @@
+// What the reports tell after any history. No code: see proofs/.

@@ -1,1 +1,0 @@
-// Proofs only: the worked histories of `cases`, computed.
