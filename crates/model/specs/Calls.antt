@@ -8,13 +8,16 @@ use lib.ListN.{getD, replicate}
 use Rattle.model.specs.Tables.{Row}
 use Rattle.model.specs.Geometry.{tagOf, carryTag}
 use Rattle.model.specs.Change.{kindOf, lengthOf, offsetOf, fillOf}
-use Rattle.model.specs.Refusals.{beginRows, loadRows, changeRows, forceRows, writeRows, backupRows, releaseRows, noteRows, startCarryRows, restampRows, finishCarryRows}
+use Rattle.model.specs.Refusals.{beginRows, loadRows, changeRows, forceRows, writeRows, backupRows, releaseRows}
+use Rattle.model.specs.Refusals.{noteRows, startCarryRows, restampRows, finishCarryRows}
 use Rattle.model.specs.Outcome.{Outcome, newHeading, storing, decided}
-use Rattle.model.specs.Effects.{beginDone, loadDone, changeDone, forceDone, writeDone, backupDone, releaseDone, noteStored, restampDone}
+use Rattle.model.specs.Effects.{beginDone, loadDone, changeDone, forceDone, writeDone, backupDone, releaseDone}
+use Rattle.model.specs.Effects.{noteStored, restampDone}
 use Rattle.model.specs.declared.geometry.Heading.the-variants.{Second}
 use Rattle.model.specs.declared.change.Change as changes
 use Rattle.model.specs.declared.command.Command.{Command}
-use Rattle.model.specs.declared.command.Command.the-variants.{Begin, Load, Change, Force, Write, Backup, Release, Note, StartCarry, Restamp, FinishCarry}
+use Rattle.model.specs.declared.command.Command.the-variants.{Begin, Load, Change, Force, Write, Backup, Release}
+use Rattle.model.specs.declared.command.Command.the-variants.{Note, StartCarry, Restamp, FinishCarry}
 use Rattle.model.specs.declared.state.State.{State}
 
 -- ---- the table of the calls

@@ -13,7 +13,8 @@ use Rattle.model.specs.Index.{entryOf, slotUsed}
 use Rattle.model.specs.Passes.{oldLeft}
 use Rattle.model.specs.Scan.{indexOf, validLog, validNotes}
 use Rattle.model.specs.Repair.{scannedView, stateView, walkOf, isBroken, isBelow}
-use Rattle.model.specs.State.{frameCount, validMemory, frameBytes, frameOf, logFull, notesFull, notePending, holder, held, blank, wellFormed}
+use Rattle.model.specs.State.{frameCount, validMemory, frameBytes, frameOf, logFull, notesFull, notePending}
+use Rattle.model.specs.State.{holder, held, blank, wellFormed}
 use Rattle.model.specs.declared.geometry.Geometry.{Geometry}
 use Rattle.model.specs.declared.geometry.Heading.the-variants.{First}
 use Rattle.model.specs.declared.change.Change.{Change}

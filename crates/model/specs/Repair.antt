@@ -9,7 +9,8 @@ use Rattle.model.specs.Tables.{all}
 use Rattle.model.specs.Checksum.{sealed}
 use Rattle.model.specs.Geometry.{Place, pageAt, slotAt, item, logSlot}
 use Rattle.model.specs.Change.{zeroBody}
-use Rattle.model.specs.Item.{imageLsn, imageBody, validImage, recordOf, recordLayout, isFormat, firstIsFormat, applyRecord, frameImage}
+use Rattle.model.specs.Item.{imageLsn, imageBody, validImage, recordOf, recordLayout, isFormat, firstIsFormat}
+use Rattle.model.specs.Item.{applyRecord, frameImage}
 use Rattle.model.specs.Index.{entryOf}
 use Rattle.model.specs.Scan.{durableCount, firstHeld, indexOf}
 use Rattle.model.specs.declared.geometry.Geometry.{Geometry}
