@@ -16,8 +16,7 @@ use Rattle.model.specs.Geometry.{most, geometryOf}
 use Rattle.model.specs.Change.{fits}
 use Rattle.model.specs.State.{frameCount, frameAt, lastNumber, logFull, holder, held}
 use Rattle.model.specs.Refusals.{beginRows, changeRows, beginTail, changeTail}
-use Rattle.model.specs.declared.change.Change.{Change}
-use Rattle.model.specs.declared.state.State.{State}
+use Rattle.model.specs.declared.{change.Change.Change, state.State.State}
 
 pub record Open (m : List ℕ) (s : State) (page frame : ℕ) : Type 0 where
   pub page-low : 1 ≤ page

@@ -14,10 +14,9 @@ use Rattle.model.specs.Refusals.{beginRows, changeRows}
 use Rattle.model.specs.Outcome.{Outcome, nothing, replyOf, unchanged, decided}
 use Rattle.model.specs.Effects.{appendedState, appendedMemory, changedImage, beginDone, changeDone}
 use Rattle.model.specs.Calls.{beginOf, changeCall}
-use Rattle.model.specs.declared.change.Change.{Change}
-use Rattle.model.specs.declared.change.Change.the-variants.{Format}
-use Rattle.model.specs.declared.state.State.{State}
+use Rattle.model.specs.declared.{change.Change.Change, state.State.State}
 use Rattle.model.specs.declared.answer.Answer.the-variants.{Refused, Done}
+use Rattle.model.specs.declared.change.Change.the-variants.{Format}
 
 -- what a table decides
 module _ (rows : List Row) (m : List ℕ) (s : State) (done : Outcome) where

@@ -17,9 +17,8 @@ use Rattle.model.specs.Item.{imageBody, frameImage, recordFor, padded, encodeCh
 use Rattle.model.specs.Index.{entryOf}
 use Rattle.model.specs.State.{pendingAt, frameAt, frameBytes, lastNumber}
 use Rattle.model.specs.Effects.{changedImage, appendedMemory}
-use Rattle.model.specs.declared.change.Change.{Change}
+use Rattle.model.specs.declared.{change.Change.Change, state.State.State}
 use Rattle.model.specs.declared.change.Change.the-variants.{Format}
-use Rattle.model.specs.declared.state.State.{State}
 
 -- ---- a frame's 256 bytes
 

@@ -10,9 +10,7 @@ use Rattle.model.specs.Geometry.{geometryOf}
 use Rattle.model.specs.Change.{fits}
 use Rattle.model.specs.State.{frameCount, held, blank}
 use Rattle.model.specs.Refusals.{frameBlocked, stateRows, beginRows, changeRows, appendTail, beginTail, changeTail}
-use Rattle.model.specs.declared.geometry.Geometry.{Geometry}
-use Rattle.model.specs.declared.change.Change.{Change}
-use Rattle.model.specs.declared.state.State.{State}
+use Rattle.model.specs.declared.{geometry.Geometry.Geometry, change.Change.Change, state.State.State}
 
 -- the tests of Begin's own rows
 pub begin-own : (g : Geometry) (v : List ℕ) (count : ℕ) (s : State) (page frame : ℕ) (none blocked : Bool) (b c d e k : ℕ)

@@ -5,8 +5,7 @@ use Rattle.model.specs.Bytes.{splice}
 use Rattle.model.specs.Index.{entryOf}
 use Rattle.model.specs.Item.{encodeChange}
 use Rattle.model.specs.State.{pendingAt, lastNumber}
-use Rattle.model.specs.declared.change.Change.{Change}
-use Rattle.model.specs.declared.state.State.{State}
+use Rattle.model.specs.declared.{change.Change.Change, state.State.State}
 
 abbrev pub pendedMemory : List ℕ → State → ℕ → Change → List ℕ → List ℕ
 pendedMemory m s page c payload =

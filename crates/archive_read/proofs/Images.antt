@@ -5,7 +5,7 @@ use mathlib.Core.List.{List, [], _∷_}
 use Prim.Native.Nat.{ℕ, zero, suc, _+_, _-_, _*_, _≤_, _<_}
 use native.Mathlib.Omega.{arith}
 use lib.Dec.{eqb, ltb}
-use lib.ListN.{length, take, drop, replicate, length-replicate}
+use lib.ListN.{length, take, drop, length-replicate}
 use borrow.Rule.Slice.PartMut.{putMid}
 use Rattle.laws.proofs.Tables.{all-at, and-left, and-right}
 use Rattle.laws.proofs.Parts.{put-part}

@@ -1,5 +1,5 @@
 -- What the definitions of the length and the writer say in each of their cases, and what the code needs to know once it is not refused.
-use mathlib.Core.Path.{_≡_, refl, sym, ap, _∙_, subst}
+use mathlib.Core.Path.{_≡_, refl, sym, ap, _∙_}
 use mathlib.Core.Bool.{Bool, true, false, cond, not}
 use mathlib.Core.List.{List, [], _∷_}
 use Prim.Native.Nat.{ℕ, zero, suc, _+_, _*_, _≤_}
@@ -11,14 +11,13 @@ use Rattle.laws.proofs.Tables.{byCases, none-at, true-not-false}
 use Rattle.laws.proofs.Places.{valid-facts}
 use Rattle.laws.proofs.Scanned.{whole-few}
 use Rattle.reports_laws.proofs.Archive.{Whole, held-is, long-as-told}
-use Rattle.model.specs.Tables.{Row, firstOf, tabulate}
+use Rattle.model.specs.Tables.{firstOf, tabulate}
 use Rattle.model.specs.Geometry.{geometryOf, validVolume}
-use Rattle.model.specs.Scan.{durableCount, firstHeld, gone, validLog, validNotes}
+use Rattle.model.specs.Scan.{durableCount, gone, validLog, validNotes}
 use Rattle.reports.specs.Reading.{wholeRows, pageRecords, heldRecords}
 use Rattle.reports.specs.Archive.{archiveBytes, sectionsOf, archiveLength, sizeOf, sizeRefusal, archiveRows, archiveOf}
 use Rattle.model.specs.Outcome.{refusalOf}
 use Rattle.model.specs.declared.geometry.Geometry.{Geometry}
-use Rattle.model.specs.declared.answer.Answer.{Answer}
 use Rattle.model.specs.declared.answer.Answer.the-variants.{Refused, Done}
 use Rattle.reports.specs.declared.reading.Size.{Size}
 use Rattle.index.specs.Sections.{Sized}

@@ -1,19 +1,18 @@
 -- What the benchmark's cycles of calls leave, and how many of the calls are refused: the outcomes folded over the
 -- calls.
 use Prim.Native.Nat.{ℕ, zero, suc, _+_, _*_, _/_, _%_}
-use mathlib.Core.Bool.{Bool, cond}
+use mathlib.Core.Bool.{cond}
 use mathlib.Core.List.{List}
 use lib.Dec.{eqb, leb}
 use lib.ListN.{replicate}
 use Rattle.model.specs.Outcome.{volumeAfter}
 use Rattle.model.specs.Calls.{Call, outcomeOf}
 use Rattle.model.specs.Restart.{restartOf}
-use Rattle.model.specs.declared.answer.Answer.{Answer}
-use Rattle.model.specs.declared.answer.Answer.the-variants.{Refused, Nothing, Done, Repaired}
-use Rattle.model.specs.declared.change.Change.the-variants.{Put}
-use Rattle.model.specs.declared.command.Command.{Command}
-use Rattle.model.specs.declared.command.Command.the-variants.{Begin, Load, Change, Force, Write, Note}
+use Rattle.model.specs.declared.{answer.Answer.Answer, change.Change.the-variants.Put, command.Command.Command}
 use Rattle.model.specs.declared.state.State.{State}
+use Rattle.model.specs.declared.answer.Answer.the-variants.{Refused, Nothing, Done, Repaired}
+use Rattle.model.specs.declared.command.Command.the-variants.{Begin, Load, Force, Write}
+use Rattle.model.specs.declared.command.Command.the-variants.{Change, Note}
 
 -- volume, memory and state after some calls, and how many of them were refused
 pub record Run : Type 0 where

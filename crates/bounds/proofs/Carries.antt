@@ -20,8 +20,7 @@ use Rattle.model.specs.History.{on, perform, allowed, allAllowed}
 use Rattle.model.specs.Claim.{History, Legal, fresh, reached}
 use Rattle.model.specs.Health.{Same}
 use Rattle.model.specs.Carry.{oldCount, passesOn, OnlyHeading}
-use Rattle.model.specs.declared.geometry.Heading.the-variants.{First}
-use Rattle.model.specs.declared.state.State.{State}
+use Rattle.model.specs.declared.{geometry.Heading.the-variants.First, state.State.State}
 use Rattle.model.specs.declared.answer.Answer.the-variants.{Nothing, Done}
 use Rattle.cases.specs.Opened.{opened}
 use Rattle.cases.specs.Prologues.{pageWritten}

@@ -1,19 +1,19 @@
 -- The laws for changes and the byte sum at their bounds: ranges that touch and end where the body ends, equal ranges, the last word ahead
 -- of the check.
-use Prim.Native.Nat.{ℕ, _+_, _≤_, _<_}
+use Prim.Native.Nat.{ℕ}
 use mathlib.Core.Path.{_≡_, refl, sym, ap, _∙_}
-use mathlib.Core.Logic.{_≢_, _⊎_, inl, inr}
-use mathlib.Core.Bool.{Bool, true, false}
-use mathlib.Core.List.{List, [], _∷_, _++_}
+use mathlib.Core.Logic.{_≢_, inl}
+use mathlib.Core.Bool.{true, false}
+use mathlib.Core.List.{List, [], _∷_}
 use native.Mathlib.Omega.{arith}
-use lib.Dec.{T, eqb→eq}
+use lib.Dec.{eqb→eq}
 use lib.ListN.{length, replicate, length-replicate}
 use Rattle.model.specs.Bytes.{byteAt}
 use Rattle.model.specs.Checksum.{imageSealed}
 use Rattle.model.specs.Change.{zeroBody}
 use Rattle.model.specs.AbstractLog.{Logged, replayOn}
-use Rattle.model.specs.ChangeLaws.{putOn, slideOn, InBody, Covers}
-use Rattle.model.specs.Detection.{withWord, WordError, ImageError}
+use Rattle.model.specs.ChangeLaws.{putOn, slideOn, InBody}
+use Rattle.model.specs.Detection.{withWord, ImageError}
 use Rattle.cases.specs.Opened.{opened}
 use Rattle.cases.specs.Build.{small, image}
 use Rattle.laws.proofs.Replays.{change-laws}

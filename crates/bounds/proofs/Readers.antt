@@ -1,12 +1,12 @@
 -- The calls that read volumes at their bounds: the forecast of the last page and of the one past it, an archive of 64 pages, two logs that
 -- differ in their third record, and which numbers of common records are none.
-use Prim.Native.Nat.{ℕ, suc, _≤_, _<_}
-use mathlib.Core.Path.{_≡_, refl, sym, ap, subst, _∙_}
-use mathlib.Core.Logic.{_≢_, _↔_}
-use mathlib.Core.Bool.{Bool, true, false}
+use Prim.Native.Nat.{ℕ}
+use mathlib.Core.Path.{_≡_, sym, subst, _∙_}
+use mathlib.Core.Logic.{_≢_}
+use mathlib.Core.Bool.{true, false}
 use mathlib.Core.List.{List, [], _∷_}
 use native.Mathlib.Omega.{arith}
-use lib.Dec.{T, eqb→eq}
+use lib.Dec.{eqb→eq}
 use lib.ListN.{length, replicate, length-replicate}
 use Rattle.model.specs.Tables.{firstOf, within}
 use Rattle.model.specs.Geometry.{geometryOf, recordAt}
@@ -21,7 +21,7 @@ use Rattle.reports.specs.Mirror.{recordIn, durableIn, sameChange, commonOf, mir
 use Rattle.model.specs.declared.change.Change.the-variants.{Put}
 use Rattle.cases.specs.Opened.{opened}
 use Rattle.cases.specs.Build.{buffer, smallVolume}
-use Rattle.cases.specs.Table.{record1, record2, record3, whole}
+use Rattle.cases.specs.Table.{record1, record2, whole}
 use Rattle.reports_laws.proofs.Forecast.{forecast}
 use Rattle.reports_laws.proofs.Archive.{archive}
 use Rattle.reports_laws.proofs.Mirror.{mirror}

@@ -1,12 +1,11 @@
 -- A ring that has turned, at the bounds of demand 2: with its noted backup damaged, 23 and the proviso fails; with the backup whole, a page
 -- that was let go is loaded with the replay of its changes.
-use Prim.Native.Nat.{ℕ, _≤_}
-use mathlib.Core.Path.{_≡_, refl}
-use mathlib.Core.Bool.{true}
+use Prim.Native.Nat.{ℕ}
+use mathlib.Core.Path.{_≡_}
 use mathlib.Core.List.{List, [], _∷_, _++_}
 use native.Mathlib.Omega.{arith}
-use lib.Dec.{T, eqb→eq}
-use lib.ListN.{length, replicate, length-replicate}
+use lib.Dec.{eqb→eq}
+use lib.ListN.{replicate, length-replicate}
 use Rattle.model.specs.Geometry.{lengthFor, slotAt}
 use Rattle.model.specs.Item.{frameImage}
 use Rattle.model.specs.State.{frameBytes}
@@ -17,8 +16,7 @@ use Rattle.cases.specs.Calls.{release}
 use Rattle.model.specs.AbstractLog.{lastPlace, replay}
 use Rattle.model.specs.History.{on, Event, perform, damage, allAllowed}
 use Rattle.model.specs.Claim.{History, Legal, Gone, Proviso, fresh, reached, durableOf, inspection}
-use Rattle.model.specs.declared.geometry.Heading.the-variants.{Second}
-use Rattle.model.specs.declared.state.State.{State}
+use Rattle.model.specs.declared.{geometry.Heading.the-variants.Second, state.State.State}
 use Rattle.cases.specs.Opened.{opened}
 use Rattle.cases.specs.Build.{buffer}
 use Rattle.cases.specs.Rings.{turned}

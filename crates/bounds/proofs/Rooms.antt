@@ -1,11 +1,11 @@
 -- A rehearsal whose site has just the room that the model names: the real calls are not refused, and the figures are the model's. (With
 -- one note or one record less a call is refused: the row `rehearsal, real: one note too few, one record too few`.)
-use Prim.Native.Nat.{ℕ, zero, suc, _+_, _*_, _-_, _≤_}
-use mathlib.Core.Path.{_≡_, refl, sym, ap, _∙_}
+use Prim.Native.Nat.{ℕ, zero, suc, _-_, _≤_}
+use mathlib.Core.Path.{_≡_, refl, ap, _∙_}
 use mathlib.Core.Bool.{true, false}
-use mathlib.Core.List.{List, [], _∷_}
+use mathlib.Core.List.{List, _∷_}
 use native.Mathlib.Omega.{arith}
-use lib.Dec.{T, eqb→eq}
+use lib.Dec.{eqb→eq}
 use lib.ListN.{length, getD, replicate, length-replicate}
 use Rattle.model.specs.Tables.{firstOf}
 use Rattle.model.specs.Change.{fits}
@@ -13,8 +13,7 @@ use Rattle.model.specs.Outcome.{refusalOf}
 use Rattle.model.specs.Restart.{makeOf}
 use Rattle.planning.specs.Rehearsal.{noFigures, pageRow, settings, rehearsalRows, rehearsalOf, totalOf}
 use Rattle.planning.specs.RehearsalRun.{Choices, Site, realRun, Tried, freeSlot, backedUp, Roomy}
-use Rattle.model.specs.declared.change.Change.the-variants.{Put}
-use Rattle.model.specs.declared.geometry.Heading.the-variants.{First}
+use Rattle.model.specs.declared.{change.Change.the-variants.Put, geometry.Heading.the-variants.First}
 use Rattle.planning.specs.declared.rehearsal.Victim.the-variants.{Written}
 use Rattle.planning.specs.declared.rehearsal.Settings.{Settings}
 use Rattle.planning.specs.declared.rehearsal.Figures.{Figures}

@@ -1,24 +1,22 @@
 -- What is shown of one page after two short histories: inspections that are the same agree, none is Ahead, and the archive rebuilds it.
-use Prim.Native.Nat.{ℕ, _≤_}
+use Prim.Native.Nat.{ℕ}
 use mathlib.Core.Path.{_≡_, refl, sym, _∙_}
-use mathlib.Core.Logic.{_≢_, _⊎_, inl, inr}
-use mathlib.Core.Bool.{true}
-use mathlib.Core.List.{List, [], _∷_}
+use mathlib.Core.Logic.{_≢_, inr}
+use mathlib.Core.List.{List}
 use native.Mathlib.Omega.{arith}
-use lib.Dec.{T, eqb→eq}
-use lib.ListN.{length, replicate, length-replicate}
+use lib.Dec.{eqb→eq}
+use lib.ListN.{replicate, length-replicate}
 use Rattle.model.specs.Bytes.{part}
 use Rattle.model.specs.Restart.{inspectOf}
 use Rattle.model.specs.History.{allAllowed}
 use Rattle.model.specs.Claim.{History, Legal, fresh, reached, inspection, Agree}
 use Rattle.model.specs.Health.{Same}
 use Rattle.reports.specs.Archive.{archiveOf, readOf, imageAt, Rebuilds}
-use Rattle.model.specs.declared.geometry.Heading.{Heading}
+use Rattle.model.specs.declared.answer.Repair.{Repair}
 use Rattle.model.specs.declared.geometry.Heading.the-variants.{First, Second}
 use Rattle.model.specs.declared.answer.Class.the-variants.{Good, Ahead}
-use Rattle.model.specs.declared.answer.Start.the-variants.{Own}
-use Rattle.model.specs.declared.answer.Repair.{Repair}
 use Rattle.model.specs.declared.answer.Answer.the-variants.{Done, Repaired}
+use Rattle.model.specs.declared.answer.Start.the-variants.{Own}
 use Rattle.cases.specs.Opened.{opened}
 use Rattle.cases.specs.Build.{buffer}
 use Rattle.cases.specs.Worked.{historyOf, makes}

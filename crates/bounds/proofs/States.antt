@@ -1,10 +1,10 @@
 -- States at the largest number, and page health at the first durable record: what the theorems give there.
-use Prim.Native.Nat.{ℕ, _+_}
+use Prim.Native.Nat.{ℕ}
 use mathlib.Core.Path.{_≡_, refl}
-use mathlib.Core.Bool.{Bool, true, false}
-use mathlib.Core.List.{List, [], _∷_}
+use mathlib.Core.Bool.{true, false}
+use mathlib.Core.List.{List, []}
 use native.Mathlib.Omega.{arith}
-use lib.Dec.{T, eqb→eq}
+use lib.Dec.{eqb→eq}
 use lib.ListN.{length, replicate}
 use Rattle.model.specs.Geometry.{emptyVolume, geometryOf}
 use Rattle.model.specs.Repair.{View, repairOf}
@@ -13,10 +13,8 @@ use Rattle.model.specs.Calls.{outcomeOf}
 use Rattle.model.specs.Demand1.{Arrays}
 use Rattle.model.specs.Health.{Untouched}
 use Rattle.model.specs.WellFormed.{StaysFormed}
-use Rattle.model.specs.declared.geometry.Heading.the-variants.{Second}
-use Rattle.model.specs.declared.state.State.{State}
-use Rattle.model.specs.declared.state.PendingNote.the-variants.{Absent}
-use Rattle.model.specs.declared.answer.Class.the-variants.{Good}
+use Rattle.model.specs.declared.{geometry.Heading.the-variants.Second, state.State.State}
+use Rattle.model.specs.declared.{state.PendingNote.the-variants.Absent, answer.Class.the-variants.Good}
 use Rattle.cases.specs.Opened.{opened}
 use Rattle.cases.specs.Build.{small, image}
 use Rattle.cases.specs.Table.{record1, body1}

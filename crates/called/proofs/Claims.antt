@@ -2,7 +2,7 @@
 -- the bytes outside of the range told are as they were; what the header calls const is not changed.
 use mathlib.Core.Path.{_≡_, refl, sym}
 use mathlib.Core.Logic.{_⊎_, inl, inr, ⊎-elim}
-use mathlib.Core.Bool.{Bool, true, false, _&&_, _||_}
+use mathlib.Core.Bool.{true, _&&_, _||_}
 use mathlib.Core.List.{List, [], _∷_}
 use Prim.Native.Nat.{ℕ, suc, _+_, _≤_, _<_}
 use native.Mathlib.Omega.{arith}
@@ -22,13 +22,12 @@ use Rattle.model.specs.Index.{emptyEntry, entryRow}
 use Rattle.model.specs.State.{emptyFrame, frameRow, frameFits, entryFits, pageFits, pendingNoteFits, wellFormed, lastNumber, held}
 use Rattle.model.specs.Outcome.{StoredItem, nothing, oneItem, newHeading, Outcome, volumeAfter, refusalOf}
 use Rattle.model.specs.Calls.{outcomeOf, Call}
-use Rattle.model.specs.declared.command.Command.the-variants.{Begin, Load, Change, Force, Write, Backup, Release, Note, StartCarry, Restamp, FinishCarry}
-use Rattle.model.specs.Demand1.{StoresItem, Arrays}
-use Rattle.model.specs.declared.state.State.{State}
-use Rattle.model.specs.declared.state.PendingNote.{PendingNote}
+use Rattle.model.specs.declared.{state.State.State, state.PendingNote.PendingNote, answer.Answer.Answer}
+use Rattle.model.specs.declared.command.Command.the-variants.{Begin, Load, Force, Write, Release, StartCarry, Restamp, FinishCarry}
 use Rattle.model.specs.declared.state.PendingNote.the-variants.{Absent, Present}
-use Rattle.model.specs.declared.answer.Answer.{Answer}
 use Rattle.model.specs.declared.answer.Answer.the-variants.{Refused, Nothing, Done, Repaired}
+use Rattle.model.specs.declared.command.Command.the-variants.{Change, Backup, Note}
+use Rattle.model.specs.Demand1.{StoresItem, Arrays}
 use Rattle.face.specs.Numbers.{stateOf, numbersOf, fits}
 use Rattle.called.specs.Unchanged.{memoryConst, volumeConst, RefusalsLeave, OutsideUnchanged, ConstUnchanged}
 use Rattle.face.specs.Face.{answerNumber, toldRange, reportAfter, faced, faceOf}

@@ -1,27 +1,23 @@
 -- Upkeep advises six kinds of calls; of each the eight numbers tell all.
 use Prim.Native.Nat.{ℕ}
-use mathlib.Core.Path.{_≡_, refl, sym, ap, _∙_}
+use mathlib.Core.Path.{_≡_, refl, ap}
 use mathlib.Core.Bool.{Bool, true, false, cond, _||_}
-use mathlib.Core.List.{List, [], _∷_}
+use mathlib.Core.List.{List, _∷_}
 use native.Mathlib.Omega.{arith}
 use lib.Dec.{eqb, leb, ltb}
 use lib.ListN.{length, getD, replicate}
 use borrow.Author.Tests.{eq-eqb}
 use Rattle.model.specs.Tables.{firstOf, tabulate}
-use Rattle.model.specs.Bytes.{byteAt}
 use Rattle.model.specs.Geometry.{ring, geometryOf}
-use Rattle.model.specs.Scan.{logRecord, noteRecord}
-use Rattle.model.specs.Item.{isWritten}
-use Rattle.model.specs.State.{frameBytes, logFull, notesFull, notePending, holder, held}
+use Rattle.model.specs.State.{logFull, notesFull, notePending, held}
 use Rattle.model.specs.Refusals.{pageDirty, loadRows}
 use Rattle.model.specs.Calls.{Call, noPayload}
-use Rattle.model.specs.declared.command.Command.the-variants.{Load, Change, Force, Write, Backup, Note}
-use Rattle.upkeep_policy.specs.Upkeep.{Advice, idle, stuck, make, refresh, bringIn, backUp, writeOut, renew, renewNote, renewLog}
-use Rattle.upkeep_policy.specs.Upkeep.{noSlot, freeSlot, reserve, firstNeededNote, firstNeededLog, notePosition}
-use Rattle.upkeep_policy.specs.Upkeep.{logPosition, advisedBy, adviseRows, upkeepOf, adviseOf}
-use Rattle.model.specs.declared.state.State.{State}
-use Rattle.model.specs.declared.change.Change.the-variants.{Put}
-use Rattle.face.specs.Numbers.{stateOf, fits}
+use Rattle.model.specs.declared.{state.State.State, change.Change.the-variants.Put}
+use Rattle.model.specs.declared.command.Command.the-variants.{Load, Force, Write}
+use Rattle.model.specs.declared.command.Command.the-variants.{Change, Backup, Note}
+use Rattle.upkeep_policy.specs.Upkeep.{Advice, idle, stuck, make, renew, noSlot, freeSlot, reserve, firstNeededNote}
+use Rattle.upkeep_policy.specs.Upkeep.{firstNeededLog, upkeepOf, adviseOf}
+use Rattle.face.specs.Numbers.{stateOf}
 use Rattle.face.specs.Arguments.{changeFrom, payloadFrom}
 use Rattle.face.specs.Advice.{commandNumbers, upkeepFace}
 use Rattle.called.specs.Told.{callFrom, AdviceTold}

@@ -1,13 +1,14 @@
 -- The claim for upkeep's numbers: the call that a C caller makes of the eight numbers is the one that upkeep advises.
 use Prim.Native.Nat.{ℕ}
 use mathlib.Core.Path.{_≡_}
-use mathlib.Core.Bool.{Bool, true, false, cond}
+use mathlib.Core.Bool.{true, cond}
 use mathlib.Core.List.{List, [], _∷_}
 use lib.Dec.{eqb}
 use lib.ListN.{length, getD}
 use Rattle.model.specs.Tables.{firstOf}
 use Rattle.model.specs.Calls.{Call, noPayload}
-use Rattle.model.specs.declared.command.Command.the-variants.{Load, Change, Force, Write, Backup, Note}
+use Rattle.model.specs.declared.command.Command.the-variants.{Load, Force, Write}
+use Rattle.model.specs.declared.command.Command.the-variants.{Change, Backup, Note}
 use Rattle.upkeep_policy.specs.Upkeep.{make, adviseRows, upkeepOf}
 use Rattle.face.specs.Numbers.{stateOf, fits}
 use Rattle.face.specs.Arguments.{changeFrom, payloadFrom}

@@ -9,7 +9,6 @@ use lib.Dec.{leb, ltb}
 use lib.ListN.{getD}
 use Rattle.model.specs.Geometry.{geometryOf}
 use Rattle.model.specs.Calls.{Call, outcomeOf, numberOf, isCall}
-use Rattle.model.specs.declared.command.Command.the-variants.{Begin, Load, Change, Release}
 use Rattle.face.specs.Numbers.{stateOf}
 use Rattle.face.specs.Face.{toldRange, faced, faceOf}
 

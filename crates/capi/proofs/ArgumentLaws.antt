@@ -16,15 +16,15 @@ use Rattle.model.specs.Refusals.{stateRows}
 use Rattle.model.specs.Change.{changeFits}
 use Rattle.model.specs.Change as rule
 use Rattle.model.specs.Calls.{noPayload}
-use Rattle.model.specs.declared.command.Command.the-variants.{Begin, Change as ChangeCall}
-use Rattle.model.specs.declared.geometry.Geometry.{Geometry}
-use Rattle.model.specs.declared.state.State.{State}
+use Rattle.model.specs.declared.{command.Command.the-variants.Begin, geometry.Geometry.Geometry, state.State.State}
 use Rattle.model.specs.declared.change.Change.{Change}
-use Rattle.model.specs.declared.change.Change.the-variants.{Format, Put, Slide}
+use Rattle.model.specs.declared.change.Change.the-variants.{Put, Slide}
+use Rattle.model.specs.declared.change.Change.the-variants.{Format}
 use Rattle.face.specs.Numbers.{stateOf, fits}
 use Rattle.face.specs.Face.{Face, faced, faceOf}
 use Rattle.face.specs.Arguments.{misfilledOf, beginFace, unfitChange, formatHeld, bytesHeld, changeFrom, payloadFrom}
 use Rattle.capi.proofs.FaceLaws.{both, not-both}
+use Rattle.model.specs.declared.command.Command.the-variants.{Change as ChangeCall}
 
 -- ---- Change
 

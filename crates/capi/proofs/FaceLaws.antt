@@ -19,14 +19,13 @@ use Rattle.model.specs.Outcome.{StoredItem, nothing, oneItem, newHeading, Outco
 use Rattle.model.specs.Effects.{noteStored, backupDone, beginDone, changeDone, forceDone, loadDone, releaseDone, restampDone, writeDone}
 use Rattle.model.specs.Calls.{Call, outcomeOf, restampOf, isCall, noPayload}
 use Rattle.model.specs.Restart.{restartOf}
-use Rattle.model.specs.declared.command.Command.the-variants.{Begin, Load, Change, Force, Write, Backup, Release, Note, StartCarry, Restamp, FinishCarry}
-use Rattle.model.specs.Demand1.{StoresItem, Arrays}
-use Rattle.model.specs.declared.geometry.Geometry.{Geometry}
-use Rattle.model.specs.declared.state.State.{State}
-use Rattle.model.specs.declared.state.PendingNote.{PendingNote}
-use Rattle.model.specs.declared.state.PendingNote.the-variants.{Absent, Present}
+use Rattle.model.specs.declared.{geometry.Geometry.Geometry, state.State.State, state.PendingNote.PendingNote}
 use Rattle.model.specs.declared.answer.Answer.{Answer}
+use Rattle.model.specs.declared.command.Command.the-variants.{Begin, Load, Force, Write, Release, StartCarry, Restamp, FinishCarry}
+use Rattle.model.specs.declared.state.PendingNote.the-variants.{Absent, Present}
 use Rattle.model.specs.declared.answer.Answer.the-variants.{Refused, Nothing, Done, Repaired}
+use Rattle.model.specs.declared.command.Command.the-variants.{Change, Backup, Note}
+use Rattle.model.specs.Demand1.{StoresItem, Arrays}
 use Rattle.face.specs.Numbers.{stateOf, numbersOf, fits}
 use Rattle.face.specs.Face.{answerNumber, toldRange, reportAfter, misheaded, faced, faceOf, restarted, restartedOf}
 use Rattle.capi.specs.Targets.{Target, none, place, front, targetOf, oldTarget, target, rangeOf, told, ownMagic, misheadedBy}

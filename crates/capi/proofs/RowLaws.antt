@@ -1,6 +1,6 @@
 -- A call changes at most one row of the index, the one that the code finds before it.
-use mathlib.Core.Path.{_≡_, refl, sym, ap, _∙_}
-use mathlib.Core.Bool.{Bool, true, false, cond}
+use mathlib.Core.Path.{_≡_, refl, sym, ap}
+use mathlib.Core.Bool.{Bool, true, cond}
 use mathlib.Core.List.{List, [], _∷_}
 use Prim.Native.Nat.{ℕ, zero, suc, _+_, _*_, _-_, _%_, _≤_, _<_}
 use native.Mathlib.Omega.{arith}
@@ -21,11 +21,10 @@ use Rattle.model.specs.Demand1.{Arrays}
 use Rattle.model.specs.Outcome.{Outcome, unchanged, decided}
 use Rattle.model.specs.Effects.{appendedState, forcedState, notedState, noteStored, backupDone, beginDone, changeDone, forceDone, loadDone, releaseDone, restampDone, writeDone}
 use Rattle.model.specs.Calls.{outcomeOf, Call}
-use Rattle.model.specs.declared.command.Command.the-variants.{Begin, Load, Change, Force, Write, Backup, Release, Note, StartCarry, Restamp, FinishCarry}
-use Rattle.model.specs.declared.state.Entry.{Entry}
-use Rattle.model.specs.declared.state.State.{State}
-use Rattle.model.specs.declared.state.PendingNote.{PendingNote}
+use Rattle.model.specs.declared.{state.Entry.Entry, state.State.State, state.PendingNote.PendingNote}
+use Rattle.model.specs.declared.command.Command.the-variants.{Begin, Load, Force, Write, Release, StartCarry, Restamp, FinishCarry}
 use Rattle.model.specs.declared.state.PendingNote.the-variants.{Absent, Present}
+use Rattle.model.specs.declared.command.Command.the-variants.{Change, Backup, Note}
 use Rattle.face.specs.Numbers.{stateOf, numbersOf, fits}
 use Rattle.index.specs.Rows.{rowOf}
 use Rattle.numbers.proofs.NumberLaws.{arrays}

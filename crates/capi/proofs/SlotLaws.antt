@@ -12,9 +12,7 @@ use Rattle.model.specs.Tables.{firstOf, within}
 use Rattle.model.specs.Bytes.{part, allZero}
 use Rattle.model.specs.Geometry.{Place, itemOf, width, start, item, geometryOf, validVolume}
 use Rattle.model.specs.Item.{imagePage, imageLsn, validImage, validSomewhere, recordOf, noteOf}
-use Rattle.model.specs.declared.geometry.Geometry.{Geometry}
-use Rattle.model.specs.declared.item.LogRecord.{LogRecord}
-use Rattle.model.specs.declared.item.Note.{Note}
+use Rattle.model.specs.declared.{geometry.Geometry.Geometry, item.LogRecord.LogRecord, item.Note.Note}
 use Rattle.face.specs.Slots.{listed, countsRows, countNumbers, countsOf, standing, recordNumbers, storedNoteNumbers, slotRows, listedAt, backupNumbers}
 
 -- three rows

@@ -12,15 +12,13 @@ use Rattle.model.specs.State.{pendingBytes}
 use Rattle.model.specs.Passes.{imageCount, imagePlace, firstOld}
 use Rattle.model.specs.Outcome.{StoredItem, nothing, oneItem, newHeading}
 use Rattle.model.specs.Calls.{Call, isCall}
-use Rattle.model.specs.declared.command.Command.the-variants.{Begin, Load, Change, Force, Write, Backup, Release, Note, StartCarry, Restamp, FinishCarry}
-use Rattle.reports.specs.Examine.{classNumber, startNumber}
-use Rattle.model.specs.declared.geometry.Geometry.{Geometry}
-use Rattle.model.specs.declared.geometry.Heading.the-variants.{First}
-use Rattle.model.specs.declared.state.PendingNote.{PendingNote}
+use Rattle.model.specs.declared.{geometry.Geometry.Geometry, geometry.Heading.the-variants.First}
+use Rattle.model.specs.declared.{state.PendingNote.PendingNote, state.State.State, answer.Answer.Answer}
+use Rattle.model.specs.declared.command.Command.the-variants.{Begin, Load, Force, Write, Release, StartCarry, Restamp, FinishCarry}
 use Rattle.model.specs.declared.state.PendingNote.the-variants.{Absent, Present}
-use Rattle.model.specs.declared.state.State.{State}
-use Rattle.model.specs.declared.answer.Answer.{Answer}
 use Rattle.model.specs.declared.answer.Answer.the-variants.{Refused, Nothing, Done, Repaired}
+use Rattle.model.specs.declared.command.Command.the-variants.{Change, Backup, Note}
+use Rattle.reports.specs.Examine.{classNumber, startNumber}
 use Rattle.capi.specs.declared.range.Range.{Range}
 
 pub data Target : Type 0 where

@@ -9,7 +9,8 @@ use Rattle.model.specs.Item.{encodeChange}
 use Rattle.model.specs.Outcome.{oneItem, refusalOf}
 use Rattle.model.specs.Restart.{inspectOf}
 use Rattle.reports.specs.Archive.{archiveBytes, sizeOf, sizeRefusal, archiveLength, archiveOf, readOf, archivePages}
-use Rattle.model.specs.declared.change.Change.the-variants.{Format, Put}
+use Rattle.model.specs.declared.change.Change.the-variants.{Put}
+use Rattle.model.specs.declared.change.Change.the-variants.{Format}
 use Rattle.cases.specs.Rows.{Row, row}
 use Rattle.cases.specs.Opened.{opened}
 use Rattle.cases.specs.Words.{bit, numbers, refused, done, yes, accepted, refusal, word, atLsn}

@@ -10,10 +10,8 @@ use Rattle.model.specs.Outcome.{StoredItem, volumeAfter}
 use Rattle.model.specs.Calls.{Call, outcomeOf}
 use Rattle.model.specs.Restart.{inspectOf}
 use Rattle.model.specs.History.{Power, off, on, Machine, Event, freshMachine, run}
-use Rattle.model.specs.declared.geometry.Geometry.{Geometry}
-use Rattle.model.specs.declared.geometry.Heading.{Heading}
-use Rattle.model.specs.declared.geometry.Heading.the-variants.{Second}
-use Rattle.model.specs.declared.state.Entry.{Entry}
+use Rattle.model.specs.declared.{geometry.Geometry.Geometry, geometry.Heading.Heading}
+use Rattle.model.specs.declared.{geometry.Heading.the-variants.Second, state.Entry.Entry}
 use Rattle.cases.specs.Words.{numbers}
 
 abbrev pub entryNumbers : Entry → List ℕ

@@ -3,8 +3,8 @@ use Prim.Native.Nat.{ℕ}
 use mathlib.Core.List.{List}
 use Rattle.model.specs.Calls.{Call, noPayload}
 use Rattle.model.specs.declared.change.Change as changes
-use Rattle.model.specs.declared.command.Command.the-variants.{Begin, Load, Change, Force, Write, Backup, Release, Note}
-use Rattle.model.specs.declared.command.Command.the-variants.{StartCarry, Restamp, FinishCarry}
+use Rattle.model.specs.declared.command.Command.the-variants.{Begin, Load, Force, Write, Release, StartCarry, Restamp, FinishCarry}
+use Rattle.model.specs.declared.command.Command.the-variants.{Change, Backup, Note}
 
 abbrev pub begin : ℕ → ℕ → ℕ → Call
 begin page frame fill = (Begin page frame fill, noPayload)

@@ -13,11 +13,9 @@ use Rattle.model.specs.Calls.{startCarryOf, restampOf, finishCarryOf, Call}
 use Rattle.cases.specs.Calls.{begin, change, force, write, backup, note, startCarry, restamp, finishCarry}
 use Rattle.model.specs.History.{Power, off, on, Machine, Event, restart, perform, damage, run}
 use Rattle.model.specs.Carry.{oldCount}
-use Rattle.model.specs.declared.geometry.Heading.{Heading}
-use Rattle.model.specs.declared.geometry.Heading.the-variants.{First, Second}
-use Rattle.model.specs.declared.change.Change.the-variants.{Put}
-use Rattle.model.specs.declared.state.Entry.{Entry}
+use Rattle.model.specs.declared.{geometry.Heading.Heading, change.Change.the-variants.Put, state.Entry.Entry}
 use Rattle.model.specs.declared.state.Frame.{Frame}
+use Rattle.model.specs.declared.geometry.Heading.the-variants.{First, Second}
 use Rattle.model.specs.declared.answer.Class.the-variants.{Good, Failed}
 use Rattle.cases.specs.Opened.{opened}
 use Rattle.cases.specs.Rows.{Row, row, same}

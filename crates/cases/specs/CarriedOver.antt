@@ -6,8 +6,8 @@ use Rattle.cases.specs.Calls.{begin, load, force, write, backup, note, s
 use Rattle.model.specs.AbstractLog.{old, new, torn}
 use Rattle.model.specs.History.{restart, crash, crashIn, damage}
 use Rattle.model.specs.declared.geometry.Heading.the-variants.{First}
-use Rattle.model.specs.declared.change.Change.the-variants.{Format}
 use Rattle.model.specs.declared.answer.Class.the-variants.{Good, Behind, Failed}
+use Rattle.model.specs.declared.change.Change.the-variants.{Format}
 use Rattle.cases.specs.Words.{fromOwn, fromBackup, fromFormat, refused, done, idle, shown}
 use Rattle.cases.specs.Build.{broken, memory}
 use Rattle.cases.specs.Prologues.{pagesForced, pageForced}

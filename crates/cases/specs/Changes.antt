@@ -2,7 +2,8 @@
 use mathlib.Core.List.{List, [], _∷_, _++_}
 use lib.ListN.{length, replicate, take, drop}
 use Rattle.model.specs.Change.{changeFits, applyChange}
-use Rattle.model.specs.declared.change.Change.the-variants.{Format, Put, Slide}
+use Rattle.model.specs.declared.change.Change.the-variants.{Put, Slide}
+use Rattle.model.specs.declared.change.Change.the-variants.{Format}
 use Rattle.cases.specs.Rows.{Row, row}
 use Rattle.cases.specs.Words.{bits, yes, no}
 

@@ -9,13 +9,12 @@ use Rattle.model.specs.Restart.{inspectOf}
 use Rattle.reports.specs.Examine.{examineOf}
 use Rattle.model.specs.Geometry.{noteAt}
 use Rattle.reports.specs.Room.{roomOf}
+use Rattle.model.specs.declared.{answer.Class.the-variants.Failed, answer.Start.Start, command.Command.Command}
 use Rattle.model.specs.declared.geometry.Heading.the-variants.{First, Second}
-use Rattle.model.specs.declared.change.Change.the-variants.{Format, Put, Slide}
-use Rattle.model.specs.declared.answer.Class.the-variants.{Failed}
-use Rattle.model.specs.declared.answer.Start.{Start}
-use Rattle.model.specs.declared.command.Command.{Command}
-use Rattle.model.specs.declared.command.Command.the-variants.{Begin, Load, Change, Force, Write, Backup, Release, Note}
-use Rattle.model.specs.declared.command.Command.the-variants.{StartCarry, Restamp, FinishCarry}
+use Rattle.model.specs.declared.change.Change.the-variants.{Put, Slide}
+use Rattle.model.specs.declared.command.Command.the-variants.{Begin, Load, Force, Write, Release, StartCarry, Restamp, FinishCarry}
+use Rattle.model.specs.declared.change.Change.the-variants.{Format}
+use Rattle.model.specs.declared.command.Command.the-variants.{Change, Backup, Note}
 use Rattle.cases.specs.Rows.{Row, row, same}
 use Rattle.cases.specs.Opened.{opened}
 use Rattle.cases.specs.Words.{bit, yes, no, accepted, refusal, report}

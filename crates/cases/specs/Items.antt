@@ -11,9 +11,10 @@ use Rattle.model.specs.Geometry.{emptyVolume}
 use Rattle.model.specs.Item.{validImage, validSomewhere, frameImage, recordLayout, recordBytes, encodeChange}
 use Rattle.model.specs.Item.{applyRecord, noteLayout, noteBytes}
 use Rattle.model.specs.Restart.{makeOf}
-use Rattle.model.specs.declared.change.Change.the-variants.{Format, Put, Slide}
 use Rattle.model.specs.declared.geometry.Geometry.{Geometry}
+use Rattle.model.specs.declared.change.Change.the-variants.{Put, Slide}
 use Rattle.model.specs.declared.geometry.Heading.the-variants.{First, Second}
+use Rattle.model.specs.declared.change.Change.the-variants.{Format}
 use Rattle.cases.specs.Rows.{Row, row}
 use Rattle.cases.specs.Words.{bits, numbers, refused, yes, no, word}
 use Rattle.cases.specs.Build.{small, image}

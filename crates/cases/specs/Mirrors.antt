@@ -10,8 +10,9 @@ use Rattle.model.specs.Item.{encodeChange}
 use Rattle.model.specs.Outcome.{oneItem}
 use Rattle.model.specs.Restart.{inspectOf}
 use Rattle.reports.specs.Mirror.{mirrorOf, compareOf}
-use Rattle.model.specs.declared.change.Change.the-variants.{Format, Put, Slide}
 use Rattle.model.specs.declared.geometry.Heading.the-variants.{First}
+use Rattle.model.specs.declared.change.Change.the-variants.{Put, Slide}
+use Rattle.model.specs.declared.change.Change.the-variants.{Format}
 use Rattle.reports.specs.declared.reading.Comparison.{Comparison}
 use Rattle.reports.specs.declared.reading.Comparison.the-variants.{Refused, Agree, FirstLacks, SecondLacks, Differs}
 use Rattle.cases.specs.Rows.{Row, row}

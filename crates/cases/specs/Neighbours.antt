@@ -15,9 +15,10 @@ use Rattle.cases.specs.Calls.{begin, force, backup, note}
 use Rattle.model.specs.History.{Event, restart, perform}
 use Rattle.reports.specs.Archive.{sizeOf, archiveOf}
 use Rattle.reports.specs.Neighbours.{lowestHeld}
-use Rattle.model.specs.declared.change.Change.the-variants.{Format, Put}
+use Rattle.model.specs.declared.change.Change.the-variants.{Put}
 use Rattle.model.specs.declared.geometry.Heading.the-variants.{First, Second}
 use Rattle.model.specs.declared.answer.Class.the-variants.{Good, Behind, Stale, Failed}
+use Rattle.model.specs.declared.change.Change.the-variants.{Format}
 use Rattle.reports.specs.declared.reading.Size.{Size}
 use Rattle.cases.specs.Rows.{Row, row, same}
 use Rattle.cases.specs.Opened.{opened}

@@ -6,7 +6,8 @@ use lib.ListN.{length, drop}
 use Rattle.model.specs.Bytes.{part}
 use Rattle.model.specs.Change.{zeroBody}
 use Rattle.model.specs.AbstractLog.{Logged, replayOn, replay, lastPlace}
-use Rattle.model.specs.declared.change.Change.the-variants.{Format, Put, Slide}
+use Rattle.model.specs.declared.change.Change.the-variants.{Put, Slide}
+use Rattle.model.specs.declared.change.Change.the-variants.{Format}
 use Rattle.cases.specs.Rows.{Row, row}
 use Rattle.cases.specs.Slides.{logged}
 

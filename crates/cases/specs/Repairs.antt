@@ -6,10 +6,9 @@ use Rattle.cases.specs.Calls.{begin, load, force, write, backup, release
 use Rattle.model.specs.AbstractLog.{old}
 use Rattle.model.specs.Detection.{withWord}
 use Rattle.model.specs.History.{restart, crash, crashIn, damage}
-use Rattle.model.specs.declared.geometry.Heading.{Heading}
-use Rattle.model.specs.declared.geometry.Heading.the-variants.{Second}
-use Rattle.model.specs.declared.change.Change.the-variants.{Format}
+use Rattle.model.specs.declared.{geometry.Heading.Heading, geometry.Heading.the-variants.Second}
 use Rattle.model.specs.declared.answer.Class.the-variants.{Good, Behind, Failed}
+use Rattle.model.specs.declared.change.Change.the-variants.{Format}
 use Rattle.cases.specs.Words.{fromOwn, fromBackup, fromFormat, refused, done, shown}
 use Rattle.cases.specs.Build.{imageUnder, broken, memory}
 use Rattle.cases.specs.Prologues.{pageWritten, pageBegun}

@@ -12,10 +12,8 @@ use Rattle.model.specs.Restart.{restartOf}
 use Rattle.cases.specs.Calls.{begin, write, backup}
 use Rattle.model.specs.History.{Power, on}
 use Rattle.model.specs.Claim.{startStands}
-use Rattle.model.specs.declared.geometry.Heading.the-variants.{Second}
-use Rattle.model.specs.declared.change.Change.the-variants.{Put}
-use Rattle.model.specs.declared.state.Entry.{Entry}
-use Rattle.model.specs.declared.state.PendingNote.{PendingNote}
+use Rattle.model.specs.declared.{geometry.Heading.the-variants.Second, change.Change.the-variants.Put}
+use Rattle.model.specs.declared.{state.Entry.Entry, state.PendingNote.PendingNote}
 use Rattle.model.specs.declared.state.PendingNote.the-variants.{Absent}
 use Rattle.cases.specs.Rows.{Row, row}
 use Rattle.cases.specs.Opened.{opened}

@@ -13,12 +13,12 @@ use Rattle.model.specs.Calls.{Call}
 use Rattle.cases.specs.Calls.{begin, load, change, force, write, backup, release, note}
 use Rattle.model.specs.AbstractLog.{torn}
 use Rattle.model.specs.History.{Machine, Event, restart, perform, crashIn, damage, freshMachine, run}
-use Rattle.model.specs.declared.geometry.Heading.{Heading}
+use Rattle.model.specs.declared.{geometry.Heading.Heading, change.Change.the-variants.Put}
 use Rattle.model.specs.declared.geometry.Heading.the-variants.{First, Second}
-use Rattle.model.specs.declared.change.Change.the-variants.{Format, Put}
+use Rattle.model.specs.declared.answer.Class.the-variants.{Good, Failed}
+use Rattle.model.specs.declared.change.Change.the-variants.{Format}
 use Rattle.cases.specs.Rows.{Row, row}
 use Rattle.cases.specs.Opened.{opened}
-use Rattle.model.specs.declared.answer.Class.the-variants.{Good, Failed}
 use Rattle.cases.specs.Words.{bit, refused, done, fromOwn, fromBackup, fromFormat, yes, no, atLsn}
 use Rattle.cases.specs.Build.{broken, memory, inspected, asked}
 use Rattle.cases.specs.Prologues.{pagesForced, pageWritten, pageForced, pageBegun}

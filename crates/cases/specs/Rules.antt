@@ -12,10 +12,10 @@ use Rattle.model.specs.Scan.{validLog, validNotes, indexOf}
 use Rattle.model.specs.Repair.{classOf, viewOf, walkFrom, walkOf, startOf, isBroken}
 use Rattle.model.specs.Outcome.{StoredItem, oneItem}
 use Rattle.model.specs.Restart.{restartOf, inspectOf}
+use Rattle.model.specs.declared.{change.Change.the-variants.Put, answer.Start.Start}
 use Rattle.model.specs.declared.geometry.Heading.the-variants.{First, Second}
-use Rattle.model.specs.declared.change.Change.the-variants.{Format, Put}
 use Rattle.model.specs.declared.answer.Class.the-variants.{Good, Behind, Stale, Failed, Ahead}
-use Rattle.model.specs.declared.answer.Start.{Start}
+use Rattle.model.specs.declared.change.Change.the-variants.{Format}
 use Rattle.cases.specs.Rows.{Row, row}
 use Rattle.reports.specs.Examine.{classNumber, startNumber}
 use Rattle.cases.specs.Words.{bit, bits, numbers, fromOwn, fromBackup, fromFormat, refused, yes, no, atLsn}

@@ -7,9 +7,7 @@ use Rattle.model.specs.Calls.{Call}
 use Rattle.cases.specs.Calls.{change}
 use Rattle.model.specs.AbstractLog.{Logged}
 use Rattle.model.specs.History.{Event, perform}
-use Rattle.model.specs.declared.geometry.Heading.{Heading}
-use Rattle.model.specs.declared.geometry.Heading.the-variants.{Second}
-use Rattle.model.specs.declared.change.Change.{Change}
+use Rattle.model.specs.declared.{geometry.Heading.Heading, geometry.Heading.the-variants.Second, change.Change.Change}
 use Rattle.model.specs.declared.change.Change.the-variants.{Slide}
 use Rattle.cases.specs.Words.{done}
 use Rattle.cases.specs.Build.{imageUnder}

@@ -9,8 +9,7 @@ use Rattle.model.specs.Restart.{inspectOf}
 use Rattle.cases.specs.Calls.{begin, force, write}
 use Rattle.model.specs.History.{restart, perform, damage, allowed}
 use Rattle.model.specs.Detection.{withWord}
-use Rattle.model.specs.declared.geometry.Geometry.{Geometry}
-use Rattle.model.specs.declared.geometry.Heading.{Heading}
+use Rattle.model.specs.declared.{geometry.Geometry.Geometry, geometry.Heading.Heading}
 use Rattle.model.specs.declared.geometry.Heading.the-variants.{First, Second}
 use Rattle.cases.specs.Rows.{Row, row}
 use Rattle.cases.specs.Words.{bit, yes, no}

@@ -11,10 +11,10 @@ use Rattle.model.specs.Outcome.{StoredItem, oneItem}
 use Rattle.model.specs.Restart.{makeOf}
 use Rattle.cases.specs.Calls.{change}
 use Rattle.model.specs.History.{Machine}
-use Rattle.model.specs.declared.geometry.Heading.{Heading}
-use Rattle.model.specs.declared.geometry.Heading.the-variants.{Second}
-use Rattle.model.specs.declared.change.Change.the-variants.{Format, Put, Slide}
+use Rattle.model.specs.declared.{geometry.Heading.Heading, geometry.Heading.the-variants.Second}
+use Rattle.model.specs.declared.change.Change.the-variants.{Put, Slide}
 use Rattle.model.specs.declared.answer.Class.the-variants.{Good, Behind, Stale, Failed, Ahead}
+use Rattle.model.specs.declared.change.Change.the-variants.{Format}
 use Rattle.cases.specs.Rows.{Row, row}
 use Rattle.cases.specs.Words.{bit, numbers, fromOwn, fromBackup, fromFormat, refused, done, yes, no}
 use Rattle.cases.specs.Build.{smallUnder, imageUnder, broken, writtenNote, backupNote, volumeUnder, buffer}

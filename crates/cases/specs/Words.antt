@@ -4,12 +4,10 @@ use Prim.Native.Nat.{ℕ}
 use mathlib.Core.Bool.{Bool, true, false}
 use mathlib.Core.List.{List, [], _∷_, _++_, map}
 use Rattle.reports.specs.Examine.{reportOf}
-use Rattle.model.specs.declared.answer.Class.{Class}
+use Rattle.model.specs.declared.{answer.Class.Class, answer.Start.Start, answer.Answer.Answer}
 use Rattle.model.specs.declared.answer.Class.the-variants.{Good, Behind, Stale, Failed, Ahead}
-use Rattle.model.specs.declared.answer.Start.{Start}
-use Rattle.model.specs.declared.answer.Start.the-variants.{Own, Backup, Format}
-use Rattle.model.specs.declared.answer.Answer.{Answer}
 use Rattle.model.specs.declared.answer.Answer.the-variants.{Refused, Nothing, Done, Repaired}
+use Rattle.model.specs.declared.answer.Start.the-variants.{Own, Backup, Format}
 
 -- ---- tests
 

@@ -18,8 +18,7 @@ use Rattle.model.specs.AbstractLog.{Logged, AbstractLog, emptyLog, lastPlace, r
 use Rattle.model.specs.History.{Power, off, on, Machine, Event, restart, perform, crash, crashIn, damage, pastAfter}
 use Rattle.model.specs.History.{lent, step, allowed, stepLog}
 use Rattle.model.specs.Claim.{History, Legal, fresh, reached, durableOf}
-use Rattle.model.specs.declared.geometry.Heading.{Heading}
-use Rattle.model.specs.declared.answer.Answer.{Answer}
+use Rattle.model.specs.declared.{geometry.Heading.Heading, answer.Answer.Answer}
 use Rattle.model.specs.declared.answer.Answer.the-variants.{Refused, Nothing, Done, Repaired}
 use Rattle.cases.specs.Rows.{same}
 use Rattle.cases.specs.Words.{numbers}

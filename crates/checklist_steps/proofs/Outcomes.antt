@@ -14,8 +14,7 @@ use Rattle.model.specs.Tables.{firstOf}
 use Rattle.model.specs.Refusals.{restartRows}
 use Rattle.model.specs.Outcome.{Outcome, replyOf, volumeAfter, decided}
 use Rattle.model.specs.Restart.{makeOf, restartOf}
-use Rattle.model.specs.declared.command.Command.{Command}
-use Rattle.model.specs.declared.geometry.Heading.the-variants.{Second}
+use Rattle.model.specs.declared.{command.Command.Command, geometry.Heading.the-variants.Second}
 use Rattle.store.specs.Store.{wrapped, performed}
 use Rattle.store.specs.declared.Store.{Store}
 use Rattle.store.specs.declared.Returned.{Returned}

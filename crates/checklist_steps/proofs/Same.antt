@@ -7,7 +7,6 @@ use lib.Dec.{eqb}
 use native.Mathlib.Omega.{arith}
 use borrow.Author.Tests.{eq-eqb, ne-eqb}
 use Rattle.laws.proofs.Tables.{every-none, every-more, every-fails}
-use Rattle.model.specs.Tables.{every}
 use Rattle.model.specs.Bytes.{byteAt}
 use Rattle.checklist_steps.specs.Text.{sameBetween}
 

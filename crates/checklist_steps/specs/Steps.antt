@@ -7,10 +7,10 @@ use Rattle.model.specs.Outcome.{Outcome, replyOf, volumeAfter}
 use Rattle.model.specs.Calls.{noPayload}
 use Rattle.model.specs.Restart.{makeOf, restartOf}
 use Rattle.model.specs.declared.change.Change as changes
+use Rattle.model.specs.declared.{command.Command.Command, geometry.Heading.the-variants.Second}
 use Rattle.model.specs.declared.change.Change.the-variants.{Put, Slide}
-use Rattle.model.specs.declared.command.Command.{Command}
-use Rattle.model.specs.declared.command.Command.the-variants.{Begin, Load, Change, Force, Write, Backup, Note}
-use Rattle.model.specs.declared.geometry.Heading.the-variants.{Second}
+use Rattle.model.specs.declared.command.Command.the-variants.{Begin, Load, Force, Write}
+use Rattle.model.specs.declared.command.Command.the-variants.{Change, Backup, Note}
 use Rattle.store.specs.Store.{wrapped, performed}
 use Rattle.store.specs.declared.Store.{Store}
 

@@ -1,6 +1,6 @@
 -- The report of 66 numbers: the numbers written so far, and the outcome of a comparison that fills one.
 use mathlib.Core.Path.{_≡_, refl, sym, ap, _∙_}
-use mathlib.Core.Bool.{Bool, true, false, _&&_, cond, not}
+use mathlib.Core.Bool.{Bool, false, _&&_, cond, not}
 use mathlib.Core.List.{List, [], _∷_, _++_, map, append-assoc, append-nil}
 use Prim.Native.Nat.{ℕ, suc, _+_, _≤_, _<_}
 use native.Mathlib.Numerals.{add-one}
@@ -8,7 +8,7 @@ use native.Mathlib.Omega.{arith}
 use lib.Dec.{eqb}
 use lib.ListN.{length, take, set, getD, length-map, length-set, List·getD-map}
 use lib.Seq.{take-suc, take-suc-set, take-all}
-use borrow.Author.Tests.{eq-eqb, ne-eqb, eqb-true}
+use borrow.Author.Tests.{eq-eqb, ne-eqb}
 use Rattle.laws.proofs.Tables.{byCases}
 use Rattle.reports_laws.proofs.Mirror.{number-is}
 use Rattle.model.specs.Tables.{firstOf}

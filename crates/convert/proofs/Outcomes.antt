@@ -1,6 +1,6 @@
 -- What the definitions of Start, Restamp and Finish say in each of their cases.
 use mathlib.Core.Path.{_≡_, refl, sym, ap, _∙_}
-use mathlib.Core.Bool.{Bool, true, false}
+use mathlib.Core.Bool.{true, false}
 use mathlib.Core.List.{List, []}
 use Prim.Native.Nat.{ℕ, _+_, _-_, _≤_, _<_}
 use native.Mathlib.Omega.{arith}
@@ -15,15 +15,14 @@ use Rattle.laws.proofs.Items.{sealImage-length}
 use Rattle.model.specs.Tables.{firstOf}
 use Rattle.model.specs.Bytes.{part, splice}
 use Rattle.model.specs.Checksum.{sealImage}
-use Rattle.model.specs.Geometry.{tagOf, carryTag, Place, start, item, store, storeHeading, geometryOf}
+use Rattle.model.specs.Geometry.{tagOf, carryTag, start, item, store, storeHeading, geometryOf}
 use Rattle.model.specs.Passes.{imageCount, imagePlace, firstOld}
 use Rattle.model.specs.Refusals.{startCarryRows, restampRows, finishCarryRows}
-use Rattle.model.specs.Outcome.{StoredItem, oneItem, newHeading, unchanged, decided, storing, volumeAfter}
+use Rattle.model.specs.Outcome.{oneItem, newHeading, unchanged, decided, storing, volumeAfter}
 use Rattle.model.specs.Effects.{restampDone}
 use Rattle.model.specs.Calls.{startCarryOf, restampOf, finishCarryOf}
-use Rattle.model.specs.declared.geometry.Geometry.{Geometry}
+use Rattle.model.specs.declared.{geometry.Geometry.Geometry, state.State.State}
 use Rattle.model.specs.declared.geometry.Heading.the-variants.{First, Second}
-use Rattle.model.specs.declared.state.State.{State}
 use Rattle.model.specs.declared.answer.Answer.the-variants.{Refused, Nothing, Done}
 use Rattle.convert.proofs.Rows.{headRows}
 use Rattle.convert.proofs.Places.{image-read}

@@ -1,9 +1,9 @@
 -- The images of a volume in order: their places, the search for the first that passes only the old sum, and the index gone through for a
 -- slot.
 use mathlib.Core.Path.{_≡_, refl, sym, ap, _∙_}
-use mathlib.Core.Bool.{Bool, true, false, cond, _&&_, _||_, not}
-use mathlib.Core.List.{List, [], _∷_}
-use Prim.Native.Nat.{ℕ, zero, suc, _+_, _-_, _≤_, _<_}
+use mathlib.Core.Bool.{Bool, true, false, cond, _&&_, not}
+use mathlib.Core.List.{List}
+use Prim.Native.Nat.{ℕ, suc, _+_, _-_, _≤_, _<_}
 use native.Mathlib.Numerals.{add-one}
 use native.Mathlib.Omega.{arith}
 use lib.Dec.{eqb, ltb}
@@ -14,15 +14,13 @@ use Rattle.laws.proofs.Tables.{byCases}
 use Rattle.laws.proofs.Places.{valid-facts, place-fits, total}
 use Rattle.laws.proofs.Carry.{image-in, image-place}
 use Rattle.model.specs.Bytes.{part}
-use Rattle.model.specs.Geometry.{tagOf, withTag, Place, pageAt, slotAt, start, width, item, geometryOf, validVolume}
+use Rattle.model.specs.Geometry.{tagOf, withTag, Place, pageAt, slotAt, start, item, geometryOf, validVolume}
 use Rattle.model.specs.Item.{validImage}
 use Rattle.model.specs.Index.{emptyEntry}
 use Rattle.model.specs.Passes.{validAsNoted, passesAt, onlyOld, imageCount, imagePlace, oldAt, firstFrom, firstOld}
 use Rattle.model.specs.Carry.{countOf}
-use Rattle.model.specs.declared.geometry.Geometry.{Geometry}
+use Rattle.model.specs.declared.{geometry.Geometry.Geometry, state.Entry.Entry, state.State.State}
 use Rattle.model.specs.declared.geometry.Heading.the-variants.{First, Second}
-use Rattle.model.specs.declared.state.Entry.{Entry}
-use Rattle.model.specs.declared.state.State.{State}
 use Rattle.convert.specs.Failing.{failsAt, failingIn, failingCount}
 
 -- ---- places

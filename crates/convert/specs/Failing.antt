@@ -6,9 +6,7 @@ use mathlib.Core.List.{List}
 use Rattle.model.specs.Geometry.{geometryOf, validVolume, item}
 use Rattle.model.specs.Passes.{passesAt, imageCount, imagePlace}
 use Rattle.model.specs.Carry.{countOf}
-use Rattle.model.specs.declared.geometry.Geometry.{Geometry}
-use Rattle.model.specs.declared.state.Entry.{Entry}
-use Rattle.model.specs.declared.state.State.{State}
+use Rattle.model.specs.declared.{geometry.Geometry.Geometry, state.Entry.Entry, state.State.State}
 
 -- image i does not pass in its place
 abbrev pub failsAt : Geometry → List ℕ → List Entry → ℕ → Bool

@@ -1,6 +1,6 @@
 -- Begin and Change for C: arguments that are numbers, judged before they are cut down.
 use Prim.Native.Nat.{ℕ}
-use mathlib.Core.Bool.{Bool, true, false, cond, _&&_, not}
+use mathlib.Core.Bool.{Bool, true, cond, _&&_, not}
 use mathlib.Core.List.{List, [], _∷_}
 use lib.Dec.{eqb, leb}
 use lib.ListN.{length, getD}
@@ -9,9 +9,9 @@ use Rattle.model.specs.Geometry.{geometryOf, validVolume}
 use Rattle.model.specs.State.{frameCount}
 use Rattle.model.specs.Refusals.{stateRows}
 use Rattle.model.specs.Calls.{noPayload}
-use Rattle.model.specs.declared.command.Command.the-variants.{Begin}
-use Rattle.model.specs.declared.change.Change.{Change}
-use Rattle.model.specs.declared.change.Change.the-variants.{Format, Put, Slide}
+use Rattle.model.specs.declared.{command.Command.the-variants.Begin, change.Change.Change}
+use Rattle.model.specs.declared.change.Change.the-variants.{Put, Slide}
+use Rattle.model.specs.declared.change.Change.the-variants.{Format}
 use Rattle.face.specs.Numbers.{stateOf, fits}
 use Rattle.face.specs.Face.{Face, faced, faceOf}
 

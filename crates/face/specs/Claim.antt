@@ -6,7 +6,7 @@ use mathlib.Core.Path.{_≡_}
 use mathlib.Core.List.{List}
 use lib.ListN.{length}
 use Rattle.model.specs.Calls.{Call}
-use Rattle.model.specs.History.{Power, on, Machine, perform, step}
+use Rattle.model.specs.History.{on, Machine, perform, step}
 use Rattle.model.specs.Claim.{History, Legal, reached}
 use Rattle.model.specs.declared.state.State.{State}
 use Rattle.face.specs.Numbers.{numbersOf}

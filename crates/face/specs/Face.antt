@@ -9,11 +9,8 @@ use Rattle.model.specs.Geometry.{tagOf, carryTag, headed, start, geometryOf, va
 use Rattle.model.specs.Outcome.{StoredItem, nothing, oneItem, newHeading, volumeAfter}
 use Rattle.model.specs.Calls.{Call, outcomeOf, isCall}
 use Rattle.model.specs.Restart.{restartOf}
-use Rattle.model.specs.declared.command.Command.the-variants.{Load, Restamp}
 use Rattle.reports.specs.Examine.{classNumber, startNumber}
-use Rattle.model.specs.declared.geometry.Geometry.{Geometry}
-use Rattle.model.specs.declared.geometry.Heading.the-variants.{First}
-use Rattle.model.specs.declared.answer.Answer.{Answer}
+use Rattle.model.specs.declared.{geometry.Geometry.Geometry, geometry.Heading.the-variants.First, answer.Answer.Answer}
 use Rattle.model.specs.declared.answer.Answer.the-variants.{Refused, Nothing, Done, Repaired}
 use Rattle.face.specs.Numbers.{stateOf, numbersOf, fits}
 

@@ -1,6 +1,6 @@
 -- The room of a volume, as four numbers for C: records left, the page in the way then (0: none), notes left, its page.
 use Prim.Native.Nat.{ℕ}
-use mathlib.Core.Bool.{Bool, true, false, cond, not}
+use mathlib.Core.Bool.{cond, not}
 use mathlib.Core.List.{List, [], _∷_}
 use lib.Dec.{eqb}
 use lib.ListN.{length}

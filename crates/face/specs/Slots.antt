@@ -1,6 +1,6 @@
 -- What a volume's heading says, and what stands in a slot of its log, its notes or its backups, as numbers for C.
 use Prim.Native.Nat.{ℕ}
-use mathlib.Core.Bool.{Bool, true, false, cond, not}
+use mathlib.Core.Bool.{cond, not}
 use mathlib.Core.List.{List, [], _∷_}
 use lib.Dec.{eqb}
 use lib.ListN.{length}

@@ -1,16 +1,14 @@
 -- What the definition of Force says in each of its cases, and the bounds that its code needs once it stores.
-use mathlib.Core.Path.{_≡_, refl, sym, ap, _∙_}
-use mathlib.Core.Bool.{Bool, true, false, cond}
+use mathlib.Core.Path.{_≡_, refl, ap, _∙_}
 use mathlib.Core.List.{List, []}
 use Prim.Native.Nat.{ℕ, _+_, _-_, _≤_, _<_}
 use native.Mathlib.Omega.{arith}
-use lib.Dec.{eqb}
 use lib.ListN.{length, take, drop}
 use borrow.Author.Tests.{eq-eqb, ne-eqb}
 use Rattle.laws.proofs.Parts.{part-lent, lent-length}
 use Rattle.laws.proofs.Gives.{Gives, refused}
 use Rattle.laws.proofs.Places.{valid-facts}
-use Rattle.laws.proofs.WellFormed.{Ready, ready, Formed, Memory, pending-fits, pending-length}
+use Rattle.laws.proofs.WellFormed.{ready, pending-fits}
 use Rattle.state.proofs.Slots.{records-some, most-high, record-fits}
 use Rattle.model.specs.Tables.{firstOf}
 use Rattle.model.specs.Bytes.{field, part, splice}
@@ -20,8 +18,7 @@ use Rattle.model.specs.Refusals.{stateRows, forceRows}
 use Rattle.model.specs.Outcome.{volumeAfter, decided}
 use Rattle.model.specs.Effects.{forcedState, forceDone}
 use Rattle.model.specs.Calls.{forceOf}
-use Rattle.model.specs.declared.geometry.Geometry.{Geometry}
-use Rattle.model.specs.declared.state.State.{State}
+use Rattle.model.specs.declared.{geometry.Geometry.Geometry, state.State.State}
 use Rattle.model.specs.declared.answer.Answer.the-variants.{Refused, Nothing, Done}
 
 module _ (v m : List ℕ) (s : State) where

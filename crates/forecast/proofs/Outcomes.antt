@@ -1,6 +1,6 @@
 -- What the definition of the forecast says in each of its cases.
 use mathlib.Core.Path.{_≡_, refl, sym, ap, _∙_, subst}
-use mathlib.Core.Bool.{Bool, true, false, cond, not}
+use mathlib.Core.Bool.{cond, not}
 use mathlib.Core.List.{List}
 use Prim.Native.Nat.{ℕ, suc, _+_, _-_, _≤_, _<_}
 use native.Mathlib.Omega.{arith}
@@ -19,8 +19,7 @@ use Rattle.model.specs.Repair.{viewOf, walkOf}
 use Rattle.reports.specs.Reading.{Restarts}
 use Rattle.reports.specs.Reading as model
 use Rattle.reports.specs.Forecast.{counted, figureOf, forecastOf, figureNumbers, tellRows, tellForecast}
-use Rattle.model.specs.declared.geometry.Geometry.{Geometry}
-use Rattle.model.specs.declared.state.Entry.{Entry}
+use Rattle.model.specs.declared.{geometry.Geometry.Geometry, state.Entry.Entry}
 use Rattle.reports.specs.declared.reading.Figure.{Figure}
 use Rattle.reports.specs.declared.reading.Forecast.{Forecast}
 use Rattle.index.specs.Scanned.{scanRows, scanRefusal, scannedOf}

@@ -8,8 +8,7 @@ use Rattle.model.specs.Geometry.{geometryOf, validVolume}
 use Rattle.model.specs.Index.{entryOf}
 use Rattle.model.specs.Repair.{viewOf, walkOf, isBelow}
 use Rattle.reports.specs.Forecast.{counted, below, figureOf}
-use Rattle.model.specs.declared.geometry.Geometry.{Geometry}
-use Rattle.model.specs.declared.state.Entry.{Entry}
+use Rattle.model.specs.declared.{geometry.Geometry.Geometry, state.Entry.Entry}
 use Rattle.reports.specs.declared.reading.Figure.{Figure}
 use Rattle.repair.specs.Walked.{Ready, Whole}
 use Rattle.repair.specs.declared.walk.Walked.{Walked}

@@ -7,7 +7,7 @@ use Prim.Native.Nat.{ℕ, suc, _+_, _-_, _%_, _≤_, _<_}
 use native.Mathlib.Omega.{arith}
 use lib.ListN.{length, take, replicate}
 use lib.Dec.{eqb}
-use borrow.Author.Tests.{eqb-true, eqb-false, leb-false, not-false}
+use borrow.Author.Tests.{eqb-true, eqb-false, not-false}
 use Rattle.laws.proofs.Ring.{displaced-more}
 use Rattle.laws.proofs.Changes.{apply-length, apply-take, fits-facts}
 use Rattle.model.specs.Tables.{firstOf}
@@ -21,13 +21,10 @@ use Rattle.model.specs.Refusals.{beginRows, changeRows}
 use Rattle.model.specs.Outcome.{StoredItem, nothing, volumeAfter}
 use Rattle.model.specs.Effects.{appendedState, appendedMemory, changedImage}
 use Rattle.model.specs.AbstractLog.{Logged, loggedChange}
-use Rattle.model.specs.declared.geometry.Geometry.{Geometry}
-use Rattle.model.specs.declared.change.Change.{Change}
+use Rattle.model.specs.declared.{geometry.Geometry.Geometry, change.Change.Change, answer.Answer.Answer}
+use Rattle.model.specs.declared.{answer.Answer.the-variants.Done, state.State.State}
 use Rattle.model.specs.declared.change.Change.the-variants.{Format}
-use Rattle.model.specs.declared.answer.Answer.{Answer}
-use Rattle.model.specs.declared.answer.Answer.the-variants.{Done}
 use lib.Seq.{length-take-le}
-use Rattle.model.specs.declared.state.State.{State}
 use Rattle.history.proofs.Logs.{lastOf, bodyOf, last-le, lenA, number-hit, number-miss, body-hit, body-miss, last-append}
 use Rattle.history.proofs.Leaf.{encode-take, frame-body, frame-size, frame-changed}
 use Rattle.history.proofs.Records.{recOf, recOf-new, recOf-is}

@@ -1,30 +1,25 @@
 -- What refusals 12 and 14, not given, tell: there is a number left, and what the next record or note will displace is not needed.
-use mathlib.Core.Path.{_≡_, refl, sym, ap, _∙_}
-use mathlib.Core.Logic.{_≢_, _⊎_, inl, inr, ⊎-elim}
-use mathlib.Core.Bool.{Bool, true, false, cond, not, _&&_, _||_}
-use mathlib.Core.List.{List, [], _∷_}
+use mathlib.Core.Path.{_≡_, refl, ap}
+use mathlib.Core.Logic.{_≢_}
+use mathlib.Core.Bool.{Bool, true, false, not, _&&_, _||_}
+use mathlib.Core.List.{List}
 use Prim.Native.Nat.{ℕ, zero, suc, _+_, _-_, _≤_, _<_}
 use native.Mathlib.Omega.{arith}
 use lib.ListN.{length}
 use lib.Dec.{eqb, leb, ltb}
 use borrow.Author.Tests.{eq-eqb, eqb-true, eqb-false, le-leb, leb-true, leb-false, ltb-false, not-false}
-use Rattle.laws.proofs.Tables.{byCases, and-left, and-right, and-both, or-neither, not-true, true-not-false, within-holds}
+use Rattle.laws.proofs.Tables.{byCases, and-left, and-right, and-both, or-neither, true-not-false}
 use Rattle.laws.proofs.Ring.{run-asked}
 use Rattle.laws.proofs.Notes.{note-sealed}
 use Rattle.model.specs.Tables.{every, within}
 use Rattle.model.specs.Checksum.{sealed}
 use Rattle.model.specs.Geometry.{item, ring, most, mostNotes, logSlot, noteSlot}
-use Rattle.model.specs.Item.{recordFor, noteOf, noteBytes}
 use Rattle.model.specs.Index.{entryOf}
 use Rattle.model.specs.Scan.{logRecord, noteRecord}
 use Rattle.model.specs.State.{lastNumber, recordNeeded, logFull, noteWhole, noteLike, noteNeeded, notesFull}
 use Rattle.model.specs.Outcome.{StoredItem}
 use Rattle.model.specs.AbstractLog.{Logged}
-use Rattle.model.specs.declared.geometry.Geometry.{Geometry}
-use Rattle.model.specs.declared.item.Note.{Note}
-use Rattle.model.specs.declared.item.LogRecord.{LogRecord}
-use Rattle.model.specs.declared.state.Entry.{Entry}
-use Rattle.model.specs.declared.state.State.{State}
+use Rattle.model.specs.declared.{geometry.Geometry.Geometry, item.Note.Note, state.Entry.Entry, state.State.State}
 use Rattle.history.proofs.Logs.{at}
 use Rattle.history.proofs.Entries.{note, markAt, Later}
 use Rattle.history.proofs.Sections.{most-plain, notes-plain}
@@ -32,7 +27,7 @@ use Rattle.history.proofs.Disk.{Stands, Torn, Spare, NoteStands, NoteTo
 use Rattle.history.proofs.NoteScan.{note-back}
 use Rattle.history.proofs.LogScan.{rec-at}
 use Rattle.history.proofs.Inv.{Room}
-use Rattle.history.proofs.Context.{Ctx, sized, sum, len, entry-is}
+use Rattle.history.proofs.Context.{Ctx, sized, sum, entry-is}
 
 -- a test that fails for some number
 every-not : (p : ℕ → Bool) (n : ℕ) → every n p ≡ false → (i : ℕ) × (i < n) × (p i ≡ false)

@@ -10,7 +10,7 @@ use Rattle.laws.proofs.Tables.{byCases, and-left, and-right, true-not-false}
 use Rattle.laws.proofs.Carrying.{no-restamp}
 use Rattle.model.specs.Tables.{Row, firstOf}
 use Rattle.model.specs.Checksum.{sealImage}
-use Rattle.model.specs.Geometry.{Place, pageAt, slotAt, recordAt, noteAt, logSlot, noteSlot, width, geometryOf}
+use Rattle.model.specs.Geometry.{Place, pageAt, slotAt, logSlot, noteSlot, width, geometryOf}
 use Rattle.model.specs.Item.{noteBytes}
 use Rattle.model.specs.Repair.{repairOf, classIn, stateView}
 use Rattle.model.specs.State.{frameBytes, pendingBytes, holder}
@@ -18,16 +18,15 @@ use Rattle.model.specs.Refusals.{pageDirty, beginRows, loadRows, changeRows, fo
 use Rattle.model.specs.Outcome.{StoredItem, nothing, oneItem, Outcome, volumeAfter, decided}
 use Rattle.model.specs.Effects.{isGood, noteStored, backupDone, beginDone, changeDone, forceDone, loadDone, releaseDone, writeDone}
 use Rattle.model.specs.Calls.{Call, rowsOf, outcomeOf, noPayload}
-use Rattle.model.specs.declared.command.Command.the-variants.{Begin, Load, Change, Force, Write, Backup, Release, Note as NoteCall, StartCarry, Restamp, FinishCarry}
+use Rattle.model.specs.declared.{geometry.Geometry.Geometry, item.Note.Note, state.PendingNote.PendingNote}
+use Rattle.model.specs.declared.state.State.{State}
+use Rattle.model.specs.declared.command.Command.the-variants.{Begin, Load, Force, Write, Release, StartCarry, Restamp, FinishCarry}
+use Rattle.model.specs.declared.answer.Answer.the-variants.{Done, Repaired}
+use Rattle.model.specs.declared.state.PendingNote.the-variants.{Absent, Present}
+use Rattle.model.specs.declared.command.Command.the-variants.{Change, Backup, Note as NoteCall}
 use Rattle.model.specs.AbstractLog.{moveFirst, Logged, AbstractLog, Left, old, new, torn, forget, stepCall, stepCut}
 use Rattle.model.specs.History.{off, leftVolume, leftPast, pastAfter, itemSealed, tornFits, payloadFits}
 use Rattle.model.specs.Carry.{carries}
-use Rattle.model.specs.declared.geometry.Geometry.{Geometry}
-use Rattle.model.specs.declared.answer.Answer.the-variants.{Done, Repaired}
-use Rattle.model.specs.declared.item.Note.{Note}
-use Rattle.model.specs.declared.state.PendingNote.{PendingNote}
-use Rattle.model.specs.declared.state.PendingNote.the-variants.{Absent, Present}
-use Rattle.model.specs.declared.state.State.{State}
 use Rattle.history.proofs.Inv.{past-cons, PendingOk, Inv}
 use Rattle.history.proofs.Context.{Ctx, Preserved, geo, keep-decided}
 use Rattle.history.proofs.Appends.{keep-begin, keep-change}

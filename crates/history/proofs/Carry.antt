@@ -18,9 +18,7 @@ use Rattle.model.specs.Passes.{isImage}
 use Rattle.model.specs.Outcome.{StoredItem, oneItem}
 use Rattle.model.specs.AbstractLog.{Logged}
 use Rattle.model.specs.History.{storedBefore}
-use Rattle.model.specs.declared.geometry.Geometry.{Geometry}
-use Rattle.model.specs.declared.geometry.Heading.the-variants.{First}
-use Rattle.model.specs.declared.item.Note.{Note}
+use Rattle.model.specs.declared.{geometry.Geometry.Geometry, geometry.Heading.the-variants.First, item.Note.Note}
 use Rattle.model.specs.declared.state.PendingNote.{PendingNote}
 use Rattle.model.specs.declared.state.PendingNote.the-variants.{Absent, Present}
 use Rattle.history.proofs.Entries.{markAt}

@@ -21,15 +21,13 @@ use Rattle.model.specs.Refusals.{startCarryRows, restampRows, finishCarryRows}
 use Rattle.model.specs.Outcome.{StoredItem, nothing, oneItem, newHeading, volumeAfter, decided}
 use Rattle.model.specs.Effects.{restampDone}
 use Rattle.model.specs.Calls.{startCarryOf, restampOf, finishCarryOf, Call, rowsOf, outcomeOf, noPayload}
+use Rattle.model.specs.declared.{geometry.Geometry.Geometry, geometry.Heading.the-variants.Second, state.Entry.Entry}
+use Rattle.model.specs.declared.state.State.{State}
 use Rattle.model.specs.declared.command.Command.the-variants.{StartCarry, Restamp, FinishCarry}
+use Rattle.model.specs.declared.answer.Answer.the-variants.{Refused, Nothing}
 use Rattle.model.specs.Carry.{carries}
 use Rattle.model.specs.AbstractLog.{Logged, AbstractLog, Left, old, new, torn, leftNew, forget, stepCall, stepCut}
 use Rattle.model.specs.History.{Power, on, off, isStartCarry, pastAfter, leftVolume, leftPast, startFits, carriable, tornFits}
-use Rattle.model.specs.declared.geometry.Geometry.{Geometry}
-use Rattle.model.specs.declared.geometry.Heading.the-variants.{Second}
-use Rattle.model.specs.declared.answer.Answer.the-variants.{Refused, Nothing}
-use Rattle.model.specs.declared.state.Entry.{Entry}
-use Rattle.model.specs.declared.state.State.{State}
 use Rattle.history.proofs.Inv.{Inv}
 use Rattle.history.proofs.Context.{Ctx, geo, keep-same}
 use Rattle.history.proofs.Events.{inv-crash-between}

@@ -27,15 +27,14 @@ use Rattle.model.specs.Refusals.{startCarryRows, restampRows, finishCarryRows}
 use Rattle.model.specs.Outcome.{StoredItem, newHeading, volumeAfter, refusalOf, decided}
 use Rattle.model.specs.Calls.{startCarryOf, restampOf, finishCarryOf, Call, outcomeOf, noPayload}
 use Rattle.model.specs.Restart.{inspectOf}
+use Rattle.model.specs.declared.{geometry.Geometry.Geometry, state.State.State}
 use Rattle.model.specs.declared.command.Command.the-variants.{StartCarry, Restamp, FinishCarry}
+use Rattle.model.specs.declared.geometry.Heading.the-variants.{First, Second}
 use Rattle.model.specs.AbstractLog.{Logged}
 use Rattle.model.specs.History.{Power, on, payloadFits, startFits, carriable, isOn, allowed}
 use Rattle.model.specs.Claim.{History, Legal, reached, durableOf, Begins}
 use Rattle.model.specs.Health.{Same}
 use Rattle.model.specs.Carry.{carries, CarrySame, OnlyHeading, AsIfNotBegun, CarryHistory}
-use Rattle.model.specs.declared.geometry.Geometry.{Geometry}
-use Rattle.model.specs.declared.geometry.Heading.the-variants.{First, Second}
-use Rattle.model.specs.declared.state.State.{State}
 use Rattle.history.proofs.Entries.{markAt, mark-ok}
 use Rattle.history.proofs.Sections.{volume-size, store-same, store-other}
 use Rattle.history.proofs.Context.{Ctx, sized, geo}

@@ -23,15 +23,12 @@ use Rattle.model.specs.Index.{entryOf, slotUsed}
 use Rattle.model.specs.Passes.{isImage, onlyOld, onlyNew, imageCount, oldAt}
 use Rattle.model.specs.Refusals.{startCarryRows}
 use Rattle.model.specs.Outcome.{StoredItem, oneItem, newHeading}
-use Rattle.model.specs.declared.command.Command.the-variants.{Backup, Note}
 use Rattle.model.specs.AbstractLog.{Logged, AbstractLog}
 use Rattle.model.specs.History.{on, off, storedBefore, pendingCarries, pageCarries, carriable}
-use Rattle.model.specs.declared.geometry.Geometry.{Geometry}
-use Rattle.model.specs.declared.geometry.Heading.the-variants.{First, Second}
-use Rattle.model.specs.declared.state.Entry.{Entry}
-use Rattle.model.specs.declared.state.PendingNote.{PendingNote}
-use Rattle.model.specs.declared.state.PendingNote.the-variants.{Absent, Present}
+use Rattle.model.specs.declared.{geometry.Geometry.Geometry, state.Entry.Entry, state.PendingNote.PendingNote}
 use Rattle.model.specs.declared.state.State.{State}
+use Rattle.model.specs.declared.geometry.Heading.the-variants.{First, Second}
+use Rattle.model.specs.declared.state.PendingNote.the-variants.{Absent, Present}
 use Rattle.history.proofs.Entries.{markAt, mark-ok, slot-spare, spare-tabled}
 use Rattle.history.proofs.Records.{Faithful}
 use Rattle.history.proofs.Sections.{volume-size}

@@ -24,9 +24,7 @@ use Rattle.model.specs.Outcome.{refusalOf}
 use Rattle.model.specs.Restart.{inspectOf}
 use Rattle.model.specs.AbstractLog.{Logged}
 use Rattle.model.specs.Health.{Same}
-use Rattle.model.specs.declared.geometry.Geometry.{Geometry}
-use Rattle.model.specs.declared.geometry.Heading.the-variants.{Second}
-use Rattle.model.specs.declared.item.Note.{Note}
+use Rattle.model.specs.declared.{geometry.Geometry.Geometry, geometry.Heading.the-variants.Second, item.Note.Note}
 use Rattle.model.specs.declared.answer.Answer.the-variants.{Refused, Repaired}
 use Rattle.history.proofs.Logs.{lastOf, last-le}
 use Rattle.history.proofs.Entries.{markAt, mark-ok, entryFrom}

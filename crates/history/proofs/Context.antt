@@ -19,12 +19,8 @@ use Rattle.model.specs.Refusals.{frameBlocked}
 use Rattle.model.specs.Outcome.{StoredItem, nothing, Outcome, volumeAfter, unchanged, decided}
 use Rattle.model.specs.AbstractLog.{Logged, AbstractLog}
 use Rattle.model.specs.History.{on}
-use Rattle.model.specs.declared.geometry.Geometry.{Geometry}
-use Rattle.model.specs.declared.answer.Answer.{Answer}
-use Rattle.model.specs.declared.answer.Answer.the-variants.{Refused}
-use Rattle.model.specs.declared.item.Note.{Note}
-use Rattle.model.specs.declared.state.Entry.{Entry}
-use Rattle.model.specs.declared.state.State.{State}
+use Rattle.model.specs.declared.{geometry.Geometry.Geometry, answer.Answer.Answer, answer.Answer.the-variants.Refused}
+use Rattle.model.specs.declared.{item.Note.Note, state.Entry.Entry, state.State.State}
 use Rattle.history.proofs.Logs.{noLogged, at, lastAt, lastOf, bodyOf, replayAt, last-page, last-mono, replay-last, replay-append, last-append}
 use Rattle.history.proofs.Entries.{markAt, entryFrom}
 use Rattle.history.proofs.Records.{AllFair, length-replay}

@@ -10,8 +10,7 @@ use Rattle.model.specs.Checksum.{sealed}
 use Rattle.model.specs.Geometry.{pageAt, slotAt, recordAt, noteAt, item, ring, most, mostNotes, logSlot, noteSlot}
 use Rattle.model.specs.Item.{imageLsn, validImage, noteBytes}
 use Rattle.model.specs.AbstractLog.{Logged}
-use Rattle.model.specs.declared.geometry.Geometry.{Geometry}
-use Rattle.model.specs.declared.item.Note.{Note}
+use Rattle.model.specs.declared.{geometry.Geometry.Geometry, item.Note.Note}
 use Rattle.history.proofs.Logs.{at}
 use Rattle.history.proofs.Entries.{note, markAt, NotesOk, Later}
 use Rattle.history.proofs.Records.{AllFair, recOf, Faithful}

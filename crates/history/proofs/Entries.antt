@@ -11,8 +11,7 @@ use lib.ListN.{length, getD, length-set, length-append, length-replicate, getD-r
 use lib.Seq.{getD-set-same, getD-set-other, getD-append-seam}
 use lib.Dec.{eqb}
 use borrow.Author.Tests.{eq-eqb, ne-eqb, eqb-true}
-use Rattle.model.specs.declared.item.Note.{Note}
-use Rattle.model.specs.declared.state.Entry.{Entry}
+use Rattle.model.specs.declared.{item.Note.Note, state.Entry.Entry}
 use Rattle.model.specs.Item.{isWritten}
 use Rattle.model.specs.Index.{emptyEntry, emptyIndex, entryOf, setEntry, withNote, slotUsed}
 use Rattle.model.specs.AbstractLog.{Logged}

@@ -24,10 +24,7 @@ use Rattle.model.specs.Restart.{restartState, restartOf}
 use Rattle.model.specs.AbstractLog.{Logged, AbstractLog, forget}
 use Rattle.model.specs.Passes.{isImage, validAsNoted, passesAt}
 use Rattle.model.specs.History.{Power, off, on, restarted, storedBefore}
-use Rattle.model.specs.declared.geometry.Geometry.{Geometry}
-use Rattle.model.specs.declared.item.Note.{Note}
-use Rattle.model.specs.declared.state.Entry.{Entry}
-use Rattle.model.specs.declared.state.Frame.{Frame}
+use Rattle.model.specs.declared.{geometry.Geometry.Geometry, item.Note.Note, state.Entry.Entry, state.Frame.Frame}
 use Rattle.model.specs.declared.state.PendingNote.{PendingNote}
 use Rattle.model.specs.declared.state.PendingNote.the-variants.{Absent, Present}
 use Rattle.history.proofs.Logs.{lastAt}

@@ -1,45 +1,40 @@
 -- A page that leaves its frame: when Release is refused, and that a later Load shows the same text.
-use mathlib.Core.Path.{_≡_, refl, sym, ap, _∙_, subst}
+use mathlib.Core.Path.{_≡_, refl, sym, ap, _∙_}
 use mathlib.Core.Logic.{_≢_}
-use mathlib.Core.Bool.{Bool, true, false, cond, not, _&&_}
+use mathlib.Core.Bool.{Bool, true, false, cond, not}
 use mathlib.Core.List.{List, [], _∷_, _++_, append-assoc}
-use Prim.Native.Nat.{ℕ, suc, _+_, _-_, _≤_, _<_}
+use Prim.Native.Nat.{ℕ, _+_, _-_, _≤_, _<_}
 use native.Mathlib.Omega.{arith}
 use native.Mathlib.Decide.{ℕ-discrete}
-use native.Mathlib.Nat.{add-assoc}
 use lib.ListN.{length, getD, set, length-set}
 use lib.Seq.{getD-set-same, getD-set-other}
 use lib.Dec.{eqb, ltb}
 use borrow.Author.Tests.{eqb-true, ne-eqb, ltb-true, lt-ltb, le-ltb, not-false}
 use Rattle.laws.proofs.Tables.{byCases, within-holds, true-not-false}
-use Rattle.laws.proofs.Frames.{not-held, is-held}
-use Rattle.model.specs.Tables.{Row, firstOf, within}
+use Rattle.laws.proofs.Frames.{is-held}
+use Rattle.model.specs.Tables.{Row, firstOf}
 use Rattle.model.specs.Geometry.{geometryOf}
-use Rattle.model.specs.Item.{frameImage}
 use Rattle.model.specs.Index.{entryOf}
 use Rattle.model.specs.Scan.{indexOf, gone}
 use Rattle.model.specs.State.{frameCount, frameBytes, emptyFrame, frameRow, holder, held, blank}
-use Rattle.model.specs.Refusals.{frameBlocked, pageDirty, chainBroken, chainBelow, beginRows, loadRows, changeRows, forceRows, writeRows, backupRows, releaseRows, noteRows, startCarryRows, restampRows, finishCarryRows}
+use Rattle.model.specs.Refusals.{frameBlocked, pageDirty, beginRows, loadRows, changeRows, forceRows, writeRows, backupRows, releaseRows, noteRows, startCarryRows, restampRows, finishCarryRows}
+use Rattle.laws.proofs.Conditions.{chainBelow}
 use Rattle.model.specs.Passes.{imageCount, firstOld}
 use Rattle.model.specs.Outcome.{StoredItem, nothing, Outcome, volumeAfter, decided, refusalOf}
 use Rattle.model.specs.Effects.{withFrame, withFrames, appendedState, forcedState, notedState, noteStored, backupDone, beginDone, changeDone, forceDone, loadDone, releaseDone, restampDone, writeDone}
 use Rattle.model.specs.Calls.{beginOf, loadOf, releaseOf, Call, outcomeOf, noPayload}
-use Rattle.model.specs.declared.command.Command.the-variants.{Begin, Load, Change, Force, Write, Backup, Release, Note, StartCarry, Restamp, FinishCarry}
-use Rattle.model.specs.AbstractLog.{Logged, AbstractLog, lastPlace, loggedChange}
-use Rattle.model.specs.History.{on}
-use Rattle.model.specs.Claim.{History, Legal, reached, logOf, durableOf, startStands, Gone, Proviso}
-use Rattle.model.specs.declared.geometry.Geometry.{Geometry}
-use Rattle.model.specs.declared.change.Change.the-variants.{Format}
-use Rattle.model.specs.declared.answer.Answer.the-variants.{Done}
-use Rattle.model.specs.declared.state.Entry.{Entry}
-use Rattle.model.specs.declared.state.Frame.{Frame}
-use Rattle.model.specs.declared.state.PendingNote.{PendingNote}
+use Rattle.model.specs.declared.{geometry.Geometry.Geometry, answer.Answer.the-variants.Done, state.Entry.Entry}
+use Rattle.model.specs.declared.{state.Frame.Frame, state.PendingNote.PendingNote, state.State.State}
+use Rattle.model.specs.declared.command.Command.the-variants.{Begin, Load, Force, Write, Release, StartCarry, Restamp, FinishCarry}
 use Rattle.model.specs.declared.state.PendingNote.the-variants.{Absent, Present}
-use Rattle.model.specs.declared.state.State.{State}
+use Rattle.model.specs.declared.command.Command.the-variants.{Change, Backup, Note}
+use Rattle.model.specs.AbstractLog.{Logged, AbstractLog, loggedChange}
+use Rattle.model.specs.History.{on}
+use Rattle.model.specs.Claim.{History, Legal, reached, logOf, durableOf, startStands}
+use Rattle.model.specs.declared.change.Change.the-variants.{Format}
 use Rattle.history.specs.Facts.{volumeOf, headingOf, Releases, Evicted}
-use Rattle.history.proofs.Logs.{lastOf, bodyOf, lastAt, last-mono, number-miss, body-miss, last-is}
+use Rattle.history.proofs.Logs.{lastOf, bodyOf, last-mono, number-miss, body-miss, last-is}
 use Rattle.history.proofs.Inv.{Settled, frame, Inv}
-use Rattle.history.proofs.Memory.{frame-count}
 use Rattle.history.proofs.FrameSteps.{Holder, found}
 use Rattle.history.proofs.Context.{Ctx, Preserved, passed, in-range, geo, len, entry-is, last-entry, durable-last, Found, found-frame, nowhere}
 use Rattle.history.proofs.Loads.{load-unbroken, load-whole, load-granted, below-only, keep-load}

@@ -1,5 +1,5 @@
 -- The values of the facts of every legal history.
-use mathlib.Core.Path.{_≡_, sym, ap, _∙_, subst}
+use mathlib.Core.Path.{_≡_, sym, ap, _∙_}
 use mathlib.Core.Logic.{_≢_}
 use mathlib.Core.Bool.{true}
 use mathlib.Core.List.{List, _++_}
@@ -12,10 +12,9 @@ use Rattle.model.specs.Index.{entryOf}
 use Rattle.model.specs.Scan.{indexOf}
 use Rattle.model.specs.AbstractLog.{Logged}
 use Rattle.model.specs.Passes.{isImage}
-use Rattle.model.specs.History.{Power, on, storedBefore}
+use Rattle.model.specs.History.{on, storedBefore}
 use Rattle.model.specs.Claim.{History, Legal, reached, logOf, durableOf}
-use Rattle.model.specs.declared.state.Entry.{Entry}
-use Rattle.model.specs.declared.state.State.{State}
+use Rattle.model.specs.declared.{state.Entry.Entry, state.State.State}
 use Rattle.history.specs.Facts.{volumeOf, headingOf, IsReplay, StoredImage, OwnImage, IndexEntry, SameEntry, Counts, LivePage, Facts}
 use Rattle.history.proofs.Logs.{at, lastOf, last-hit, last-ge, last-is, replay-is, last-take, replay-take}
 use Rattle.history.proofs.Entries.{markAt, entryFrom, slots-apart}

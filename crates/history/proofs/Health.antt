@@ -1,7 +1,7 @@
 -- No legal history gives the class Ahead, and inspections that are the same agree.
 use mathlib.Core.Path.{_≡_, refl, sym, ap, _∙_, subst}
-use mathlib.Core.Logic.{_≢_, _⊎_, inl, inr}
-use mathlib.Core.Bool.{Bool, true, false, cond, not}
+use mathlib.Core.Logic.{_≢_, inl, inr}
+use mathlib.Core.Bool.{Bool, true, false, cond}
 use mathlib.Core.List.{List}
 use Prim.Native.Nat.{ℕ, _≤_}
 use native.Mathlib.Omega.{arith}
@@ -10,8 +10,7 @@ use lib.ListN.{length}
 use borrow.Author.Tests.{le-ltb, not-false}
 use Rattle.laws.proofs.Tables.{none-at, within-bounds}
 use Rattle.laws.proofs.Health.{load-repairs, inspect-repairs}
-use Rattle.model.specs.Tables.{firstOf, within}
-use Rattle.model.specs.Geometry.{pageAt, item, geometryOf}
+use Rattle.model.specs.Geometry.{pageAt, item}
 use Rattle.model.specs.Item.{imageLsn, validImage}
 use Rattle.model.specs.Index.{entryOf}
 use Rattle.model.specs.Scan.{indexOf}
@@ -21,15 +20,11 @@ use Rattle.model.specs.Outcome.{refusalOf}
 use Rattle.model.specs.Calls.{loadOf}
 use Rattle.model.specs.Restart.{inspectOf}
 use Rattle.model.specs.History.{on}
-use Rattle.model.specs.Claim.{History, Legal, reached, inspection, Agree}
-use Rattle.model.specs.Health.{Same, NeverAhead, SameAgrees}
-use Rattle.model.specs.declared.geometry.Geometry.{Geometry}
-use Rattle.model.specs.declared.answer.Class.{Class}
-use Rattle.model.specs.declared.answer.Class.the-variants.{Good, Behind, Stale, Failed, Ahead}
-use Rattle.model.specs.declared.answer.Repair.{Repair}
-use Rattle.model.specs.declared.answer.Answer.{Answer}
-use Rattle.model.specs.declared.answer.Answer.the-variants.{Repaired}
+use Rattle.model.specs.Claim.{History, Legal, reached}
+use Rattle.model.specs.Health.{NeverAhead, SameAgrees}
+use Rattle.model.specs.declared.{geometry.Geometry.Geometry, answer.Repair.Repair, answer.Answer.the-variants.Repaired}
 use Rattle.model.specs.declared.state.State.{State}
+use Rattle.model.specs.declared.answer.Class.the-variants.{Good, Behind, Stale, Ahead}
 use Rattle.history.specs.Facts.{volumeOf, headingOf}
 use Rattle.history.proofs.Facts.{facts, heading}
 

@@ -17,9 +17,7 @@ use Rattle.model.specs.State.{frameBytes, holder}
 use Rattle.model.specs.Outcome.{StoredItem, oneItem}
 use Rattle.model.specs.AbstractLog.{Logged}
 use Rattle.model.specs.History.{itemSealed}
-use Rattle.model.specs.declared.geometry.Geometry.{Geometry}
-use Rattle.model.specs.declared.item.Note.{Note}
-use Rattle.model.specs.declared.state.State.{State}
+use Rattle.model.specs.declared.{geometry.Geometry.Geometry, item.Note.Note, state.State.State}
 use Rattle.history.proofs.Logs.{at, lastOf, bodyOf, last-le, last-below}
 use Rattle.history.proofs.Entries.{markAt, NoteOk, Backed, mark-ok, slot-spare}
 use Rattle.history.proofs.Leaf.{frame-lsn, frame-size, image-lsn, image-body, image-size, valid-sealed}

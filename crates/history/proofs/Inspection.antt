@@ -22,8 +22,7 @@ use Rattle.model.specs.Refusals.{inspectRows}
 use Rattle.model.specs.Outcome.{refusalOf}
 use Rattle.model.specs.Restart.{inspectOf}
 use Rattle.model.specs.AbstractLog.{Logged}
-use Rattle.model.specs.declared.geometry.Geometry.{Geometry}
-use Rattle.model.specs.declared.item.Note.{Note}
+use Rattle.model.specs.declared.{geometry.Geometry.Geometry, item.Note.Note}
 use Rattle.history.proofs.Logs.{lastOf, bodyOf, replayAt, last-le, last-page, replay-last}
 use Rattle.history.proofs.Entries.{markAt, entryFrom}
 use Rattle.history.proofs.Leaf.{image-shown}

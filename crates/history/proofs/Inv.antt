@@ -3,13 +3,13 @@
 use mathlib.Core.Path.{_≡_, refl, sym, ap, _∙_, subst}
 use mathlib.Core.Logic.{_≢_, ⊎-elim}
 use mathlib.Core.Bool.{true, false, cond, _&&_}
-use mathlib.Core.List.{List, [], _∷_, _++_}
+use mathlib.Core.List.{List, _∷_, _++_}
 use Prim.Native.Nat.{ℕ, suc, _+_, _-_, _*_, _≤_, _<_}
 use native.Mathlib.Omega.{arith}
 use lib.ListN.{length, getD, length-append, List·getD-append}
 use lib.Dec.{eqb}
 use borrow.Author.Tests.{eqb-true}
-use Rattle.laws.proofs.Tables.{and-left, and-right, or-cases, true-not-false}
+use Rattle.laws.proofs.Tables.{and-left, and-right, or-cases}
 use Rattle.laws.proofs.Parts.{same-bytes}
 use Rattle.laws.proofs.Ring.{Displaced}
 use Rattle.model.specs.Bytes.{sameBytes}
@@ -20,12 +20,9 @@ use Rattle.model.specs.State.{frameBytes, pendingBytes, emptyFrame}
 use Rattle.model.specs.Outcome.{StoredItem, nothing, oneItem, newHeading}
 use Rattle.model.specs.AbstractLog.{Logged, AbstractLog}
 use Rattle.model.specs.History.{Power, off, on, placeNumbers, samePlace, storedBefore}
-use Rattle.model.specs.declared.geometry.Geometry.{Geometry}
-use Rattle.model.specs.declared.item.Note.{Note}
-use Rattle.model.specs.declared.state.Frame.{Frame}
-use Rattle.model.specs.declared.state.PendingNote.{PendingNote}
+use Rattle.model.specs.declared.{geometry.Geometry.Geometry, item.Note.Note, state.Frame.Frame}
+use Rattle.model.specs.declared.{state.PendingNote.PendingNote, state.State.State}
 use Rattle.model.specs.declared.state.PendingNote.the-variants.{Absent, Present}
-use Rattle.model.specs.declared.state.State.{State}
 use Rattle.history.proofs.Logs.{noLogged, at, lastAt, lastOf, bodyOf}
 use Rattle.history.proofs.Entries.{note, NoteOk, Indexed, Later}
 use Rattle.history.proofs.Leaf.{valid-page}

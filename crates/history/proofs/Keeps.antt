@@ -6,14 +6,14 @@ use Prim.Native.Nat.{ℕ, suc, _+_, _-_, _≤_, _<_}
 use native.Mathlib.Omega.{arith}
 use lib.ListN.{length, List·getD-append}
 use lib.Dec.{eqb}
-use borrow.Author.Tests.{eq-eqb, ne-eqb, leb-false, ltb-false}
+use borrow.Author.Tests.{eq-eqb, ne-eqb, ltb-false}
 use Rattle.laws.proofs.Tables.{byCases, true-not-false, within-holds}
 use Rattle.laws.proofs.Notes.{note-length}
 use Rattle.laws.proofs.Ring.{displaced-keep}
 use Rattle.model.specs.Tables.{firstOf}
 use Rattle.model.specs.Bytes.{field}
 use Rattle.model.specs.Checksum.{sealImage}
-use Rattle.model.specs.Geometry.{pageAt, slotAt, recordAt, noteAt, most, logSlot, noteSlot, geometryOf, store}
+use Rattle.model.specs.Geometry.{pageAt, slotAt, most, logSlot, noteSlot, geometryOf, store}
 use Rattle.model.specs.Item.{imageLsn, recordOf, noteBytes}
 use Rattle.model.specs.Index.{slotUsed}
 use Rattle.model.specs.State.{frameBytes, pendingBytes, holder, notePending, notesFull}
@@ -22,14 +22,10 @@ use Rattle.model.specs.Outcome.{StoredItem, oneItem, Outcome, volumeAfter, unch
 use Rattle.model.specs.Effects.{withFrame, withFrames, nextNote, forcedState, notedState, noteStored}
 use Rattle.model.specs.AbstractLog.{Logged, moveFirst}
 use Rattle.model.specs.History.{on}
-use Rattle.model.specs.declared.geometry.Geometry.{Geometry}
-use Rattle.model.specs.declared.answer.Answer.{Answer}
+use Rattle.model.specs.declared.{geometry.Geometry.Geometry, answer.Answer.Answer, item.LogRecord.LogRecord}
+use Rattle.model.specs.declared.{item.Note.Note, state.PendingNote.PendingNote, state.State.State}
 use Rattle.model.specs.declared.answer.Answer.the-variants.{Done, Nothing}
-use Rattle.model.specs.declared.item.LogRecord.{LogRecord}
-use Rattle.model.specs.declared.item.Note.{Note}
-use Rattle.model.specs.declared.state.PendingNote.{PendingNote}
 use Rattle.model.specs.declared.state.PendingNote.the-variants.{Absent, Present}
-use Rattle.model.specs.declared.state.State.{State}
 use Rattle.history.proofs.Logs.{noLogged, at, atA, lenA}
 use Rattle.history.proofs.Entries.{lenN}
 use Rattle.history.proofs.Sections.{most-high}

@@ -17,13 +17,12 @@ use Rattle.model.specs.Item.{frameImage}
 use Rattle.model.specs.Index.{entryOf}
 use Rattle.model.specs.Repair.{walkOf, isBroken, isBelow, rebuilt, stateView}
 use Rattle.model.specs.State.{frameAt, held, frameCount, validMemory, wellFormed, blank}
-use Rattle.model.specs.Refusals.{loadRows, frameBlocked, chainBroken, chainBelow}
+use Rattle.model.specs.Refusals.{loadRows, frameBlocked}
+use Rattle.laws.proofs.Conditions.{chainBroken, chainBelow}
 use Rattle.model.specs.Outcome.{StoredItem, nothing, volumeAfter}
 use Rattle.model.specs.Effects.{withFrame, withFrames}
 use Rattle.model.specs.AbstractLog.{Logged}
-use Rattle.model.specs.declared.geometry.Geometry.{Geometry}
-use Rattle.model.specs.declared.answer.Answer.{Answer}
-use Rattle.model.specs.declared.state.State.{State}
+use Rattle.model.specs.declared.{geometry.Geometry.Geometry, answer.Answer.Answer, state.State.State}
 use Rattle.history.proofs.Logs.{lastAt, lastOf, bodyOf, last-le}
 use Rattle.history.proofs.Leaf.{frame-size}
 use Rattle.history.proofs.Inv.{past-cons, Settled, frame}

@@ -22,11 +22,8 @@ use Rattle.model.specs.Item.{recordOf, recordFor}
 use Rattle.model.specs.Index.{entryOf}
 use Rattle.model.specs.Scan.{logRecord, durableCount, firstHeld, logIndex, recordFits, validLog, gone, runIndex, countIn, firstIn}
 use Rattle.model.specs.AbstractLog.{Logged}
-use Rattle.model.specs.declared.geometry.Geometry.{Geometry}
-use Rattle.model.specs.declared.geometry.Heading.the-variants.{Second}
-use Rattle.model.specs.declared.item.Note.{Note}
-use Rattle.model.specs.declared.item.LogRecord.{LogRecord}
-use Rattle.model.specs.declared.state.Entry.{Entry}
+use Rattle.model.specs.declared.{geometry.Geometry.Geometry, geometry.Heading.the-variants.Second, item.Note.Note}
+use Rattle.model.specs.declared.{item.LogRecord.LogRecord, state.Entry.Entry}
 use Rattle.history.proofs.Logs.{at, lastAt, last-hit, last-miss, last-le, last-zero}
 use Rattle.history.proofs.Entries.{noMark, entryFrom, Tabled, tabled-start, tabled-set}
 use Rattle.history.proofs.Leaf.{RecordIs}

@@ -1,14 +1,13 @@
 -- The log's ring in the definitions' words: every record below the run is spare, and every record that a pending one will displace is
 -- durable and spare. And when the proviso of demand 3 holds by itself: on a volume that is no ring, and, theorem C, after a history without
 -- damage in which no Restamp of a noted backup was left torn.
-use mathlib.Core.Path.{_≡_, refl, sym, ap, _∙_, subst}
-use mathlib.Core.Logic.{_≢_}
-use mathlib.Core.Bool.{Bool, true, false, cond, _&&_}
-use mathlib.Core.List.{List, [], _∷_, _++_}
-use Prim.Native.Nat.{ℕ, zero, suc, _+_, _-_, _≤_, _<_}
+use mathlib.Core.Path.{_≡_, sym, ap, _∙_, subst}
+use mathlib.Core.Bool.{true, false, _&&_}
+use mathlib.Core.List.{List, _++_}
+use Prim.Native.Nat.{ℕ, suc, _+_, _-_, _≤_, _<_}
 use native.Mathlib.Omega.{arith}
-use lib.ListN.{length, take, List·getD-append}
-use lib.Dec.{eqb, leb, ltb}
+use lib.ListN.{length, List·getD-append}
+use lib.Dec.{eqb, ltb}
 use borrow.Author.Tests.{le-ltb, eqb-false, eq-eqb}
 use Rattle.laws.proofs.Tables.{byCases, and-right, and-both, or-left, or-right, true-not-false}
 use Rattle.model.specs.Geometry.{ring, geometryOf, slotAt, item}
@@ -16,14 +15,11 @@ use Rattle.model.specs.Item.{imageLsn}
 use Rattle.model.specs.Index.{entryOf}
 use Rattle.model.specs.Scan.{durableCount, firstHeld, indexOf, gone, firstIn}
 use Rattle.model.specs.AbstractLog.{Logged}
-use Rattle.model.specs.History.{Power, on}
+use Rattle.model.specs.History.{on}
 use Rattle.model.specs.Carry.{startsIn}
-use Rattle.model.specs.Claim.{History, Legal, reached, logOf, durableOf, Gone, Proviso, Safe}
+use Rattle.model.specs.Claim.{History, Legal, reached, logOf, durableOf, Gone, Safe}
 use Rattle.model.specs.RingClaim.{ChangeOf, SpareRecord, runStart}
-use Rattle.model.specs.declared.geometry.Geometry.{Geometry}
-use Rattle.model.specs.declared.item.Note.{Note}
-use Rattle.model.specs.declared.state.Entry.{Entry}
-use Rattle.model.specs.declared.state.State.{State}
+use Rattle.model.specs.declared.{geometry.Geometry.Geometry, item.Note.Note, state.Entry.Entry, state.State.State}
 use Rattle.history.specs.Facts.{volumeOf, headingOf}
 use Rattle.history.proofs.Logs.{noLogged, at, lastOf, last-page, last-take}
 use Rattle.history.proofs.Entries.{markAt, entryFrom}
@@ -33,7 +29,6 @@ use Rattle.history.proofs.LogScan.{first, first-is, started, durable-co
 use Rattle.history.proofs.Views.{no-backup}
 use Rattle.history.proofs.Disk.{Holds, Noted, Spare}
 use Rattle.history.proofs.Inv.{Inv}
-use Rattle.history.proofs.Context.{Ctx}
 use Rattle.history.proofs.Reached.{Undamaged, madeWith, present, tied, uncarried, live}
 
 -- ---- spare records

@@ -20,9 +20,7 @@ use Rattle.model.specs.Item.{noteOf, noteBytes, noteLayout, isWritten}
 use Rattle.model.specs.Index.{entryRow, enterNote, settled}
 use Rattle.model.specs.Scan.{logRecord, noteRecord, noteCount, firstNote, runIndex, noteIndex, noteFollows, noteFits, validNotes, indexOf, countIn, firstIn}
 use Rattle.model.specs.AbstractLog.{Logged}
-use Rattle.model.specs.declared.geometry.Geometry.{Geometry}
-use Rattle.model.specs.declared.item.Note.{Note}
-use Rattle.model.specs.declared.item.LogRecord.{LogRecord}
+use Rattle.model.specs.declared.{geometry.Geometry.Geometry, item.Note.Note, item.LogRecord.LogRecord}
 use Rattle.model.specs.declared.state.Entry.{Entry}
 use Rattle.history.proofs.Logs.{at, lastOf, last-le, last-page}
 use Rattle.history.proofs.Entries.{note, Mark, markAt, mark-zero, mark-ok, NoteOk, entryFrom, entry-noted, withMark, Tabled, tabled-set, tabled-same, tabled-map, spare-tabled, Indexed, sameKind, lastBy, lsnBy, slotBy, markOf, by-hit, by-other, by-miss, by-le, by-is, by-ge, mark-by, Later}

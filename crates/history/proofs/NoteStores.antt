@@ -15,8 +15,7 @@ use Rattle.model.specs.Checksum.{sealed}
 use Rattle.model.specs.Geometry.{Place, pageAt, slotAt, recordAt, noteAt, start, item, store, ring, mostNotes, slotOf, noteSlot}
 use Rattle.model.specs.Item.{noteBytes, isWritten}
 use Rattle.model.specs.AbstractLog.{Logged}
-use Rattle.model.specs.declared.geometry.Geometry.{Geometry}
-use Rattle.model.specs.declared.item.Note.{Note}
+use Rattle.model.specs.declared.{geometry.Geometry.Geometry, item.Note.Note}
 use Rattle.history.proofs.Logs.{at}
 use Rattle.history.proofs.Entries.{note, noNote, markAt, mark-hit, mark-miss, mark-append, lenN, noteN, NoteOk, Later}
 use Rattle.history.proofs.Records.{Faithful}

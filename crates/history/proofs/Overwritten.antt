@@ -1,7 +1,7 @@
 -- What a call's store in the log or in the notes overwrites is not whole, or spare.
 use mathlib.Core.Path.{_≡_, refl, sym, ap, _∙_, subst}
 use mathlib.Core.Logic.{_≢_, ⊎-elim}
-use mathlib.Core.Bool.{Bool, true, false, cond}
+use mathlib.Core.Bool.{true}
 use mathlib.Core.List.{List}
 use Prim.Native.Nat.{ℕ, suc, _+_, _-_, _≤_, _<_}
 use native.Mathlib.Omega.{arith}
@@ -13,26 +13,22 @@ use Rattle.laws.proofs.Tables.{byCases, true-not-false}
 use Rattle.laws.proofs.Ring.{slot-low, slot-again, slot-apart}
 use Rattle.model.specs.Tables.{firstOf}
 use Rattle.model.specs.Checksum.{sealed, sealImage}
-use Rattle.model.specs.Geometry.{Place, pageAt, slotAt, recordAt, noteAt, geometryOf, item, slotOf, logSlot, noteSlot}
-use Rattle.model.specs.Item.{recordOf, noteOf, noteBytes}
+use Rattle.model.specs.Geometry.{pageAt, slotAt, recordAt, noteAt, geometryOf, item, slotOf, logSlot, noteSlot}
+use Rattle.model.specs.Item.{recordOf, noteOf}
 use Rattle.model.specs.Passes.{imageCount, imagePlace, firstOld}
-use Rattle.model.specs.Scan.{noteRecord, noteCount}
+use Rattle.model.specs.Scan.{noteRecord}
 use Rattle.model.specs.Refusals.{pageDirty, beginRows, loadRows, changeRows, forceRows, writeRows, backupRows, releaseRows, noteRows, startCarryRows, restampRows, finishCarryRows}
 use Rattle.model.specs.Outcome.{StoredItem, nothing, oneItem, newHeading, decided}
 use Rattle.model.specs.Effects.{noteStored, backupDone, beginDone, changeDone, forceDone, loadDone, releaseDone, restampDone, writeDone}
 use Rattle.model.specs.Calls.{Call, outcomeOf, forceOf, noteCall}
-use Rattle.model.specs.declared.command.Command.{Command}
-use Rattle.model.specs.declared.command.Command.the-variants.{Begin, Load, Change, Force, Write, Backup, Release, Note as NoteCall, StartCarry, Restamp, FinishCarry}
+use Rattle.model.specs.declared.{command.Command.Command, geometry.Geometry.Geometry, item.Note.Note}
+use Rattle.model.specs.declared.{state.PendingNote.PendingNote, state.State.State}
+use Rattle.model.specs.declared.command.Command.the-variants.{Begin, Load, Force, Write, Release, StartCarry, Restamp, FinishCarry}
+use Rattle.model.specs.declared.state.PendingNote.the-variants.{Absent, Present}
+use Rattle.model.specs.declared.command.Command.the-variants.{Change, Backup, Note as NoteCall}
 use Rattle.model.specs.AbstractLog.{Logged}
 use Rattle.model.specs.RingClaim.{SpareRecord, SpareNote, RecordFree, NoteFree}
-use Rattle.model.specs.declared.geometry.Geometry.{Geometry}
-use Rattle.model.specs.declared.item.Note.{Note}
-use Rattle.model.specs.declared.item.LogRecord.{LogRecord}
-use Rattle.model.specs.declared.state.PendingNote.{PendingNote}
-use Rattle.model.specs.declared.state.PendingNote.the-variants.{Absent, Present}
-use Rattle.model.specs.declared.state.State.{State}
 use Rattle.history.proofs.Logs.{at}
-use Rattle.history.proofs.Entries.{note as noteIn, Later}
 use Rattle.history.proofs.Disk.{NoteStands}
 use Rattle.history.proofs.Inv.{PendingOk}
 use Rattle.history.proofs.LogScan.{rec-at}
@@ -40,6 +36,7 @@ use Rattle.history.proofs.NoteScan.{note-back, note-count}
 use Rattle.history.proofs.Context.{Ctx, geo, len}
 use Rattle.history.proofs.Asked.{read, whole}
 use Rattle.history.proofs.Lost.{spare-record}
+use Rattle.history.proofs.Entries.{note as noteIn}
 
 -- ---- which calls store there
 

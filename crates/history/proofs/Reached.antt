@@ -21,10 +21,8 @@ use Rattle.model.specs.AbstractLog.{emptyLog}
 use Rattle.model.specs.History.{Power, off, on, storedBefore, freshMachine}
 use Rattle.model.specs.Carry.{startsIn}
 use Rattle.model.specs.Claim.{History, Legal, fresh, reached, logOf, durableOf}
-use Rattle.model.specs.declared.geometry.Geometry.{Geometry}
-use Rattle.model.specs.declared.geometry.Heading.{Heading}
+use Rattle.model.specs.declared.{geometry.Geometry.Geometry, geometry.Heading.Heading, state.State.State}
 use Rattle.model.specs.declared.geometry.Heading.the-variants.{First, Second}
-use Rattle.model.specs.declared.state.State.{State}
 use Rattle.history.proofs.Entries.{Mark, mark-zero}
 use Rattle.history.proofs.Leaf.{valid-sealed}
 use Rattle.history.proofs.Inv.{Inv}

@@ -18,21 +18,20 @@ use Rattle.model.specs.Scan.{firstHeld, indexOf}
 use Rattle.model.specs.Item.{imageLsn}
 use Rattle.model.specs.Repair.{viewOf, walkOf}
 use Rattle.model.specs.State.{frameCount, frameBytes, validMemory, holder, held, blank}
-use Rattle.model.specs.Refusals.{frameBlocked, pageDirty, chainBroken, chainBelow, foundBelow, restartRows, beginRows, loadRows, changeRows, forceRows, writeRows, backupRows, releaseRows, noteRows, startCarryRows, restampRows, finishCarryRows, inspectRows, beginTail, loadTail, walkTail, changeTail, writeTail, backupTail, releaseTail}
+use Rattle.model.specs.Refusals.{frameBlocked, pageDirty, foundBelow, restartRows, beginRows, loadRows, changeRows, forceRows, writeRows, backupRows, releaseRows, noteRows, startCarryRows, restampRows, finishCarryRows, inspectRows, beginTail, loadTail, walkTail, changeTail, writeTail, backupTail, releaseTail}
+use Rattle.laws.proofs.Conditions.{chainBroken, chainBelow}
 use Rattle.model.specs.Outcome.{StoredItem, Outcome, decided, refusalOf}
 use Rattle.model.specs.Effects.{noteStored, backupDone, beginDone, changeDone, forceDone, loadDone, releaseDone, restampDone, writeDone}
 use Rattle.model.specs.Calls.{loadOf, Call, rowsOf, outcomeOf, noPayload}
 use Rattle.model.specs.Restart.{restartOf, inspectOf}
-use Rattle.model.specs.declared.command.Command.the-variants.{Begin, Load, Change, Force, Write, Backup, Release, Note as NoteCall, StartCarry, Restamp, FinishCarry}
+use Rattle.model.specs.declared.{geometry.Geometry.Geometry, geometry.Heading.the-variants.First, item.Note.Note}
+use Rattle.model.specs.declared.{state.PendingNote.PendingNote, state.State.State}
+use Rattle.model.specs.declared.command.Command.the-variants.{Begin, Load, Force, Write, Release, StartCarry, Restamp, FinishCarry}
+use Rattle.model.specs.declared.state.PendingNote.the-variants.{Absent, Present}
+use Rattle.model.specs.declared.command.Command.the-variants.{Change, Backup, Note as NoteCall}
 use Rattle.model.specs.Passes.{oldLeft}
 use Rattle.model.specs.Carry.{carries}
 use Rattle.model.specs.AbstractLog.{Logged}
-use Rattle.model.specs.declared.geometry.Geometry.{Geometry}
-use Rattle.model.specs.declared.geometry.Heading.the-variants.{First}
-use Rattle.model.specs.declared.item.Note.{Note}
-use Rattle.model.specs.declared.state.PendingNote.{PendingNote}
-use Rattle.model.specs.declared.state.PendingNote.the-variants.{Absent, Present}
-use Rattle.model.specs.declared.state.State.{State}
 use Rattle.history.specs.Facts.{Ordinary}
 use Rattle.history.proofs.Logs.{lastOf, last-mono}
 use Rattle.history.proofs.Disk.{Holds, Noted}

@@ -3,7 +3,7 @@ use mathlib.Core.Path.{_≡_}
 use mathlib.Core.Logic.{_≢_}
 use mathlib.Core.Bool.{false}
 use mathlib.Core.List.{List}
-use Prim.Native.Nat.{ℕ, _-_, _≤_, _<_}
+use Prim.Native.Nat.{ℕ, _-_, _≤_}
 use native.Mathlib.Omega.{arith}
 use lib.ListN.{length}
 use Rattle.model.specs.Tables.{firstOf}
@@ -13,12 +13,10 @@ use Rattle.model.specs.Refusals.{releaseRows}
 use Rattle.model.specs.Outcome.{StoredItem, nothing, volumeAfter}
 use Rattle.model.specs.Effects.{withFrame, withFrames}
 use Rattle.model.specs.AbstractLog.{Logged}
-use Rattle.model.specs.declared.geometry.Geometry.{Geometry}
-use Rattle.model.specs.declared.answer.Answer.{Answer}
-use Rattle.model.specs.declared.state.State.{State}
+use Rattle.model.specs.declared.{geometry.Geometry.Geometry, answer.Answer.Answer, state.State.State}
 use Rattle.history.proofs.Inv.{past-cons, frame}
 use Rattle.history.proofs.FrameSteps.{frames-empty}
-use Rattle.history.proofs.Context.{Ctx, Preserved, passed, in-range, geo, Found, found-frame, unblocked}
+use Rattle.history.proofs.Context.{Ctx, Preserved, passed, in-range, geo, found-frame, unblocked}
 
 module _ {C : Type 0} {g : Geometry} {v m : List ℕ} {past : List StoredItem} {s : State} {k w : List Logged}
     (x : Ctx C g v m past s k w) where

@@ -1,34 +1,31 @@
 -- The rings of every legal history: 23 exactly, demand 3 without damage, and the value of `RingClaim`.
-use mathlib.Core.Path.{_≡_, refl, sym, ap, _∙_, subst}
+use mathlib.Core.Path.{_≡_, refl, sym, ap, _∙_}
 use mathlib.Core.Logic.{_≢_, _↔_}
-use mathlib.Core.Bool.{Bool, true, false, not, _&&_}
-use mathlib.Core.List.{List, [], _∷_, _++_}
+use mathlib.Core.Bool.{true, false, not}
+use mathlib.Core.List.{List, [], _∷_}
 use Prim.Native.Nat.{ℕ, zero, suc, _-_, _≤_, _<_}
 use native.Mathlib.Omega.{arith}
 use native.Mathlib.Decide.{decLt, ℕ-discrete}
 use lib.ListN.{length, take}
 use lib.Seq.{take-all}
 use lib.Dec.{eqb, leb}
-use borrow.Author.Tests.{eqb-true, eq-eqb, ne-eqb, leb-true, leb-false}
+use borrow.Author.Tests.{eq-eqb, ne-eqb, leb-true, leb-false}
 use Rattle.laws.proofs.Tables.{byCases, and-left, and-right, and-both, true-not-false}
 use Rattle.model.specs.Change.{kindOf}
-use Rattle.model.specs.Geometry.{pageAt, slotAt, geometryOf, item, ring}
-use Rattle.model.specs.Item.{imageLsn, validImage, recordFor, isFormat}
+use Rattle.model.specs.Geometry.{pageAt, slotAt, item}
+use Rattle.model.specs.Item.{imageLsn, validImage, isFormat}
 use Rattle.model.specs.Index.{entryOf}
 use Rattle.model.specs.Scan.{logRecord, durableCount, firstHeld, indexOf}
 use Rattle.model.specs.Outcome.{refusalOf}
 use Rattle.model.specs.Calls.{loadOf}
-use Rattle.model.specs.AbstractLog.{Logged, lastPlace, Left, old, new, torn}
+use Rattle.model.specs.AbstractLog.{lastPlace, Left, old, new, torn}
 use Rattle.model.specs.History.{Power, off, on, Machine, Event, restart, perform, crash, crashIn, damage, isRestamp, step}
-use Rattle.model.specs.Claim.{History, Legal, fresh, reached, durableOf, Safe, inspection, Alike}
+use Rattle.model.specs.Claim.{History, Legal, fresh, reached, durableOf, Safe, inspection}
 use Rattle.model.specs.RingClaim.{runStart, Unrepairable, isTorn, harmless, undamaged, RingClaim}
-use Rattle.model.specs.declared.geometry.Geometry.{Geometry}
-use Rattle.model.specs.declared.item.LogRecord.{LogRecord}
-use Rattle.model.specs.declared.state.Entry.{Entry}
-use Rattle.model.specs.declared.state.State.{State}
+use Rattle.model.specs.declared.{item.LogRecord.LogRecord, state.Entry.Entry, state.State.State}
 use Rattle.history.specs.Facts.{volumeOf, headingOf}
 use Rattle.history.proofs.Logs.{at, lastAt, lastOf, last-le, last-mono, last-take, last-is}
-use Rattle.history.proofs.LogScan.{first, first-is, started, durable-count, record-read}
+use Rattle.history.proofs.LogScan.{first, started, durable-count, record-read}
 use Rattle.history.proofs.Views.{Unserved}
 use Rattle.history.proofs.Steps.{tearsNoted, harms, unharmed}
 use Rattle.history.proofs.Reached.{present, tied, live}

@@ -1,16 +1,16 @@
 -- A section of a volume (the log or the notes) that holds n items in L slots: the count that the scan finds and the run start.
-use mathlib.Core.Path.{_≡_, refl, sym, ap, _∙_}
-use mathlib.Core.Logic.{_≢_, _⊎_, inl, inr, ⊎-elim}
+use mathlib.Core.Path.{_≡_, sym, ap, _∙_}
+use mathlib.Core.Logic.{_⊎_, ⊎-elim}
 use mathlib.Core.Bool.{Bool, true, false, cond, not, _&&_, _||_}
 use mathlib.Core.List.{List}
-use Prim.Native.Nat.{ℕ, zero, suc, _+_, _-_, _*_, _≤_, _<_}
+use Prim.Native.Nat.{ℕ, suc, _+_, _-_, _*_, _≤_, _<_}
 use native.Mathlib.Omega.{arith}
 use native.Mathlib.Decide.{decLt, ℕ-discrete}
 use lib.Dec.{eqb, leb}
 use borrow.Author.Tests.{eq-eqb, le-leb}
 use Rattle.laws.proofs.Tables.{byCases, and-both, or-left, or-right, true-not-false}
 use Rattle.laws.proofs.Ring.{slot-low, slot-in, Seat, seat, Run, Start, startFrom, run-start, highest-le, highest-ge}
-use Rattle.model.specs.Bytes.{le, field, part, allZero}
+use Rattle.model.specs.Bytes.{field, part, allZero}
 use Rattle.model.specs.Checksum.{sealed, sealedRun}
 use Rattle.model.specs.Geometry.{Place, item, slotOf}
 use Rattle.model.specs.Scan.{highest, endsIn}

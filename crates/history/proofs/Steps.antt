@@ -18,8 +18,7 @@ use Rattle.model.specs.Calls.{Call, outcomeOf, restampOf}
 use Rattle.model.specs.AbstractLog.{AbstractLog, Left, old, new, torn, leftNew, stepCall, stepCut}
 use Rattle.model.specs.History.{Power, off, on, Machine, Event, restart, perform, crash, crashIn, damage, lent, isRestamp, isStartCarry, payloadFits, tornFits, startFits, storedBefore, step, allowed, stepLog, allAllowed, run, logAfter}
 use Rattle.model.specs.Carry.{carries, startsIn}
-use Rattle.model.specs.declared.geometry.Geometry.{Geometry}
-use Rattle.model.specs.declared.state.State.{State}
+use Rattle.model.specs.declared.{geometry.Geometry.Geometry, state.State.State}
 use Rattle.history.proofs.Inv.{Inv}
 use Rattle.history.proofs.Context.{Ctx}
 use Rattle.history.proofs.Calls.{inv-call, inv-crash, plain-after, plain-left}

@@ -1,5 +1,5 @@
 -- Demands 2 and 3, proved for every legal history.
-use mathlib.Core.Path.{_≡_, refl, sym, ap, _∙_, subst}
+use mathlib.Core.Path.{_≡_, refl, sym, ap, _∙_}
 use mathlib.Core.Logic.{_≢_, _⊎_, inl, inr, ⊎-elim, _↔_}
 use mathlib.Core.List.{List, _++_}
 use Prim.Native.Nat.{ℕ, zero, suc, _≤_}
@@ -23,15 +23,13 @@ use Rattle.model.specs.Calls.{loadOf}
 use Rattle.model.specs.Index.{entryOf}
 use Rattle.model.specs.Scan.{firstHeld, indexOf}
 use Rattle.model.specs.AbstractLog.{Logged, lastPlace}
-use Rattle.model.specs.History.{Power, on}
+use Rattle.model.specs.History.{on}
 use Rattle.model.specs.Claim.{History, Legal, reached, logOf, durableOf, inspection, shown, Gone, Proviso, Safe, Inspects, Loads, Agree, Begins, Demand2, Demand3}
-use Rattle.model.specs.declared.geometry.Geometry.{Geometry}
-use Rattle.model.specs.declared.state.State.{State}
+use Rattle.model.specs.declared.{geometry.Geometry.Geometry, state.State.State}
 use Rattle.history.proofs.Logs.{at, lastOf, bodyOf, last-hit, last-le, replay-last, replay-append, replay-is, last-is}
 use Rattle.history.proofs.Leaf.{frame-size}
 use Rattle.history.proofs.Records.{AllFair}
 use Rattle.history.proofs.Sections.{volume-sized, most-high}
-use Rattle.history.proofs.Inv.{Inv}
 use Rattle.history.proofs.Memory.{frame-same}
 use Rattle.history.proofs.Context.{Ctx, geo, sized, few, body-size, durable-last}
 use Rattle.history.proofs.Loads.{Loaded, loads, loads-above, never-broken, below-only, load-image}

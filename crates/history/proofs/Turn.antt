@@ -16,12 +16,9 @@ use Rattle.model.specs.Item.{validImage, isWritten}
 use Rattle.model.specs.Passes.{isImage}
 use Rattle.model.specs.Outcome.{StoredItem, newHeading}
 use Rattle.model.specs.AbstractLog.{Logged}
-use Rattle.model.specs.declared.geometry.Geometry.{Geometry}
-use Rattle.model.specs.declared.geometry.Heading.the-variants.{Second}
-use Rattle.model.specs.declared.item.Note.{Note}
-use Rattle.model.specs.declared.state.PendingNote.{PendingNote}
+use Rattle.model.specs.declared.{geometry.Geometry.Geometry, geometry.Heading.the-variants.Second, item.Note.Note}
+use Rattle.model.specs.declared.{state.PendingNote.PendingNote, state.State.State}
 use Rattle.model.specs.declared.state.PendingNote.the-variants.{Absent, Present}
-use Rattle.model.specs.declared.state.State.{State}
 use Rattle.history.proofs.Entries.{markAt, mark-ok, Later}
 use Rattle.history.proofs.Records.{Faithful}
 use Rattle.history.proofs.Sections.{Volume, Sized, volume-sized, Tail}

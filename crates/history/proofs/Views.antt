@@ -1,6 +1,6 @@
 -- A page's repair from a volume that holds a list of changes and notes: the walk is unbroken, its body is the page's replay unless it goes
 -- below the run, and it does not go there where record 1 has not left or the proviso holds.
-use mathlib.Core.Path.{_≡_, refl, sym, ap, _∙_}
+use mathlib.Core.Path.{_≡_, refl, _∙_}
 use mathlib.Core.Logic.{_≢_, _⊎_, inl, inr, ⊎-elim}
 use mathlib.Core.Bool.{Bool, true, false, cond, not, _&&_, _||_}
 use mathlib.Core.List.{List}
@@ -9,20 +9,18 @@ use native.Mathlib.Omega.{arith}
 use lib.ListN.{length}
 use lib.Dec.{eqb, leb}
 use borrow.Author.Tests.{eqb-true, eqb-false, eq-eqb, leb-true, leb-false}
-use Rattle.laws.proofs.Tables.{byCases, and-left, and-right, and-both, or-cases, not-true, true-not-false}
+use Rattle.laws.proofs.Tables.{byCases, and-left, and-right, or-cases, not-true, true-not-false}
 use Rattle.model.specs.Geometry.{topNumber, pageAt, slotAt, item}
 use Rattle.model.specs.Change.{kindOf}
-use Rattle.model.specs.declared.state.Entry.{Entry}
+use Rattle.model.specs.declared.{state.Entry.Entry, geometry.Geometry.Geometry, item.Note.Note}
 use Rattle.model.specs.Item.{imageLsn, validImage, isWritten}
 use Rattle.model.specs.Scan.{firstHeld, gone}
 use Rattle.model.specs.Repair.{View, viewOf, walkOf, isBroken, isBelow, ownStart, backupStart, rebuiltBody}
 use Rattle.model.specs.Claim.{startStands}
 use Rattle.model.specs.AbstractLog.{Logged}
-use Rattle.model.specs.declared.geometry.Geometry.{Geometry}
-use Rattle.model.specs.declared.item.Note.{Note}
 use Rattle.history.proofs.Logs.{at, lastAt, lastOf, last-ge, last-mono, replayAt}
-use Rattle.history.proofs.Entries.{note, Mark, markAt, markOf, lastBy, by-is, by-le, mark-by, entryFrom}
-use Rattle.history.proofs.Records.{ReplayOf, Faithful}
+use Rattle.history.proofs.Entries.{note, Mark, markAt, lastBy, by-is, by-le, mark-by, entryFrom}
+use Rattle.history.proofs.Records.{Faithful}
 use Rattle.history.proofs.Walk.{walk-unbroken, rebuilt-is, walk-stands, walk-stopped, walk-lost}
 use Rattle.history.proofs.Sections.{Sized, volume-sized, most-high}
 use Rattle.history.proofs.Disk.{Holds, Noted}

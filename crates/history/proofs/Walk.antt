@@ -1,7 +1,7 @@
 -- The chain walk over a log whose run holds a list of changes from a number on, by where it stops: it never breaks, what it replays is the
 -- page's replay unless it goes below the run, and it does not go there where a start at or above the page's last lost record stands.
 use mathlib.Core.Path.{_≡_, refl, sym, ap, _∙_, subst}
-use mathlib.Core.Logic.{_≢_, _⊎_, inl, inr, ⊎-elim}
+use mathlib.Core.Logic.{_≢_, _⊎_, ⊎-elim}
 use mathlib.Core.Bool.{Bool, true, false, cond, _&&_, _||_}
 use mathlib.Core.List.{List, [], _∷_}
 use Prim.Native.Nat.{ℕ, zero, suc, _-_, _≤_, _<_}
@@ -10,8 +10,8 @@ use lib.ListN.{length}
 use lib.Dec.{eqb, leb, ltb}
 use borrow.Author.Tests.{eq-eqb, eqb-true, eqb-false, lt-ltb, ltb-true, ltb-false, le-leb}
 use Rattle.laws.proofs.Tables.{byCases, and-left, and-right, or-right, or-left, true-not-false}
-use Rattle.model.specs.declared.geometry.Geometry.{Geometry}
-use Rattle.model.specs.declared.answer.Stop.the-variants.{Own, Backup, Format, Below}
+use Rattle.model.specs.declared.{geometry.Geometry.Geometry, answer.Stop.the-variants.Below}
+use Rattle.model.specs.declared.answer.Stop.the-variants.{Own, Backup, Format}
 use Rattle.model.specs.Geometry.{topNumber}
 use Rattle.model.specs.Change.{kindOf, zeroBody, applyChange}
 use Rattle.model.specs.Item.{imageLsn, imageBody, validImage, recordOf, isFormat}

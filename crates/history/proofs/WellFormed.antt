@@ -17,11 +17,9 @@ use Rattle.model.specs.Index.{emptyEntry, entryRow, entryOf}
 use Rattle.model.specs.State.{frameCount, validMemory, frameRow, held, blank, lastNumber, pendingNoteFits, frameFits, entryFits, pageFits, wellFormed}
 use Rattle.model.specs.Outcome.{StoredItem}
 use Rattle.model.specs.AbstractLog.{Logged}
-use Rattle.model.specs.declared.geometry.Geometry.{Geometry}
-use Rattle.model.specs.declared.item.Note.{Note}
-use Rattle.model.specs.declared.state.PendingNote.{PendingNote}
-use Rattle.model.specs.declared.state.PendingNote.the-variants.{Absent, Present}
+use Rattle.model.specs.declared.{geometry.Geometry.Geometry, item.Note.Note, state.PendingNote.PendingNote}
 use Rattle.model.specs.declared.state.State.{State}
+use Rattle.model.specs.declared.state.PendingNote.the-variants.{Absent, Present}
 use Rattle.history.proofs.Logs.{lastAt, lastOf, last-le, last-mono}
 use Rattle.history.proofs.Entries.{markAt, NoteOk, mark-ok, mark-past, entryFrom}
 use Rattle.history.proofs.Records.{last-past}

@@ -20,8 +20,7 @@ use Rattle.model.specs.Passes.{isImage}
 use Rattle.model.specs.History.{on, storedBefore}
 use Rattle.model.specs.Carry.{carries}
 use Rattle.model.specs.Claim.{History, Legal, reached, logOf, durableOf, inspection, Gone, Proviso}
-use Rattle.model.specs.declared.geometry.Geometry.{Geometry}
-use Rattle.model.specs.declared.state.State.{State}
+use Rattle.model.specs.declared.{geometry.Geometry.Geometry, state.State.State}
 
 abbrev pub volumeOf : History → List ℕ
 volumeOf h = reached h .volume

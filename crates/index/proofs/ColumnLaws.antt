@@ -8,16 +8,14 @@ use native.Mathlib.Omega.{arith}
 use lib.Dec.{eqb, leb}
 use lib.ListN.{length, drop, getD, set, take, replicate, length-map, length-set, length-replicate, drop-of-length-le, List·getD-map, List·getD-eq-default}
 use lib.Seq.{drop-cons, map-set-same, take-suc-set, take-suc, take-all}
-use borrow.Author.Tests.{eq-eqb, ne-eqb, le-leb}
+use borrow.Author.Tests.{le-leb}
 use Rattle.laws.proofs.Tables.{byCases, every-same}
 use Rattle.model.specs.Tables.{every}
 use Rattle.model.specs.Item.{isWritten}
 use Rattle.model.specs.Index.{emptyEntry, emptyIndex, entryRow, withNote, settled, enterNote, slotUsed}
 use Rattle.model.specs.Scan.{logRecord, noteRecord, logIndex, runIndex, noteIndex}
-use Rattle.model.specs.declared.geometry.Geometry.{Geometry}
-use Rattle.model.specs.declared.item.Note.{Note}
-use Rattle.model.specs.declared.state.Entry.{Entry}
-use Rattle.index.specs.Columns.{lasts, durables, writtens, slotsIn, backups, Noted, Columns, Blank, columnRow, columnsOrdered, slotIn, Wide, Unwritten}
+use Rattle.model.specs.declared.{geometry.Geometry.Geometry, item.Note.Note, state.Entry.Entry}
+use Rattle.index.specs.Columns.{lasts, durables, writtens, slotsIn, backups, Columns, Blank, columnRow, columnsOrdered, slotIn, Wide, Unwritten}
 
 -- ---- a column
 

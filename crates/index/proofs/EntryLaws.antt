@@ -1,18 +1,17 @@
 -- Laws of the index: a page's row, and the search for a slot as a loop makes it.
-use mathlib.Core.Path.{_≡_, refl, sym, ap, _∙_}
-use mathlib.Core.Bool.{Bool, true, false, cond, _||_}
-use mathlib.Core.List.{List, [], _∷_}
-use Prim.Native.Nat.{ℕ, zero, suc, _+_, _-_, _≤_, _<_}
+use mathlib.Core.Path.{_≡_, _∙_}
+use mathlib.Core.Bool.{true, false}
+use mathlib.Core.List.{List}
+use Prim.Native.Nat.{ℕ, _+_, _-_, _≤_, _<_}
 use native.Mathlib.Numerals.{add-one}
 use native.Mathlib.Omega.{arith}
-use lib.Dec.{leb, eqb, lit<}
+use lib.Dec.{leb, lit<}
 use lib.ListN.{length, drop, getD, set, drop-of-length-le}
 use lib.Seq.{drop-cons}
 use borrow.Author.Tests.{le-leb, leb-true, eq-eqb, ne-eqb}
-use Rattle.laws.proofs.Tables.{byCases, when-true, when-false}
-use Rattle.model.specs.Index.{emptyEntry, entryOf, slotUsed, withNote, enterNote}
-use Rattle.model.specs.declared.item.Note.{Note}
-use Rattle.model.specs.declared.state.Entry.{Entry}
+use Rattle.laws.proofs.Tables.{byCases, when-true}
+use Rattle.model.specs.Index.{emptyEntry, slotUsed, withNote, enterNote}
+use Rattle.model.specs.declared.{item.Note.Note, state.Entry.Entry}
 use Rattle.index.specs.Rows.{rowOf}
 
 -- ---- a page's row

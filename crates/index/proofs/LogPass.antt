@@ -1,5 +1,5 @@
 -- Laws of the log's scan: one record as it was judged and entered, and what the whole log comes to.
-use mathlib.Core.Path.{_≡_, refl, sym, ap, _∙_, subst}
+use mathlib.Core.Path.{_≡_, sym, ap, _∙_, subst}
 use mathlib.Core.Bool.{Bool, true, false, _&&_, _||_}
 use mathlib.Core.List.{List, [], _∷_}
 use Prim.Native.Nat.{ℕ, suc, _+_, _-_, _%_, _≤_, _<_}
@@ -11,13 +11,11 @@ use Rattle.laws.proofs.Tables.{all-at, within-bounds, every-none, every-more, e
 use Rattle.laws.proofs.Scanned.{held-low}
 use Rattle.model.specs.Tables.{every, within}
 use Rattle.model.specs.Checksum.{sealed}
-use Rattle.model.specs.Geometry.{recordAt, logSlot, item}
+use Rattle.model.specs.Geometry.{logSlot, item}
 use Rattle.model.specs.Item.{recordOf, recordLayout, firstIsFormat}
 use Rattle.model.specs.Index.{emptyEntry, entryOf}
-use Rattle.model.specs.Scan.{logRecord, durableCount, firstHeld, logIndex, runIndex, recordFits, linked, endsIn, validLog}
-use Rattle.model.specs.declared.geometry.Geometry.{Geometry}
-use Rattle.model.specs.declared.item.LogRecord.{LogRecord}
-use Rattle.model.specs.declared.state.Entry.{Entry}
+use Rattle.model.specs.Scan.{logRecord, durableCount, firstHeld, logIndex, runIndex, recordFits, endsIn, validLog}
+use Rattle.model.specs.declared.{geometry.Geometry.Geometry, item.LogRecord.LogRecord, state.Entry.Entry}
 use Rattle.index.specs.Rows.{rowOf}
 use Rattle.index.specs.Columns.{lasts}
 use Rattle.index.specs.Sections.{logSection, logRun, recordFollows}

@@ -1,12 +1,12 @@
 -- Rows past a volume's pages: notes that keep the rule leave nothing in them.
-use Prim.Native.Nat.{ℕ, zero, suc, _+_, _-_, _≤_, _<_}
-use mathlib.Core.Path.{_≡_, refl, sym, ap, _∙_}
-use mathlib.Core.Bool.{Bool, true, _&&_, _||_}
+use Prim.Native.Nat.{ℕ, zero, suc, _+_, _-_, _≤_}
+use mathlib.Core.Path.{_≡_, sym, ap, _∙_}
+use mathlib.Core.Bool.{Bool, true, _||_}
 use mathlib.Core.List.{List, [], _∷_}
 use native.Mathlib.Omega.{arith}
 use native.Mathlib.Decide.{decLt}
 use lib.Dec.{eqb, ltb}
-use lib.ListN.{length, getD, set, replicate, length-replicate, List·getD-eq-default, getD-replicate}
+use lib.ListN.{getD, replicate, length-replicate, List·getD-eq-default, getD-replicate}
 use lib.Seq.{getD-set-other}
 use Rattle.laws.proofs.Tables.{all-at, and-left, and-right, within-bounds}
 use Rattle.model.specs.Tables.{every, within}
@@ -15,8 +15,7 @@ use Rattle.model.specs.Geometry.{noteSlot, item}
 use Rattle.model.specs.Item.{noteLayout}
 use Rattle.model.specs.Index.{entryOf, withNote, enterNote}
 use Rattle.model.specs.Scan.{endsIn, noteSlots, logRecord, noteRecord, durableCount, firstHeld, noteCount, firstNote, noteIndex, noteFollows, noteFits}
-use Rattle.model.specs.declared.geometry.Geometry.{Geometry}
-use Rattle.model.specs.declared.state.Entry.{Entry}
+use Rattle.model.specs.declared.{geometry.Geometry.Geometry, state.Entry.Entry}
 use Rattle.index.specs.Columns.{writtens, Noted, Unwritten}
 use Rattle.index.specs.Sections.{notedIndex, notesKept}
 use Rattle.index.proofs.ColumnLaws.{column-set, log-written}

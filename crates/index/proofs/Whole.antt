@@ -1,17 +1,14 @@
 -- Laws of the whole scan: what its sections come to, refusal by refusal, and what a clean one gives.
 use mathlib.Core.Path.{_≡_, refl, sym, ap, _∙_}
-use mathlib.Core.Bool.{Bool, true, false, cond, not, _&&_}
+use mathlib.Core.Bool.{Bool, true, false, not, _&&_}
 use mathlib.Core.List.{List, [], _∷_}
-use Prim.Native.Nat.{ℕ, suc, _-_, _≤_}
-use borrow.Author.Tests.{eqb-false}
+use Prim.Native.Nat.{ℕ, suc, _-_}
 use Rattle.laws.proofs.Tables.{and-left}
 use Rattle.laws.proofs.Places.{valid-facts}
-use Rattle.model.specs.Tables.{firstOf, every}
+use Rattle.model.specs.Tables.{firstOf}
 use Rattle.model.specs.Geometry.{geometryOf, validVolume}
-use Rattle.model.specs.Index.{entryOf, settled}
-use Rattle.model.specs.Scan.{validLog, durableCount, firstHeld, runIndex, validNotes, noteCount, firstNote, noteIndex, indexOf}
-use Rattle.model.specs.declared.geometry.Geometry.{Geometry}
-use Rattle.model.specs.declared.state.Entry.{Entry}
+use Rattle.model.specs.Scan.{validLog, durableCount, firstHeld, runIndex, validNotes, noteCount, firstNote}
+use Rattle.model.specs.declared.{geometry.Geometry.Geometry, state.Entry.Entry}
 use Rattle.index.specs.Columns.{lasts, Noted, Columns, columnRow, columnsOrdered, Unwritten}
 use Rattle.index.specs.Sections.{Sized, logRun, noteRun, notedIndex, notesKept}
 use Rattle.index.specs.Scanned.{scanRows, scanRefusal, columnIndex, scannedIndex, countsOf, foundOf, scannedOf}

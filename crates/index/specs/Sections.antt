@@ -9,9 +9,7 @@ use Rattle.model.specs.Tables.{all, within}
 use Rattle.model.specs.Geometry.{lengthFor, recordAt, noteAt, start, ring}
 use Rattle.model.specs.Item.{firstIsFormat, noteLayout, isWritten}
 use Rattle.model.specs.Scan.{validRun, noteSlots, durableCount, firstHeld, noteCount, firstNote, noteIndex, noteFits}
-use Rattle.model.specs.declared.geometry.Geometry.{Geometry}
-use Rattle.model.specs.declared.item.LogRecord.{LogRecord}
-use Rattle.model.specs.declared.item.Note.{Note}
+use Rattle.model.specs.declared.{geometry.Geometry.Geometry, item.LogRecord.LogRecord, item.Note.Note}
 use Rattle.model.specs.declared.state.Entry.{Entry}
 use Rattle.section.specs.Section.{frontIn}
 use Rattle.section.specs.declared.Section.{Section}

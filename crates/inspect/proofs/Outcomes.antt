@@ -2,8 +2,7 @@
 use mathlib.Core.Path.{_≡_, refl, sym, ap, _∙_, subst}
 use mathlib.Core.Bool.{Bool, true, false, cond, not}
 use mathlib.Core.List.{List, [], _∷_}
-use Prim.Native.Nat.{ℕ, _≤_}
-use native.Mathlib.Omega.{arith}
+use Prim.Native.Nat.{ℕ}
 use lib.Dec.{eqb}
 use lib.ListN.{length}
 use borrow.Author.Tests.{eq-eqb, ne-eqb, eqb-true, eqb-false, not-false}
@@ -19,11 +18,8 @@ use Rattle.model.specs.Scan.{validLog, validNotes, indexOf}
 use Rattle.model.specs.Repair.{viewOf, walkOf, isBelow, repairOf, rebuilt}
 use Rattle.model.specs.Refusals.{inspectRows, foundBelow}
 use Rattle.model.specs.Restart.{inspectOf}
-use Rattle.model.specs.declared.geometry.Geometry.{Geometry}
-use Rattle.model.specs.declared.state.Entry.{Entry}
-use Rattle.model.specs.declared.answer.Answer.{Answer}
+use Rattle.model.specs.declared.{geometry.Geometry.Geometry, answer.Repair.Repair}
 use Rattle.model.specs.declared.answer.Answer.the-variants.{Refused, Repaired}
-use Rattle.model.specs.declared.answer.Repair.{Repair}
 use Rattle.index.specs.Scanned.{scanRows, scanRefusal, foundOf}
 use Rattle.index.specs.declared.Found.{Found}
 use Rattle.index.proofs.Whole.{clean}

@@ -25,8 +25,8 @@ use Rattle.model.specs.Demand1.{DiffersAt, AtMostOneItem, Arrays}
 use Rattle.reports.specs.Forecast.{forecastOf, forecastRow, JudgedAlike}
 use Rattle.model.specs.Precedence.{inspectExceptions, ordered}
 use Rattle.reports.specs.ReportsOrdered.{archiveExceptions}
-use Rattle.model.specs.declared.geometry.Heading.the-variants.{First, Second}
 use Rattle.model.specs.declared.state.State.{State}
+use Rattle.model.specs.declared.geometry.Heading.the-variants.{First, Second}
 use Rattle.cases.specs.Opened.{opened}
 use Rattle.cases.specs.Worked.{historyOf}
 use Rattle.cases.specs.Histories.{forcesCut}

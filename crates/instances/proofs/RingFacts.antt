@@ -20,8 +20,7 @@ use Rattle.model.specs.AbstractLog.{lastPlace}
 use Rattle.model.specs.History.{Power, off, on, damage, isOn, allAllowed}
 use Rattle.model.specs.Claim.{History, Legal, fresh, reached, durableOf, inspection}
 use Rattle.model.specs.RingClaim.{ChangeOf, SpareRecord, SpareNote, runStart, Unrepairable}
-use Rattle.model.specs.declared.geometry.Heading.the-variants.{Second}
-use Rattle.model.specs.declared.state.State.{State}
+use Rattle.model.specs.declared.{geometry.Heading.the-variants.Second, state.State.State}
 use Rattle.cases.specs.Opened.{opened}
 use Rattle.cases.specs.Rings.{turned, notesTurn}
 use Rattle.history.proofs.Rings.{rings}

@@ -1,20 +1,18 @@
 -- A ring whose record 1 has left, as an instance of the theorem: the history is legal and gone, by computation, and so inspection shows the
 -- replay of its three changes, by theorems C and B. So the hypotheses of the theorems are met by a ring that has turned.
-use Prim.Native.Nat.{ℕ, suc, _≤_}
+use Prim.Native.Nat.{ℕ}
 use mathlib.Core.Path.{_≡_, refl}
-use mathlib.Core.Logic.{_≢_}
 use mathlib.Core.Bool.{Bool, true, false}
-use mathlib.Core.List.{List, [], _∷_}
+use mathlib.Core.List.{List}
 use native.Mathlib.Omega.{arith}
-use lib.Dec.{T, eqb, eqb→eq}
+use lib.Dec.{T, eqb→eq}
 use lib.ListN.{length, replicate}
-use borrow.Author.Tests.{eqb-false}
 use Rattle.model.specs.Geometry.{lengthFor}
 use Rattle.model.specs.Outcome.{refusalOf}
 use Rattle.model.specs.Restart.{makeOf}
 use Rattle.model.specs.AbstractLog.{lastPlace}
 use Rattle.model.specs.History.{allAllowed}
-use Rattle.model.specs.Claim.{History, Legal, Gone, Safe, fresh, durableOf, ShowsReplay}
+use Rattle.model.specs.Claim.{History, Legal, Gone, fresh, durableOf, ShowsReplay}
 use Rattle.model.specs.declared.geometry.Heading.the-variants.{Second}
 use Rattle.cases.specs.Opened.{opened}
 use Rattle.cases.specs.Rings.{turned}

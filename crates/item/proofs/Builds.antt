@@ -15,9 +15,7 @@ use Rattle.model.specs.Bytes.{bytesOf, part, splice}
 use Rattle.model.specs.Checksum.{seal, withChecksum}
 use Rattle.model.specs.Change.{kindOf, lengthOf, offsetOf, fillOf, fits}
 use Rattle.model.specs.Item.{frameImage, recordFor, padded, recordBytes, encodeChange, noteBytes}
-use Rattle.model.specs.declared.change.Change.{Change}
-use Rattle.model.specs.declared.item.LogRecord.{LogRecord}
-use Rattle.model.specs.declared.item.Note.{Note}
+use Rattle.model.specs.declared.{change.Change.Change, item.LogRecord.LogRecord, item.Note.Note}
 
 -- ---- an image
 

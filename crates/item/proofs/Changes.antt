@@ -13,7 +13,8 @@ use Rattle.model.specs.Tables.{within}
 use Rattle.model.specs.Bytes.{splice}
 use Rattle.model.specs.Change.{changeFits, fits, changeOf, kindOf, offsetOf, lengthOf, fillOf, applyChange}
 use Rattle.model.specs.declared.change.Change.{Change}
-use Rattle.model.specs.declared.change.Change.the-variants.{Format, Put, Slide}
+use Rattle.model.specs.declared.change.Change.the-variants.{Put, Slide}
+use Rattle.model.specs.declared.change.Change.the-variants.{Format}
 
 -- ---- what a change needs
 

@@ -9,8 +9,7 @@ use Rattle.laws.proofs.Tables.{and-left}
 use Rattle.item.proofs.Changes.{Obeys, held-obeys}
 use Rattle.model.specs.Change.{changeFits, applyChange}
 use Rattle.model.specs.Item.{recordOf, recordLayout, payloadOf, changeIn, applyRecord}
-use Rattle.model.specs.declared.change.Change.{Change}
-use Rattle.model.specs.declared.item.LogRecord.{LogRecord}
+use Rattle.model.specs.declared.{change.Change.Change, item.LogRecord.LogRecord}
 
 -- its three tests
 pub layout-is : (r : List ℕ) (e : LogRecord) (f p : Bool) (y : ℕ) → e ≡ recordOf r

@@ -5,10 +5,10 @@ use mathlib.Core.List.{List, [], _∷_}
 use Prim.Native.Nat.{ℕ, zero, suc, _+_, _-_, _≤_, _<_}
 use native.Mathlib.Omega.{arith}
 use native.Mathlib.Decide.{decLt}
-use lib.Dec.{eqb, ltb, lit≤}
+use lib.Dec.{eqb, lit≤}
 use lib.ListN.{length, take, getD}
 use lib.Seq.{length-take-le}
-use borrow.Author.Tests.{eqb-true, eqb-false, eq-eqb, lt-ltb, ltb-true, le-ltb}
+use borrow.Author.Tests.{eqb-true, eqb-false, eq-eqb, lt-ltb, le-ltb}
 use Rattle.laws.proofs.Tables.{byCases, and-left, and-right, and-both, or-left, or-right, within-bounds, within-holds, true-not-false}
 use Rattle.laws.proofs.Checksums.{take-with, sum-holds, byteSum-most}
 use Rattle.laws.proofs.Items.{by-words, by-bytes, by-either, bytes-set, sealImage-field}
@@ -20,9 +20,8 @@ use Rattle.model.specs.Geometry.{tagOf, carryTag, withTag, Place, pageAt, slotA
 use Rattle.model.specs.Item.{imagePage, validImage, validSomewhere}
 use Rattle.model.specs.Index.{emptyEntry, slotUsed}
 use Rattle.model.specs.Passes.{validAsNoted, passesAt, isImage, byWords, byBytes, onlyOld, onlyNew, imageCount, imagePlace}
-use Rattle.model.specs.declared.geometry.Geometry.{Geometry}
+use Rattle.model.specs.declared.{geometry.Geometry.Geometry, state.Entry.Entry}
 use Rattle.model.specs.declared.geometry.Heading.the-variants.{First, Second}
-use Rattle.model.specs.declared.state.Entry.{Entry}
 
 -- ---- a sum, and the rest of what it is to pass
 

@@ -7,7 +7,8 @@ use Rattle.laws.proofs.Tables.{or-neither, true-not-false}
 use Rattle.model.specs.Calls.{Call, isCall}
 use Rattle.model.specs.History.{isRestamp}
 use Rattle.model.specs.Carry.{carries}
-use Rattle.model.specs.declared.command.Command.the-variants.{Begin, Load, Change, Force, Write, Backup, Release, Note, StartCarry, Restamp, FinishCarry}
+use Rattle.model.specs.declared.command.Command.the-variants.{Begin, Load, Force, Write, Release, StartCarry, Restamp, FinishCarry}
+use Rattle.model.specs.declared.command.Command.the-variants.{Change, Backup, Note}
 
 module _ (P : Call → Type 0) (start : (x : List ℕ) → P (StartCarry, x)) (restamp : (x : List ℕ) → P (Restamp, x))
     (finish : (x : List ℕ) → P (FinishCarry, x)) where

@@ -1,7 +1,7 @@
 -- At most L records are read by a walk, on any volume and any well-formed state: the numbers fall strictly within the run, and the run is
 -- no longer than the ring. (The code's array of 1,024 numbers serves.)
-use mathlib.Core.Path.{_≡_, refl}
-use mathlib.Core.Bool.{Bool, true, false, cond}
+use mathlib.Core.Path.{_≡_}
+use mathlib.Core.Bool.{true, false}
 use mathlib.Core.List.{List, [], _∷_}
 use Prim.Native.Nat.{ℕ, zero, suc, _+_, _-_, _≤_, _<_}
 use native.Mathlib.Omega.{arith}

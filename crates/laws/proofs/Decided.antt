@@ -19,9 +19,7 @@ use Rattle.model.specs.Geometry.{Place, width, start, store, geometryOf, withTa
 use Rattle.model.specs.Refusals.{stateRows}
 use Rattle.model.specs.Outcome.{StoredItem, nothing, oneItem, newHeading, Outcome, volumeAfter, unchanged, decided, refusalOf}
 use Rattle.model.specs.Demand1.{Decides, ByTable, StoresItem, AtMostOneItem}
-use Rattle.model.specs.declared.geometry.Geometry.{Geometry}
-use Rattle.model.specs.declared.state.State.{State}
-use Rattle.model.specs.declared.answer.Answer.the-variants.{Refused}
+use Rattle.model.specs.declared.{geometry.Geometry.Geometry, state.State.State, answer.Answer.the-variants.Refused}
 
 -- ---- tables
 

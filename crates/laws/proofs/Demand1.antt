@@ -1,7 +1,7 @@
 -- Demand 1, proved from the outcome definitions: refused exactly by the table, a refusal changes nothing, at most one item is stored.
 use mathlib.Core.Path.{_≡_, refl, sym, ap, _∙_}
 use mathlib.Core.Logic.{_≢_, inl, inr}
-use mathlib.Core.Bool.{Bool, true, false, _&&_, not}
+use mathlib.Core.Bool.{true, _&&_, not}
 use mathlib.Core.List.{List, [], _∷_}
 use Prim.Native.Nat.{ℕ, _+_, _-_, _≤_}
 use native.Mathlib.Nat.{mod-lt}
@@ -21,21 +21,20 @@ use Rattle.model.specs.Checksum.{sealImage}
 use Rattle.model.specs.Item.{noteBytes}
 use Rattle.model.specs.Geometry.{tagOf, carryTag, headed, pageAt, slotAt, logSlot, noteSlot, geometryOf, validVolume, validCounts, lengthFor, item}
 use Rattle.model.specs.State.{frameCount, frameBytes, pendingBytes, holder, held, notePending, notesFull, zeroState, pendingNoteFits}
-use Rattle.model.specs.Refusals.{pageDirty, notDurable, makeRows, restartRows, beginRows, loadRows, changeRows, forceRows, writeRows, backupRows, releaseRows, noteRows, startCarryRows, restampRows, finishCarryRows, inspectRows}
+use Rattle.model.specs.Refusals.{pageDirty, makeRows, restartRows, beginRows, loadRows, changeRows, forceRows, writeRows, backupRows, releaseRows, noteRows, startCarryRows, restampRows, finishCarryRows, inspectRows}
+use Rattle.laws.proofs.Conditions.{notDurable}
 use Rattle.model.specs.Index.{slotUsed}
 use Rattle.model.specs.Passes.{imageCount, imagePlace, firstOld, oldLeft}
 use Rattle.model.specs.Outcome.{nothing, refusalOf, decided}
 use Rattle.model.specs.Effects.{noteStored, backupDone, beginDone, changeDone, forceDone, loadDone, releaseDone, restampDone, writeDone}
 use Rattle.model.specs.Calls.{beginOf, loadOf, changeCall, forceOf, writeOf, backupOf, releaseOf, noteCall, startCarryOf, restampOf, finishCarryOf, Call, rowsOf, outcomeOf}
 use Rattle.model.specs.Restart.{restartOf, makeOf, inspectOf, Made, Inspected}
-use Rattle.model.specs.declared.command.Command.the-variants.{Begin, Load, Change as ChangeCall, Force, Write, Backup, Release, Note, StartCarry, Restamp, FinishCarry}
-use Rattle.model.specs.Demand1.{ByTable, StoresItem, Keeps, Arrays, Demand1}
-use Rattle.model.specs.declared.geometry.Heading.{Heading}
-use Rattle.model.specs.declared.geometry.Heading.the-variants.{First}
-use Rattle.model.specs.declared.change.Change.{Change}
-use Rattle.model.specs.declared.state.State.{State}
-use Rattle.model.specs.declared.state.PendingNote.{PendingNote}
+use Rattle.model.specs.declared.{geometry.Heading.Heading, geometry.Heading.the-variants.First, change.Change.Change}
+use Rattle.model.specs.declared.{state.State.State, state.PendingNote.PendingNote}
+use Rattle.model.specs.declared.command.Command.the-variants.{Begin, Load, Force, Write, Release, StartCarry, Restamp, FinishCarry}
 use Rattle.model.specs.declared.state.PendingNote.the-variants.{Absent, Present}
+use Rattle.model.specs.declared.command.Command.the-variants.{Change as ChangeCall, Backup, Note}
+use Rattle.model.specs.Demand1.{ByTable, StoresItem, Keeps, Arrays, Demand1}
 
 -- ---- the calls that store nothing
 

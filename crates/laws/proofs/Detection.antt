@@ -1,38 +1,33 @@
 -- The byte sum detects every change within one word: two lists of bytes that differ in two adjacent bytes alone have different sums. No
 -- bound on the list is needed: from the end on, equal values give equal sums (`tail-cancels`), and before the word both sums are the same.
 use mathlib.Core.Path.{_≡_, refl, sym, ap, _∙_}
-use mathlib.Core.Bool.{Bool, true, false, _&&_, _||_, not, cond, and-false}
+use mathlib.Core.Bool.{true, false, and-false}
 use mathlib.Core.List.{List, [], _∷_, _++_}
-use Prim.Native.Nat.{ℕ, zero, suc, _+_, _-_, _*_, _%_, _≤_, _<_}
+use Prim.Native.Nat.{ℕ, zero, suc, _+_, _-_, _%_, _≤_, _<_}
 use native.Mathlib.Nat.{mod-lt}
 use native.Mathlib.Numerals.{add-one, add-two}
 use native.Mathlib.Omega.{arith}
 use lib.Dec.{eqb, lit<, lit≤}
-use lib.ListN.{length, take, drop, replicate, length-replicate, take-append-drop}
+use lib.ListN.{length, take, drop, replicate, take-append-drop}
 use lib.Seq.{drop-cons, length-take-le, take-append-add}
 use borrow.Author.Tests.{eqb-true, eq-eqb, ne-eqb}
-use Rattle.laws.proofs.Tables.{byCases, all-holds, true-not-false, or-cases}
+use Rattle.laws.proofs.Tables.{byCases, true-not-false}
 use Rattle.laws.proofs.Parts.{part-after, splice-length}
-use Rattle.laws.proofs.Fields.{field-take}
 use Rattle.laws.proofs.Checksums.{checksum-most, byteSum-most}
 use Rattle.laws.proofs.Items.{by-bytes}
 use Rattle.laws.proofs.Zeros.{neither-sum}
 use Rattle.laws.proofs.Places.{field-of-part}
-use Rattle.model.specs.Tables.{all, within}
-use Rattle.model.specs.Bytes.{le, field, byteAt, part, splice}
-use Rattle.model.specs.Geometry.{tagOf, Place, pageAt, slotAt, recordAt, noteAt, geometryOf}
+use Rattle.model.specs.Bytes.{le, field, byteAt, splice}
+use Rattle.model.specs.Geometry.{Place, pageAt, slotAt, recordAt, noteAt, geometryOf}
 use Rattle.model.specs.Checksum.{checksum, byteSum, byteSumFrom, sumHolds, imageSealed}
-use Rattle.model.specs.Item.{imagePage, imageLsn, validImage, validSomewhere}
+use Rattle.model.specs.Item.{imagePage, validImage, validSomewhere}
 use Rattle.model.specs.Index.{slotUsed}
 use Rattle.model.specs.Scan.{indexOf}
 use Rattle.model.specs.Repair.{View, classOf, classIn}
 use Rattle.model.specs.Passes.{isImage, passesAt, validAsNoted}
-use Rattle.model.specs.History.{Machine, damage, storedBefore, allowed}
+use Rattle.model.specs.History.{Machine, damage, allowed}
 use Rattle.model.specs.Detection.{withWord, WordError, ImageError, Detection}
-use Rattle.model.specs.declared.geometry.Geometry.{Geometry}
-use Rattle.model.specs.declared.geometry.Heading.the-variants.{First, Second}
-use Rattle.model.specs.declared.state.Entry.{Entry}
-use Rattle.model.specs.declared.answer.Class.the-variants.{Failed}
+use Rattle.model.specs.declared.{geometry.Geometry.Geometry, state.Entry.Entry, answer.Class.the-variants.Failed}
 
 -- ---- sums
 

@@ -1,22 +1,20 @@
 -- Laws of the volume that Make writes: its geometry, that it is valid, and that every item of it is zero.
 use mathlib.Core.Path.{_≡_, refl, sym, ap, _∙_}
-use mathlib.Core.Bool.{Bool, true, false}
+use mathlib.Core.Bool.{Bool, true}
 use mathlib.Core.List.{List, [], _∷_, _++_, append-assoc, append-nil}
-use Prim.Native.Nat.{ℕ, zero, suc, _+_, _-_, _*_, _≤_, _<_}
+use Prim.Native.Nat.{ℕ, _+_, _-_, _*_, _≤_}
 use native.Mathlib.Omega.{arith}
 use lib.Dec.{eqb}
-use lib.ListN.{length, take, drop, replicate, length-append, length-replicate}
+use lib.ListN.{length, take, drop, length-append, length-replicate}
 use lib.Seq.{drop-append-add, drop-append-le, take-append-le}
-use borrow.Author.Tests.{eq-eqb, eqb-true}
-use mathlib.Core.Logic.{⊎-elim}
-use Rattle.laws.proofs.Tables.{all-holds, or-cases}
+use borrow.Author.Tests.{eq-eqb}
+use Rattle.laws.proofs.Tables.{all-holds}
 use Rattle.laws.proofs.Fields.{bytesOf-length, field-back}
 use Rattle.laws.proofs.Zeros.{zeros, drop-zeros, take-zeros}
 use Rattle.laws.proofs.Places.{In, Counts, counts-bounds}
-use Rattle.model.specs.Bytes.{le, bytesOf, field, byteAt, part, startsWith}
+use Rattle.model.specs.Bytes.{bytesOf, field, byteAt, part, startsWith}
 use Rattle.model.specs.Geometry.{tagOf, magic, knownMagic, slotCountAt, recordCountAt, noteCountAt, lengthFor, pagesOf, slotsOf, recordsOf, notesOf, geometryOf, validCounts, validVolume, emptyVolume, Place, pageAt, slotAt, recordAt, noteAt, width, start, item}
-use Rattle.model.specs.declared.geometry.Geometry.{Geometry}
-use Rattle.model.specs.declared.geometry.Heading.{Heading}
+use Rattle.model.specs.declared.{geometry.Geometry.Geometry, geometry.Heading.Heading}
 use Rattle.model.specs.declared.geometry.Heading.the-variants.{First, Second}
 
 -- a part within zeros that stand behind l

@@ -24,9 +24,7 @@ use Rattle.model.specs.State.{frameCount, frameRow, holder, held, lastNumber, l
 use Rattle.model.specs.Refusals.{frameBlocked}
 use Rattle.model.specs.Effects.{withFrame, withFrames, appendedState, nextNote}
 use Rattle.model.specs.Demand1.{Arrays}
-use Rattle.model.specs.declared.geometry.Geometry.{Geometry}
-use Rattle.model.specs.declared.state.PendingNote.{PendingNote}
-use Rattle.model.specs.declared.state.State.{State}
+use Rattle.model.specs.declared.{geometry.Geometry.Geometry, state.PendingNote.PendingNote, state.State.State}
 
 -- what stays
 pub record Good (g : Geometry) (frames : ℕ) (s : State) : Type 0 where

@@ -13,10 +13,8 @@ use Rattle.model.specs.Tables.{within}
 use Rattle.model.specs.Geometry.{topNumber, ring, most, mostNotes, withTag}
 use Rattle.model.specs.Item.{noteLayout, isWritten}
 use Rattle.model.specs.State.{pendingNoteFits, frameFits, entryFits, pageFits, wellFormed}
-use Rattle.model.specs.declared.geometry.Geometry.{Geometry}
-use Rattle.model.specs.declared.state.PendingNote.{PendingNote}
+use Rattle.model.specs.declared.{geometry.Geometry.Geometry, state.PendingNote.PendingNote, state.State.State}
 use Rattle.model.specs.declared.state.PendingNote.the-variants.{Absent, Present}
-use Rattle.model.specs.declared.state.State.{State}
 
 -- a bound that may only rise
 rises : (t : Bool) (n : ℕ) → n ≤ topNumber → n ≤ cond t topNumber n

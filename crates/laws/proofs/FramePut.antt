@@ -14,12 +14,8 @@ use Rattle.laws.proofs.Frames.{not-held, RowFits, row-fits, fits-row, N
 use Rattle.model.specs.Geometry.{most, mostNotes}
 use Rattle.model.specs.Index.{emptyEntry, entryRow, entryOf}
 use Rattle.model.specs.State.{emptyFrame, frameRow, holder, held, lastNumber, pendingNoteFits, frameFits, pageFits, wellFormed}
-use Rattle.model.specs.declared.command.Command.the-variants.{Backup, Note}
 use Rattle.model.specs.Demand1.{Arrays}
-use Rattle.model.specs.declared.geometry.Geometry.{Geometry}
-use Rattle.model.specs.declared.state.Entry.{Entry}
-use Rattle.model.specs.declared.state.Frame.{Frame}
-use Rattle.model.specs.declared.state.State.{State}
+use Rattle.model.specs.declared.{geometry.Geometry.Geometry, state.Entry.Entry, state.Frame.Frame, state.State.State}
 
 -- ---- a page put into a row
 

@@ -1,27 +1,22 @@
 -- A well-formed state read clause by clause, and built again: rows of the frame table, entries of the index, and a page put into a row.
-use mathlib.Core.Path.{_≡_, refl, sym, ap, _∙_}
-use mathlib.Core.Logic.{_≢_, _⊎_, inl, inr, ⊎-elim}
-use mathlib.Core.Bool.{Bool, true, false, _&&_, _||_, not, cond}
+use mathlib.Core.Path.{_≡_}
+use mathlib.Core.Logic.{_≢_, _⊎_, ⊎-elim}
+use mathlib.Core.Bool.{true, false, _||_, not}
 use mathlib.Core.List.{List, [], _∷_}
 use Prim.Native.Nat.{ℕ, zero, suc, _+_, _-_, _≤_, _<_}
 use native.Mathlib.Omega.{arith}
-use native.Mathlib.Decide.{ℕ-discrete, decLt}
+use native.Mathlib.Decide.{decLt}
 use native.Mathlib.Nat.{le-of-suc-le-suc}
 use lib.Dec.{eqb, leb, ltb}
-use lib.ListN.{length, getD, set, length-set}
-use lib.Seq.{getD-set-same, getD-set-other}
-use borrow.Author.Tests.{leb-true, le-leb, ltb-true, ltb-false, lt-ltb, le-ltb, eqb-true, eqb-false, eq-eqb, ne-eqb, not-false}
-use Rattle.laws.proofs.Tables.{all-at, all-holds, every-at, every-all, or-cases, or-left, or-right, or-other, not-true, byCases, when-true, when-false, true-not-false}
-use Rattle.laws.proofs.WellFormed.{Formed, holder-finds}
-use Rattle.model.specs.Tables.{all, every}
+use lib.ListN.{length, getD}
+use borrow.Author.Tests.{leb-true, le-leb, ltb-true, ltb-false, lt-ltb, le-ltb, eqb-true, eqb-false, eq-eqb, ne-eqb}
+use Rattle.laws.proofs.Tables.{all-at, all-holds, every-at, every-all, or-cases, or-left, or-right, or-other, not-true, byCases}
+use Rattle.laws.proofs.WellFormed.{Formed}
+use Rattle.model.specs.Tables.{every}
 use Rattle.model.specs.Geometry.{most, mostNotes}
-use Rattle.model.specs.Index.{emptyEntry, entryRow, entryOf}
+use Rattle.model.specs.Index.{entryRow, entryOf}
 use Rattle.model.specs.State.{emptyFrame, frameRow, holderFrom, holder, held, blank, lastNumber, pendingNoteFits, firstHolder, frameFits, entryFits, entryZero, pageFits, wellFormed}
-use Rattle.model.specs.Demand1.{Arrays}
-use Rattle.model.specs.declared.geometry.Geometry.{Geometry}
-use Rattle.model.specs.declared.state.Entry.{Entry}
-use Rattle.model.specs.declared.state.Frame.{Frame}
-use Rattle.model.specs.declared.state.State.{State}
+use Rattle.model.specs.declared.{geometry.Geometry.Geometry, state.Entry.Entry, state.Frame.Frame, state.State.State}
 
 -- ---- the search for a page
 

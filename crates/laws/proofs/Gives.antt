@@ -6,10 +6,8 @@ use borrow.Author.Tests.{eq-eqb, ne-eqb}
 use Rattle.laws.proofs.Tables.{when-true}
 use Rattle.model.specs.Tables.{Row, firstOf}
 use Rattle.model.specs.Outcome.{Outcome, unchanged, decided, replyOf, volumeAfter}
-use Rattle.model.specs.declared.state.State.{State}
-use Rattle.model.specs.declared.answer.Answer.{Answer}
+use Rattle.model.specs.declared.{state.State.State, answer.Answer.Answer, answer.Reply.Reply}
 use Rattle.model.specs.declared.answer.Answer.the-variants.{Refused, Nothing}
-use Rattle.model.specs.declared.answer.Reply.{Reply}
 
 -- what a call has to show: its reply and the volume that it leaves are those of an outcome
 abbrev pub Gives : List ℕ → Answer → State → List ℕ → Outcome → Type 0

@@ -1,5 +1,5 @@
 -- What class, start and count say of each other, on any bytes: the proof of `Health`.
-use mathlib.Core.Path.{_≡_, refl, sym, ap, _∙_, subst}
+use mathlib.Core.Path.{_≡_, refl, sym, _∙_, subst}
 use mathlib.Core.Logic.{_≢_, _↔_}
 use mathlib.Core.Bool.{Bool, true, false, cond, not, _||_}
 use mathlib.Core.List.{List, [], _∷_}
@@ -8,32 +8,29 @@ use native.Mathlib.Omega.{arith}
 use lib.Dec.{eqb, leb, ltb}
 use lib.ListN.{length}
 use borrow.Author.Tests.{eqb-true, eqb-false, eq-eqb, lt-ltb, not-false}
-use Rattle.laws.proofs.Tables.{byCases, none-at, all-at, or-cases, true-not-false, within-bounds}
-use Rattle.laws.proofs.WellFormed.{Formed, Ready, ready}
+use Rattle.laws.proofs.Tables.{byCases, none-at, all-at, within-bounds}
+use Rattle.laws.proofs.WellFormed.{ready}
 use Rattle.laws.proofs.Places.{valid-facts}
 use Rattle.model.specs.Tables.{Row, firstOf, within}
 use Rattle.model.specs.Geometry.{geometryOf}
 use Rattle.model.specs.Item.{imageLsn, validImage, isFormat, recordOf}
-use Rattle.model.specs.Index.{entryRow, entryOf}
+use Rattle.model.specs.Index.{entryOf}
 use Rattle.model.specs.Scan.{indexOf}
-use Rattle.model.specs.Repair.{View, Walk, stopAt, behind, walkOf, walkFrom, startOf, classOf, classIn, ownStart, backupStart, chainRecord, repairOf, stateView, scannedView}
+use Rattle.model.specs.Repair.{View, Walk, stopAt, behind, walkOf, walkFrom, startOf, classOf, ownStart, backupStart, chainRecord, repairOf, stateView, scannedView}
 use Rattle.model.specs.State.{frameCount, held, blank, lastNumber, entryFits, pageFits}
-use Rattle.model.specs.Refusals.{loadRows, inspectRows, frameBlocked, chainBroken, chainBelow}
+use Rattle.model.specs.Refusals.{loadRows, inspectRows, frameBlocked}
+use Rattle.laws.proofs.Conditions.{chainBroken, chainBelow}
 use Rattle.model.specs.Outcome.{decided}
 use Rattle.model.specs.Effects.{loadDone}
 use Rattle.model.specs.Calls.{loadOf}
 use Rattle.model.specs.Restart.{inspectOf}
 use Rattle.model.specs.Health.{Untouched, Health}
-use Rattle.model.specs.declared.geometry.Geometry.{Geometry}
-use Rattle.model.specs.declared.state.State.{State}
-use Rattle.model.specs.declared.state.Entry.{Entry}
-use Rattle.model.specs.declared.answer.Class.{Class}
+use Rattle.model.specs.declared.{geometry.Geometry.Geometry, state.State.State, state.Entry.Entry, answer.Repair.Repair}
 use Rattle.model.specs.declared.answer.Class.the-variants.{Good, Behind, Stale, Failed, Ahead}
-use Rattle.model.specs.declared.answer.Start.the-variants as start
-use Rattle.model.specs.declared.answer.Stop.the-variants.{Own, Backup, Format, Broken, Below}
-use Rattle.model.specs.declared.answer.Repair.{Repair}
-use Rattle.model.specs.declared.answer.Answer.{Answer}
+use Rattle.model.specs.declared.answer.Stop.the-variants.{Broken, Below}
 use Rattle.model.specs.declared.answer.Answer.the-variants.{Refused, Repaired}
+use Rattle.model.specs.declared.answer.Start.the-variants as start
+use Rattle.model.specs.declared.answer.Stop.the-variants.{Own, Backup, Format}
 
 -- ---- the class
 

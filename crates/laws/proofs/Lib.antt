@@ -1,4 +1,5 @@
 pub mod Tables
+pub mod Conditions
 pub mod Tabulated
 pub mod Ring
 pub mod Chain

@@ -3,7 +3,7 @@
 use mathlib.Core.Path.{_≡_, refl, sym, _∙_}
 use mathlib.Core.Logic.{_≢_, _⊎_, inl, inr, ⊎-elim}
 use mathlib.Core.Bool.{true, false, cond, not, _||_}
-use mathlib.Core.List.{List, [], _∷_, map}
+use mathlib.Core.List.{List, [], _∷_}
 use Prim.Native.Nat.{ℕ, zero, suc, _+_, _-_, _≤_, _<_}
 use native.Mathlib.Omega.{arith}
 use native.Mathlib.Decide.{decLt, ℕ-discrete}
@@ -13,15 +13,13 @@ use lib.Seq.{getD-set-same, getD-set-other}
 use borrow.Author.Tests.{eqb-true, eq-eqb, ltb-true}
 use Rattle.laws.proofs.Tables.{byCases, all-at, and-left, or-cases, every-at, within-bounds, true-not-false}
 use Rattle.laws.proofs.Scanned.{Fit, Newest, newest, down, firstLsn, held-low, log-fits, index-length}
-use Rattle.model.specs.Tables.{every, within}
+use Rattle.model.specs.Tables.{within}
 use Rattle.model.specs.Checksum.{sealed}
 use Rattle.model.specs.Geometry.{item, noteSlot}
 use Rattle.model.specs.Item.{noteLayout, isWritten}
 use Rattle.model.specs.Index.{emptyEntry, entryOf, withNote, enterNote, slotUsed, settled}
 use Rattle.model.specs.Scan.{logRecord, noteRecord, durableCount, firstHeld, validLog, noteCount, firstNote, runIndex, noteIndex, noteFollows, noteFits, validNotes, indexOf}
-use Rattle.model.specs.declared.geometry.Geometry.{Geometry}
-use Rattle.model.specs.declared.item.Note.{Note}
-use Rattle.model.specs.declared.state.Entry.{Entry}
+use Rattle.model.specs.declared.{geometry.Geometry.Geometry, item.Note.Note, state.Entry.Entry}
 
 -- ---- one note
 

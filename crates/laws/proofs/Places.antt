@@ -1,20 +1,19 @@
 -- Laws of the places of a volume: an item that was stored is read back, every other place reads as before (one law, by the places' starts),
 -- and a store changes neither geometry nor validity.
-use mathlib.Core.Path.{_≡_, refl, sym, ap, _∙_, subst}
+use mathlib.Core.Path.{_≡_, refl, sym, ap, _∙_}
 use mathlib.Core.Logic.{_≢_, _⊎_, inl, inr}
-use mathlib.Core.Bool.{Bool, true, false, _&&_}
-use mathlib.Core.List.{List, [], _∷_, _++_}
-use Prim.Native.Nat.{ℕ, zero, suc, _+_, _-_, _*_, _≤_, _<_}
-use native.Mathlib.Nat.{add-zero}
+use mathlib.Core.Bool.{Bool, true}
+use mathlib.Core.List.{List, [], _∷_}
+use Prim.Native.Nat.{ℕ, _+_, _-_, _≤_, _<_}
 use native.Mathlib.Omega.{arith}
 use native.Mathlib.Decide.{decLt}
 use lib.Dec.{leb, eqb, lit<}
 use lib.ListN.{length, take, drop, getD}
 use borrow.Author.Tests.{leb-true, eqb-true, eq-eqb}
-use Rattle.laws.proofs.Tables.{all-at, all-holds, All, and-left, and-right, within-bounds, within-holds}
-use Rattle.laws.proofs.Parts.{part-at, part-length, splice-length, part-splice, part-before, part-after, take-splice}
+use Rattle.laws.proofs.Tables.{all-at, all-holds, within-bounds, within-holds}
+use Rattle.laws.proofs.Parts.{part-at, part-length, splice-length, part-splice, part-before, part-after}
 use Rattle.laws.proofs.Fields.{le-take}
-use Rattle.model.specs.Tables.{all, within}
+use Rattle.model.specs.Tables.{within}
 use Rattle.model.specs.Bytes.{le, field, byteAt, part, splice, startsWith}
 use Rattle.model.specs.Geometry.{magic, magicOf, carryTag, knownMagic, slotCountAt, recordCountAt, noteCountAt, lengthFor, pagesOf, slotsOf, recordsOf, notesOf, geometryOf, validCounts, validVolume, Place, pageAt, slotAt, recordAt, noteAt, itemOf, width, start, item, store}
 use Rattle.model.specs.declared.geometry.Geometry.{Geometry}

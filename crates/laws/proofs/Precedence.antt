@@ -12,10 +12,11 @@ use Rattle.laws.proofs.Decided.{later}
 use Rattle.model.specs.Tables.{Row}
 use Rattle.model.specs.Refusals.{makeRows, restartRows, beginRows, loadRows, changeRows, forceRows, writeRows, backupRows, releaseRows, noteRows, startCarryRows, restampRows, finishCarryRows, inspectRows}
 use Rattle.model.specs.Calls.{Call, rowsOf}
-use Rattle.model.specs.declared.command.Command.the-variants.{Begin, Load, Change, Force, Write, Backup, Release, Note, StartCarry, Restamp, FinishCarry}
+use Rattle.model.specs.declared.state.State.{State}
+use Rattle.model.specs.declared.command.Command.the-variants.{Begin, Load, Force, Write, Release, StartCarry, Restamp, FinishCarry}
+use Rattle.model.specs.declared.command.Command.the-variants.{Change, Backup, Note}
 use Rattle.model.specs.Demand1.{Decides}
 use Rattle.model.specs.Precedence.{Exception, excepted, precedes, precedesAll, ordered, TablesOrdered, LowestWins}
-use Rattle.model.specs.declared.state.State.{State}
 
 -- ---- the tables: by their numbers alone
 

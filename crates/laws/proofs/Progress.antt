@@ -24,8 +24,7 @@ use Rattle.model.specs.Outcome.{nothing, newHeading, volumeAfter, storing, refu
 use Rattle.model.specs.Effects.{restampDone}
 use Rattle.model.specs.Calls.{restampOf, finishCarryOf}
 use Rattle.model.specs.Carry.{oldCount, restamps, AllDone, Progress, passesOn, DropsNone}
-use Rattle.model.specs.declared.geometry.Heading.the-variants.{Second}
-use Rattle.model.specs.declared.state.State.{State}
+use Rattle.model.specs.declared.{geometry.Heading.the-variants.Second, state.State.State}
 use Rattle.model.specs.declared.answer.Answer.the-variants.{Refused, Nothing, Done}
 use Rattle.laws.proofs.Restamped.{isDone, not-done, isNothing, not-nothing, image-number, opened, left-found, found-old, found-none, answer-found, done-rows, stored-is, stored-none, same-geometry, one-less, after-passes, after-front, rows-again}
 

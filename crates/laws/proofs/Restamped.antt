@@ -25,9 +25,7 @@ use Rattle.model.specs.Outcome.{nothing, oneItem, decided}
 use Rattle.model.specs.Effects.{restampDone}
 use Rattle.model.specs.Calls.{restampOf}
 use Rattle.model.specs.Carry.{countOf}
-use Rattle.model.specs.declared.geometry.Geometry.{Geometry}
-use Rattle.model.specs.declared.geometry.Heading.the-variants.{First}
-use Rattle.model.specs.declared.state.State.{State}
+use Rattle.model.specs.declared.{geometry.Geometry.Geometry, geometry.Heading.the-variants.First, state.State.State}
 use Rattle.model.specs.declared.answer.Answer.{Answer}
 use Rattle.model.specs.declared.answer.Answer.the-variants.{Refused, Nothing, Done, Repaired}
 

@@ -27,11 +27,8 @@ use Rattle.model.specs.Outcome.{decided}
 use Rattle.model.specs.Restart.{restartState, restartOf}
 use Rattle.model.specs.Demand1.{Arrays}
 use Rattle.model.specs.WellFormed.{GivesWellFormed}
-use Rattle.model.specs.declared.geometry.Geometry.{Geometry}
-use Rattle.model.specs.declared.state.Entry.{Entry}
-use Rattle.model.specs.declared.state.Frame.{Frame}
-use Rattle.model.specs.declared.state.PendingNote.the-variants.{Absent}
-use Rattle.model.specs.declared.state.State.{State}
+use Rattle.model.specs.declared.{geometry.Geometry.Geometry, state.Entry.Entry, state.Frame.Frame}
+use Rattle.model.specs.declared.{state.PendingNote.the-variants.Absent, state.State.State}
 
 -- ---- the counts
 

@@ -13,7 +13,7 @@ use lib.Dec.{leb}
 use borrow.Author.Tests.{leb-true, leb-false}
 use Rattle.laws.proofs.Tables.{byCases, true-not-false}
 use Rattle.model.specs.Tables.{larger}
-use Rattle.model.specs.Bytes.{le, field}
+use Rattle.model.specs.Bytes.{field}
 use Rattle.model.specs.Checksum.{sealed}
 use Rattle.model.specs.Geometry.{slotOf}
 use Rattle.model.specs.Scan.{highest}

@@ -2,28 +2,25 @@
 -- says of them.
 use mathlib.Core.Path.{_≡_, refl, sym, ap, _∙_}
 use mathlib.Core.Logic.{_≢_, _⊎_, inl, inr, ⊎-elim}
-use mathlib.Core.Bool.{Bool, true, false, cond, _&&_, _||_}
+use mathlib.Core.Bool.{true, false, cond, _&&_, _||_}
 use mathlib.Core.List.{List, [], _∷_}
 use Prim.Native.Nat.{ℕ, zero, suc, _+_, _-_, _≤_, _<_}
 use native.Mathlib.Omega.{arith}
 use native.Mathlib.Decide.{ℕ-discrete}
 use lib.Dec.{eqb, ltb}
-use lib.ListN.{length, getD, replicate, length-set, length-replicate}
+use lib.ListN.{length, length-set, length-replicate}
 use lib.Seq.{getD-set-same, getD-set-other}
-use borrow.Author.Tests.{eqb-true, eq-eqb, ne-eqb, ltb-true, ltb-false, le-ltb, lt-ltb}
-use Rattle.laws.proofs.Tables.{byCases, all-at, and-left, and-right, or-cases, every-at, within-bounds, when-true, when-false, true-not-false, none-at}
-use Rattle.laws.proofs.Places.{valid-facts}
+use borrow.Author.Tests.{eqb-true, eq-eqb, ne-eqb, ltb-false, lt-ltb}
+use Rattle.laws.proofs.Tables.{byCases, all-at, and-left, and-right, or-cases, every-at, within-bounds, when-true, when-false}
 use Rattle.laws.proofs.Tabulated.{replicate-at}
 use Rattle.laws.proofs.Checksums.{run-most}
-use Rattle.model.specs.Tables.{every, within}
+use Rattle.model.specs.Tables.{within}
 use Rattle.model.specs.Checksum.{sealed}
-use Rattle.model.specs.Geometry.{geometryOf, validVolume, recordAt, start, item, slotOf, logSlot, ring}
+use Rattle.model.specs.Geometry.{recordAt, start, item, slotOf, logSlot, ring}
 use Rattle.model.specs.Item.{recordOf, recordLayout, firstIsFormat}
 use Rattle.model.specs.Index.{emptyEntry, emptyIndex, entryOf}
 use Rattle.model.specs.Scan.{Section, countIn, firstIn, logSlots, logRecord, durableCount, firstHeld, logIndex, linked, recordFits, validLog, gone}
-use Rattle.model.specs.declared.geometry.Geometry.{Geometry}
-use Rattle.model.specs.declared.item.LogRecord.{LogRecord}
-use Rattle.model.specs.declared.state.Entry.{Entry}
+use Rattle.model.specs.declared.{geometry.Geometry.Geometry, item.LogRecord.LogRecord, state.Entry.Entry}
 
 -- ---- the records of a run from number f on
 

@@ -11,8 +11,7 @@ use Rattle.model.specs.Bytes.{part}
 use Rattle.model.specs.Checksum.{sealedRun}
 use Rattle.model.specs.Geometry.{recordAt, noteAt, start, item, ring, logSlot}
 use Rattle.model.specs.Scan.{Section, countIn, firstIn, restZero, endsIn, logSlots, noteSlots, durableCount, firstHeld, logIndex, recordFits, validLog, noteCount, firstNote, runIndex, noteIndex, noteFits, validNotes, indexOf, noteRecord}
-use Rattle.model.specs.declared.geometry.Geometry.{Geometry}
-use Rattle.model.specs.declared.state.Entry.{Entry}
+use Rattle.model.specs.declared.{geometry.Geometry.Geometry, state.Entry.Entry}
 
 module _ (g : Geometry) (v w : List ℕ) (e : drop (start g (recordAt 1)) w ≡ drop (start g (recordAt 1)) v) where
   part-same : (a n : ℕ) → start g (recordAt 1) ≤ a → part w a n ≡ part v a n

@@ -8,17 +8,16 @@ use Prim.Native.Nat.{ℕ, zero, suc, _+_, _-_, _≤_, _<_}
 use native.Mathlib.Omega.{arith}
 use native.Mathlib.Decide.{decLt}
 use lib.Dec.{eqb, leb}
-use lib.ListN.{getD, List·getD-map}
+use lib.ListN.{List·getD-map}
 use lib.Seq.{getD-set-other}
-use borrow.Author.Tests.{leb-true, eqb-true, eqb-false}
+use borrow.Author.Tests.{leb-true, eqb-false}
 use Rattle.laws.proofs.Tables.{byCases, and-right, every-at}
 use Rattle.laws.proofs.Tabulated.{replicate-at}
 use Rattle.laws.proofs.Scanned.{log-fits}
 use Rattle.laws.proofs.Noted.{Marked, notes-fit, down-newest, run-entry, before}
 use Rattle.model.specs.Index.{emptyEntry, emptyIndex, entryRow, entryOf, enterNote, settled}
 use Rattle.model.specs.Scan.{validRun, noteSlots, logRecord, noteRecord, durableCount, firstHeld, logIndex, validLog, noteCount, firstNote, runIndex, noteIndex, noteFits, validNotes, indexOf}
-use Rattle.model.specs.declared.geometry.Geometry.{Geometry}
-use Rattle.model.specs.declared.state.Entry.{Entry}
+use Rattle.model.specs.declared.{geometry.Geometry.Geometry, state.Entry.Entry}
 
 -- the last clause of the notes' rule
 pub written-low : (g : Geometry) (v : List ℕ) → validNotes g v ≡ true → (i : ℕ) → i < 64

@@ -24,17 +24,17 @@ use Rattle.model.specs.Item.{imageLsn, noteLayout}
 use Rattle.model.specs.Index.{entryOf, slotUsed}
 use Rattle.model.specs.Passes.{imageCount, firstOld, oldLeft}
 use Rattle.model.specs.State.{frameCount, frameBytes, holder, held, blank, logFull, notesFull, notePending, wellFormed}
-use Rattle.model.specs.Refusals.{frameBlocked, pageDirty, notDurable, chainBroken, chainBelow, beginRows, loadRows, changeRows, writeRows, backupRows, releaseRows, startCarryRows, restampRows, finishCarryRows}
+use Rattle.model.specs.Refusals.{frameBlocked, pageDirty, beginRows, loadRows, changeRows, writeRows, backupRows, releaseRows, startCarryRows, restampRows, finishCarryRows}
+use Rattle.laws.proofs.Conditions.{notDurable, chainBroken, chainBelow}
 use Rattle.model.specs.Outcome.{newHeading, Outcome, decided}
 use Rattle.model.specs.Effects.{backupDone, beginDone, changeDone, loadDone, releaseDone, restampDone, writeDone}
 use Rattle.model.specs.Calls.{beginOf, loadOf, changeCall, writeOf, backupOf, releaseOf, startCarryOf, restampOf, finishCarryOf, Call, outcomeOf}
-use Rattle.model.specs.declared.command.Command.the-variants.{Begin, Load, Change as ChangeCall, Force, Write, Backup, Release, Note, StartCarry, Restamp, FinishCarry}
+use Rattle.model.specs.declared.{geometry.Geometry.Geometry, change.Change.Change, state.State.State}
+use Rattle.model.specs.declared.command.Command.the-variants.{Begin, Load, Force, Write, Release, StartCarry, Restamp, FinishCarry}
+use Rattle.model.specs.declared.geometry.Heading.the-variants.{First, Second}
+use Rattle.model.specs.declared.command.Command.the-variants.{Change as ChangeCall, Backup, Note}
 use Rattle.model.specs.Demand1.{Arrays}
 use Rattle.model.specs.WellFormed.{entersIndex, KeepsWellFormed}
-use Rattle.model.specs.declared.geometry.Geometry.{Geometry}
-use Rattle.model.specs.declared.geometry.Heading.the-variants.{First, Second}
-use Rattle.model.specs.declared.change.Change.{Change}
-use Rattle.model.specs.declared.state.State.{State}
 
 -- of an outcome, by the geometry that it leaves
 record Stays (g : Geometry) (frames : ℕ) (o : Outcome) : Type 0 where

@@ -10,7 +10,8 @@ use Rattle.laws.proofs.Tables.{all-at, or-cases, true-not-false}
 use Rattle.model.specs.Checksum.{sealed}
 use Rattle.model.specs.Item.{recordOf, recordLayout, firstIsFormat, isFormat}
 use Rattle.model.specs.Repair.{Walk, stopAt, behind, chainRecord}
-use Rattle.model.specs.declared.answer.Stop.the-variants.{Own, Backup, Format, Broken, Below}
+use Rattle.model.specs.declared.answer.Stop.the-variants.{Broken, Below}
+use Rattle.model.specs.declared.answer.Stop.the-variants.{Own, Backup, Format}
 
 -- one step of the walk, by its tests
 unfoldable pub step : Bool → Bool → Bool → Bool → Bool → ℕ → Walk → Walk

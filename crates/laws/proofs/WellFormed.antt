@@ -1,29 +1,23 @@
 -- What a well-formed state and a table that refuses nothing tell: the counts, the pending note, the frame that holds a page, and the parts
 -- of the memory.
-use mathlib.Core.Path.{_≡_, refl, sym, ap, _∙_}
-use mathlib.Core.Logic.{_⊎_, inl, inr, ⊎-elim}
-use mathlib.Core.Bool.{Bool, true, false, _&&_, _||_, not, cond}
+use mathlib.Core.Path.{_≡_, refl}
+use mathlib.Core.Logic.{_⊎_, ⊎-elim}
+use mathlib.Core.Bool.{Bool, true, false, _||_, not, cond}
 use mathlib.Core.List.{List, [], _∷_}
-use Prim.Native.Nat.{ℕ, zero, suc, _+_, _-_, _*_, _/_, _%_, _≤_, _<_}
+use Prim.Native.Nat.{ℕ, suc, _+_, _-_, _*_, _≤_, _<_}
 use native.Mathlib.Omega.{arith}
 use lib.Dec.{eqb, leb, ltb}
 use lib.ListN.{length, getD}
 use borrow.Author.Tests.{leb-true, ltb-true, eqb-true, eqb-false, not-false}
-use Rattle.laws.proofs.Tables.{all-at, none-at, Numbered, every-at, or-cases, not-true, byCases, when-true, when-false, within-bounds, true-not-false}
+use Rattle.laws.proofs.Tables.{all-at, every-at, or-cases, byCases, within-bounds}
 use Rattle.laws.proofs.Parts.{part-length}
-use Rattle.model.specs.Tables.{all, Row, firstOf, every, within}
-use Rattle.model.specs.Bytes.{part}
+use Rattle.model.specs.Tables.{Row, firstOf, every, within}
 use Rattle.model.specs.Geometry.{most, mostNotes, geometryOf, validVolume}
 use Rattle.model.specs.Item.{noteLayout, isWritten}
-use Rattle.model.specs.Index.{entryRow}
 use Rattle.model.specs.State.{frameCount, validMemory, pendingAt, pendingBytes, frameAt, frameBytes, emptyFrame, frameRow, frameOf, holderFrom, holder, held, blank, pendingNoteFits, firstHolder, frameFits, pageFits, wellFormed}
 use Rattle.model.specs.Refusals.{stateRows}
-use Rattle.model.specs.declared.geometry.Geometry.{Geometry}
-use Rattle.model.specs.declared.item.Note.{Note}
-use Rattle.model.specs.declared.state.Frame.{Frame}
-use Rattle.model.specs.declared.state.State.{State}
-use Rattle.model.specs.declared.state.PendingNote.{PendingNote}
-use Rattle.model.specs.declared.state.PendingNote.the-variants.{Absent, Present}
+use Rattle.model.specs.declared.{geometry.Geometry.Geometry, item.Note.Note, state.Frame.Frame, state.State.State}
+use Rattle.model.specs.declared.state.PendingNote.the-variants.{Present}
 
 -- ---- the clauses
 

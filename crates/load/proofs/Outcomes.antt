@@ -1,6 +1,6 @@
 -- What the definition of Load says in each of its cases, and what the code needs to know once it walks.
 use mathlib.Core.Path.{_≡_, refl, sym, ap, _∙_}
-use mathlib.Core.Bool.{Bool, true, false, not}
+use mathlib.Core.Bool.{Bool, false, not}
 use mathlib.Core.List.{List}
 use Prim.Native.Nat.{ℕ, suc, _+_, _-_, _≤_}
 use native.Mathlib.Omega.{arith}
@@ -28,12 +28,9 @@ use Rattle.model.specs.Refusals.{loadRows, loadTail, walkTail}
 use Rattle.model.specs.Outcome.{replyOf, decided}
 use Rattle.model.specs.Effects.{withFrame, withFrames, isGood, loadDone}
 use Rattle.model.specs.Calls.{loadOf}
-use Rattle.model.specs.declared.geometry.Geometry.{Geometry}
-use Rattle.model.specs.declared.state.Entry.{Entry}
-use Rattle.model.specs.declared.state.State.{State}
-use Rattle.model.specs.declared.answer.Answer.the-variants.{Refused, Repaired}
-use Rattle.model.specs.declared.answer.Repair.{Repair}
+use Rattle.model.specs.declared.{geometry.Geometry.Geometry, state.Entry.Entry, state.State.State, answer.Repair.Repair}
 use Rattle.model.specs.declared.answer.Reply.{Reply}
+use Rattle.model.specs.declared.answer.Answer.the-variants.{Refused, Repaired}
 use Rattle.repair.specs.Walked.{Ready, walkedOf}
 use Rattle.repair.specs.declared.walk.Walked.{Walked}
 

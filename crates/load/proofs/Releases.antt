@@ -18,10 +18,8 @@ use Rattle.model.specs.Refusals.{frameBlocked, stateRows, releaseRows, releaseT
 use Rattle.model.specs.Outcome.{replyOf, decided}
 use Rattle.model.specs.Effects.{withFrame, withFrames, releaseDone}
 use Rattle.model.specs.Calls.{releaseOf}
-use Rattle.model.specs.declared.geometry.Geometry.{Geometry}
-use Rattle.model.specs.declared.state.State.{State}
+use Rattle.model.specs.declared.{geometry.Geometry.Geometry, state.State.State, answer.Reply.Reply}
 use Rattle.model.specs.declared.answer.Answer.the-variants.{Refused, Done}
-use Rattle.model.specs.declared.answer.Reply.{Reply}
 
 -- the tests of the rows of Release's own
 pub release-own : (g : Geometry) (s : State) (page f : ℕ) (blocked : Bool) (a b k : ℕ) → blocked ≡ frameBlocked s f

@@ -1,7 +1,7 @@
 -- Load's refusals: the code's tests come to the rows before the walk, and these with the walk's come to the table.
 use mathlib.Core.Path.{_≡_, refl, sym, _∙_}
-use mathlib.Core.Bool.{Bool, true, false, not, cond}
-use mathlib.Core.List.{List, [], _∷_}
+use mathlib.Core.Bool.{Bool, not, cond}
+use mathlib.Core.List.{List, []}
 use Prim.Native.Nat.{ℕ}
 use lib.Dec.{eqb}
 use lib.ListN.{length}
@@ -10,14 +10,12 @@ use Rattle.laws.proofs.Tables.{Numbered, when-true, when-false}
 use Rattle.repair.proofs.Rows.{first-then}
 use Rattle.state.proofs.Fits.{refusal-then}
 use Rattle.load.specs.Rows.{earlyRows}
-use Rattle.model.specs.Tables.{Row, firstOf, within}
+use Rattle.model.specs.Tables.{firstOf, within}
 use Rattle.model.specs.Geometry.{geometryOf}
 use Rattle.model.specs.Repair.{walkOf, isBroken, isBelow, stateView}
 use Rattle.model.specs.State.{frameCount, held, blank}
 use Rattle.model.specs.Refusals.{frameBlocked, stateRows, loadRows, loadTail, walkTail}
-use Rattle.model.specs.declared.geometry.Geometry.{Geometry}
-use Rattle.model.specs.declared.state.State.{State}
-use Rattle.model.specs.declared.answer.Stop.{Stop}
+use Rattle.model.specs.declared.{geometry.Geometry.Geometry, state.State.State, answer.Stop.Stop}
 
 -- the tests of the rows of Load's own
 pub own-is : (g : Geometry) (count : ℕ) (s : State) (page frame : ℕ) (none in-frame blocked : Bool) (b c d e k : ℕ)

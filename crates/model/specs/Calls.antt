@@ -1,10 +1,8 @@
 -- The table of the calls on the state: of each the rows that refuse it and, beside them, what it does; its number; and
 -- which outcome each name stands for. One equation says what a call leaves: `outcomeOf`.
 use Prim.Native.Nat.{ℕ}
-use mathlib.Core.Bool.{Bool}
-use mathlib.Core.List.{List, [], _∷_}
-use lib.Dec.{eqb}
-use lib.ListN.{getD, replicate}
+use mathlib.Core.{Bool.Bool, List.List, List.[], List._∷_}
+use lib.{Dec.eqb, ListN.getD, ListN.replicate}
 use Rattle.model.specs.Tables.{Row}
 use Rattle.model.specs.Geometry.{tagOf, carryTag}
 use Rattle.model.specs.Change.{kindOf, lengthOf, offsetOf, fillOf}
@@ -13,12 +11,10 @@ use Rattle.model.specs.Refusals.{noteRows, startCarryRows, restampRows, 
 use Rattle.model.specs.Outcome.{Outcome, newHeading, storing, decided}
 use Rattle.model.specs.Effects.{beginDone, loadDone, changeDone, forceDone, writeDone, backupDone, releaseDone}
 use Rattle.model.specs.Effects.{noteStored, restampDone}
-use Rattle.model.specs.declared.geometry.Heading.the-variants.{Second}
+use Rattle.model.specs.Types.{Second, Command, Begin, Load, Force, Write, Release, StartCarry, Restamp}
+use Rattle.model.specs.Types.{FinishCarry, State}
 use Rattle.model.specs.declared.change.Change as changes
-use Rattle.model.specs.declared.command.Command.{Command}
-use Rattle.model.specs.declared.command.Command.the-variants.{Begin, Load, Change, Force, Write, Backup, Release}
-use Rattle.model.specs.declared.command.Command.the-variants.{Note, StartCarry, Restamp, FinishCarry}
-use Rattle.model.specs.declared.state.State.{State}
+use Rattle.model.specs.declared.command.Command.the-variants.{Change, Backup, Note}
 
 -- ---- the table of the calls
 

@@ -3,24 +3,17 @@
 -- not say it: to them an image that fails is only repaired. The values of these types are proved in the crates `laws`
 -- (on any volume) and `history` (of histories).
 use Prim.Native.Nat.{ℕ, zero, suc, _+_, _≤_}
-use mathlib.Core.Path.{_≡_}
-use mathlib.Core.Logic.{_≢_, _↔_}
-use mathlib.Core.Bool.{Bool, true, false, cond, _||_}
-use mathlib.Core.List.{List, [], _∷_}
+use mathlib.Core.{Path._≡_, Logic._≢_, Logic._↔_, Bool.Bool, Bool.true, Bool.false, Bool.cond, Bool._||_, List.List}
+use mathlib.Core.{List.[], List._∷_}
 use lib.ListN.{length, take}
-use Rattle.model.specs.Tables.{firstOf}
+use Rattle.model.specs.{Tables.firstOf, Refusals.restampRows, Restart.inspectOf, Health.Same}
 use Rattle.model.specs.Geometry.{tagOf, carryTag, Place, geometryOf, item}
 use Rattle.model.specs.Passes.{passesAt, isImage, imageCount, oldAt}
-use Rattle.model.specs.Refusals.{restampRows}
 use Rattle.model.specs.Outcome.{volumeAfter, refusalOf}
 use Rattle.model.specs.Calls.{startCarryOf, restampOf, finishCarryOf, Call, outcomeOf, isCall}
-use Rattle.model.specs.Restart.{inspectOf}
 use Rattle.model.specs.History.{on, Event, restart, perform, crash, crashIn, damage, isStartCarry, allowed}
 use Rattle.model.specs.Claim.{History, Legal, reached, durableOf, Safe, Agree}
-use Rattle.model.specs.Health.{Same}
-use Rattle.model.specs.declared.geometry.Heading.the-variants.{First}
-use Rattle.model.specs.declared.state.State.{State}
-use Rattle.model.specs.declared.answer.Answer.the-variants.{Nothing, Done}
+use Rattle.model.specs.Types.{First, State, Nothing, Done}
 
 -- ---- on any volume, memory and state
 

@@ -1,16 +1,12 @@
 -- Laws for changes: what may be reordered and joined in a list of changes. Their values are in `laws`, proofs/Replays;
 -- the cases that show why each hypothesis stands are in `cases`, specs/Orders.
 use Prim.Native.Nat.{ℕ, _+_, _≤_}
-use mathlib.Core.Path.{_≡_}
-use mathlib.Core.Logic.{_≢_, _⊎_}
-use mathlib.Core.Bool.{true}
-use mathlib.Core.List.{List, [], _∷_, _++_}
+use mathlib.Core.{Path._≡_, Logic._≢_, Logic._⊎_, Bool.true, List.List, List.[], List._∷_, List._++_}
 use lib.ListN.{length}
 use Rattle.model.specs.Change.{fits, lengthOf}
 use Rattle.model.specs.Repair.{replayChain}
 use Rattle.model.specs.AbstractLog.{Logged, replayOn, lastPlaceFrom}
-use Rattle.model.specs.declared.change.Change.{Change}
-use Rattle.model.specs.declared.change.Change.the-variants.{Put, Slide}
+use Rattle.model.specs.Types.{Put, Slide}
 
 -- ---- the words of the laws
 

@@ -2,28 +2,19 @@
 -- are proved in the crate `history`. The paragraph on demand 3 is in two types: its sentence on one history is
 -- `Demand2.inspects`, its sentence on two histories is `Demand3`. "Inspect changes no volume" is seen in
 -- `Calls.Inspected`, which holds an answer and a buffer.
-use Prim.Native.Nat.{ℕ, zero, suc, _+_, _≤_, _<_}
-use mathlib.Core.Path.{_≡_}
-use mathlib.Core.Logic.{_≢_, _⊎_, _↔_}
-use mathlib.Core.Bool.{Bool, true, false, _&&_, _||_}
-use mathlib.Core.List.{List, [], _∷_, _++_}
-use lib.ListN.{length}
-use lib.Dec.{eqb, leb}
+use Prim.Native.Nat.{ℕ, _+_, _≤_}
+use mathlib.Core.{Path._≡_, Logic._≢_, Logic._⊎_, Logic._↔_, Bool.Bool, Bool.true, Bool._&&_, Bool._||_, List.List}
+use mathlib.Core.{List._++_}
+use lib.{ListN.length, Dec.eqb, Dec.leb}
 use Rattle.model.specs.Bytes.{bytesOf, part}
 use Rattle.model.specs.Geometry.{geometryOf, pageAt, slotAt, item}
 use Rattle.model.specs.Item.{imageLsn, validImage, frameImage}
-use Rattle.model.specs.Index.{entryOf}
+use Rattle.model.specs.{Index.entryOf, State.frameBytes, Outcome.refusalOf, Calls.loadOf}
 use Rattle.model.specs.Scan.{indexOf, gone}
-use Rattle.model.specs.declared.geometry.Geometry.{Geometry}
-use Rattle.model.specs.declared.state.Entry.{Entry}
-use Rattle.model.specs.State.{frameBytes}
-use Rattle.model.specs.Outcome.{refusalOf}
-use Rattle.model.specs.Calls.{loadOf}
+use Rattle.model.specs.Types.{Geometry, Entry, Heading, State}
 use Rattle.model.specs.Restart.{makeOf, inspectOf}
 use Rattle.model.specs.AbstractLog.{Logged, AbstractLog, emptyLog, replay, lastPlace}
-use Rattle.model.specs.History.{Power, off, on, Machine, Event, freshMachine, allAllowed, run, logAfter}
-use Rattle.model.specs.declared.geometry.Heading.{Heading}
-use Rattle.model.specs.declared.state.State.{State}
+use Rattle.model.specs.History.{on, Machine, Event, freshMachine, allAllowed, run, logAfter}
 
 -- A whole history: what Make was given, and the events after it. "A history may still begin with the Make of the first
 -- heading."

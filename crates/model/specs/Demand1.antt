@@ -2,22 +2,17 @@
 -- holds, with the first such row's number; a refused call changes nothing; a call stores at most one item. (That every
 -- call ends and does nothing undefined is what the checker shows of the code.) States document 01, "Refusal by place":
 -- "Each is given under its condition and only then."
-use Prim.Native.Nat.{ℕ, zero, suc, _+_, _≤_, _<_}
-use mathlib.Core.Path.{_≡_}
-use mathlib.Core.Logic.{_≢_, _⊎_, _↔_}
-use mathlib.Core.Bool.{Bool, true, false}
-use mathlib.Core.List.{List, [], _∷_}
+use Prim.Native.Nat.{ℕ, _+_, _≤_, _<_}
+use mathlib.Core.{Path._≡_, Logic._≢_, Logic._⊎_, Bool.true, Bool.false, List.List}
 use lib.ListN.{length, getD}
 use Rattle.model.specs.Tables.{Row}
 use Rattle.model.specs.Geometry.{tagOf, carryTag, Place, itemOf, width, start, geometryOf, validVolume}
 use Rattle.model.specs.State.{zeroState}
 use Rattle.model.specs.Refusals.{makeRows, restartRows, inspectRows}
-use Rattle.model.specs.Outcome.{StoredItem, nothing, oneItem, newHeading, Outcome, volumeAfter, refusalOf}
+use Rattle.model.specs.Outcome.{StoredItem, nothing, oneItem, newHeading, volumeAfter, refusalOf}
 use Rattle.model.specs.Calls.{Call, rowsOf, outcomeOf}
 use Rattle.model.specs.Restart.{makeOf, restartOf, inspectOf}
-use Rattle.model.specs.declared.geometry.Heading.{Heading}
-use Rattle.model.specs.declared.geometry.Heading.the-variants.{Second}
-use Rattle.model.specs.declared.state.State.{State}
+use Rattle.model.specs.Types.{Heading, Second, State}
 
 -- a row of the table holds, has the number, and no row before it holds
 pub record Decides (rows : List Row) (n : ℕ) : Type 0 where

@@ -5,10 +5,7 @@
 -- It says nothing of changes in two words (three bytes changed by +1, -2, +1 leave both sums), nor of the word sum,
 -- under which a word of 0000 and one of FFFF weigh alike: `cases` computes an example of each.
 use Prim.Native.Nat.{ℕ, _+_, _≤_, _<_}
-use mathlib.Core.Path.{_≡_}
-use mathlib.Core.Logic.{_≢_}
-use mathlib.Core.Bool.{Bool, true, false}
-use mathlib.Core.List.{List, [], _∷_}
+use mathlib.Core.{Path._≡_, Logic._≢_, Bool.true, Bool.false, List.List, List.[], List._∷_}
 use lib.ListN.{length, replicate}
 use Rattle.model.specs.Bytes.{byteAt, splice}
 use Rattle.model.specs.Geometry.{Place, tagOf, geometryOf}
@@ -17,9 +14,7 @@ use Rattle.model.specs.Item.{validImage}
 use Rattle.model.specs.Repair.{View, classIn}
 use Rattle.model.specs.Passes.{isImage}
 use Rattle.model.specs.History.{Machine, damage, allowed}
-use Rattle.model.specs.declared.geometry.Geometry.{Geometry}
-use Rattle.model.specs.declared.geometry.Heading.the-variants.{Second}
-use Rattle.model.specs.declared.answer.Class.the-variants.{Failed}
+use Rattle.model.specs.Types.{Geometry, Second, Failed}
 
 -- an item with the word at a place, two adjacent bytes, replaced
 abbrev pub withWord : List ℕ → ℕ → ℕ → ℕ → List ℕ

@@ -2,32 +2,20 @@
 -- calls". And of document 02, §5 and §4: Release; Start, Restamp and Finish, which carry a volume over to the second
 -- heading.
 use Prim.Native.Nat.{ℕ, _+_, _-_}
-use mathlib.Core.Bool.{Bool, true, false, cond, not}
-use mathlib.Core.List.{List, [], _++_}
-use lib.Dec.{eqb, ltb}
-use lib.ListN.{take, drop, set, replicate}
-use Rattle.model.specs.Tables.{within}
+use mathlib.Core.{Bool.Bool, Bool.true, Bool.false, Bool.cond, Bool.not, List.List, List.[], List._++_}
+use lib.{Dec.eqb, Dec.ltb, ListN.take, ListN.drop, ListN.set, ListN.replicate}
+use Rattle.model.specs.{Tables.within, Checksum.sealImage, Change.applyChange, Refusals.pageDirty}
 use Rattle.model.specs.Bytes.{bytesOf, field, splice}
-use Rattle.model.specs.Checksum.{sealImage}
 use Rattle.model.specs.Geometry.{pageAt, slotAt, logSlot, noteSlot, geometryOf, item}
-use Rattle.model.specs.Change.{applyChange}
 use Rattle.model.specs.Item.{imageLsn, imageBody, frameImage, encodeChange, noteBytes}
 use Rattle.model.specs.Index.{entryOf, setEntry, withLast, withDurable, enterNote}
 use Rattle.model.specs.Passes.{imageCount, imagePlace, firstOld}
 use Rattle.model.specs.Repair.{stateView, repairOf, rebuilt, classIn}
 use Rattle.model.specs.State.{pendingAt, pendingBytes, frameAt, frameBytes, lastNumber, holder}
-use Rattle.model.specs.Refusals.{pageDirty}
-use Rattle.model.specs.Outcome.{Outcome, nothing, oneItem, unchanged, storing}
-use Rattle.model.specs.declared.change.Change.{Change}
+use Rattle.model.specs.Outcome.{Outcome, nothing, oneItem, leaves, unchanged, storing}
+use Rattle.model.specs.Types.{Change, Note, Frame, PendingNote, Absent, Present, State, Class, Good, Behind}
+use Rattle.model.specs.Types.{Stale, Failed, Ahead, Nothing, Done, Repaired}
 use Rattle.model.specs.declared.change.Change.the-variants.{Format}
-use Rattle.model.specs.declared.item.Note.{Note}
-use Rattle.model.specs.declared.state.Frame.{Frame}
-use Rattle.model.specs.declared.state.PendingNote.{PendingNote}
-use Rattle.model.specs.declared.state.PendingNote.the-variants.{Absent, Present}
-use Rattle.model.specs.declared.state.State.{State}
-use Rattle.model.specs.declared.answer.Class.{Class}
-use Rattle.model.specs.declared.answer.Class.the-variants.{Good, Behind, Stale, Failed, Ahead}
-use Rattle.model.specs.declared.answer.Answer.the-variants.{Nothing, Done, Repaired}
 
 -- ---- parts of the next state
 
@@ -70,12 +58,8 @@ appendedMemory m s p c payload f image =
 -- "a clean page in the frame makes way")
 unfoldable pub beginDone : List ℕ → State → ℕ → ℕ → ℕ → Outcome
 beginDone m s page frame fill =
-    record {
-      answer = Done;
-      state = appendedState s page frame;
-      memory = appendedMemory m s page (Format fill) [] frame (frameImage page (lastNumber s + 1) (replicate 244 fill));
-      stored = nothing;
-    }
+    let image = frameImage page (lastNumber s + 1) (replicate 244 fill) in
+    leaves Done (appendedState s page frame) (appendedMemory m s page (Format fill) [] frame image) nothing
 
 abbrev pub isGood : Class → Bool
 isGood Good = true
@@ -89,12 +73,9 @@ unfoldable pub loadDone : List ℕ → List ℕ → State → ℕ → ℕ → Ou
 loadDone v m s page frame =
     let g = geometryOf v in
     let w = stateView g v s page in
-    record {
-      answer = Repaired (repairOf g page w);
-      state = withFrames s (withFrame s frame page (not (isGood (classIn g page w)))) (s .note);
-      memory = splice m (frameAt frame) (rebuilt g page w);
-      stored = nothing;
-    }
+    leaves (Repaired (repairOf g page w))
+    (withFrames s (withFrame s frame page (not (isGood (classIn g page w)))) (s .note))
+    (splice m (frameAt frame) (rebuilt g page w)) nothing
 
 -- frame bytes with a new page lsn and body; the page number, the zeros and the checksum's bytes stay
 abbrev pub changedImage : List ℕ → ℕ → List ℕ → List ℕ
@@ -105,14 +86,8 @@ unfoldable pub changeDone : List ℕ → State → ℕ → Change → List ℕ �
 changeDone m s page c payload =
     let f = holder s page in
     let x = frameBytes m f in
-    record {
-      answer = Done;
-      state = appendedState s page f;
-      memory =
-          appendedMemory m s page c payload f
-          (changedImage x (lastNumber s + 1) (applyChange c payload (imageBody x)));
-      stored = nothing;
-    }
+    let image = changedImage x (lastNumber s + 1) (applyChange c payload (imageBody x)) in
+    leaves Done (appendedState s page f) (appendedMemory m s page c payload f image) nothing
 
 -- the state once the oldest pending record, of page p, is stored: "its number, durable + 1, becomes its page's newest
 -- durable (no entry changes if that page isn't 1 to P)"
@@ -135,12 +110,7 @@ forceDone v m s =
     let g = geometryOf v in
     let r = pendingBytes m (s .durable + 1) in
     cond (eqb (s .pending) 0) (unchanged Nothing m s)
-    (record {
-      answer = Done;
-      state = forcedState s (g .pages) (field 2 8 r);
-      memory = m;
-      stored = oneItem (logSlot g (s .durable + 1)) r;
-    })
+    (leaves Done (forcedState s (g .pages) (field 2 8 r)) m (oneItem (logSlot g (s .durable + 1)) r))
 
 -- the note that Write and Backup leave to be stored
 abbrev pub nextNote : State → ℕ → ℕ → ℕ → ℕ → PendingNote
@@ -154,12 +124,8 @@ writeDone v m s page =
     let f = holder s page in
     let x = frameBytes m f in
     cond (pageDirty s page)
-    (record {
-      answer = Done;
-      state = withFrames s (withFrame s f page false) (nextNote s page 1 0 (imageLsn x));
-      memory = m;
-      stored = oneItem (pageAt page) (sealImage g x);
-    })
+    (leaves Done (withFrames s (withFrame s f page false) (nextNote s page 1 0 (imageLsn x))) m
+    (oneItem (pageAt page) (sealImage g x)))
     (unchanged Nothing m s)
 
 -- Backup: "stores the frame's image in the slot, owes a backup note"
@@ -167,23 +133,13 @@ unfoldable pub backupDone : List ℕ → List ℕ → State → ℕ → ℕ → 
 backupDone v m s page slot =
     let g = geometryOf v in
     let x = frameBytes m (holder s page) in
-    record {
-      answer = Done;
-      state = withFrames s (s .frames) (nextNote s page 2 slot (imageLsn x));
-      memory = m;
-      stored = oneItem (slotAt slot) (sealImage g x);
-    }
+    leaves Done (withFrames s (s .frames) (nextNote s page 2 slot (imageLsn x))) m
+    (oneItem (slotAt slot) (sealImage g x))
 
 -- Release (document 02, §5: letting go of a page): "the frame is then empty, its bytes as they were"; nothing is
 -- stored, so that the image on disk stays old, and a later Load repairs it. A clean page may be let go too
 unfoldable pub releaseDone : List ℕ → State → ℕ → Outcome
-releaseDone m s page =
-    record {
-      answer = Done;
-      state = withFrames s (withFrame s (holder s page) 0 false) (s .note);
-      memory = m;
-      stored = nothing;
-    }
+releaseDone m s page = leaves Done (withFrames s (withFrame s (holder s page) 0 false) (s .note)) m nothing
 
 -- the state once the pending note is stored: "only then does the index change"
 unfoldable pub notedState : State → Note → State
@@ -201,12 +157,7 @@ notedState s n =
 abbrev pub noteStored : List ℕ → List ℕ → State → PendingNote → Outcome
 noteStored v m s Absent = unchanged Nothing m s
 noteStored v m s (Present n) =
-    record {
-      answer = Done;
-      state = notedState s n;
-      memory = m;
-      stored = oneItem (noteSlot (geometryOf v) (s .notes + 1)) (noteBytes n);
-    }
+    leaves Done (notedState s n) m (oneItem (noteSlot (geometryOf v) (s .notes + 1)) (noteBytes n))
 
 -- ---- carrying a volume over (document 02, §4): Start, Restamp and Finish leave memory and state as given
 

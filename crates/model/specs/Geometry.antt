@@ -3,15 +3,11 @@
 -- 1,024; the length. And of document 02, §3: "New volumes carry the heading 43 48 50 32"; §4: "Start turns a volume's
 -- first heading to 43 48 50 43"; §7: "Number n now goes to slot ((n − 1) modulo L) + 1".
 use Prim.Native.Nat.{ℕ, suc, _+_, _-_, _*_, _%_}
-use mathlib.Core.Bool.{Bool, true, false, cond, _&&_, _||_}
-use mathlib.Core.List.{List, [], _∷_, _++_}
-use lib.Dec.{eqb, leb}
-use lib.ListN.{length, replicate}
+use mathlib.Core.{Bool.Bool, Bool.cond, Bool._&&_, Bool._||_, List.List, List.[], List._∷_, List._++_}
+use lib.{Dec.eqb, Dec.leb, ListN.length, ListN.replicate}
 use Rattle.model.specs.Tables.{all, within}
-use Rattle.model.specs.Bytes.{le, bytesOf, field, byteAt, part, splice, startsWith}
-use Rattle.model.specs.declared.geometry.Geometry.{Geometry}
-use Rattle.model.specs.declared.geometry.Heading.{Heading}
-use Rattle.model.specs.declared.geometry.Heading.the-variants.{First, Second}
+use Rattle.model.specs.Bytes.{bytesOf, field, byteAt, part, splice, startsWith}
+use Rattle.model.specs.Types.{Geometry, Heading, First, Second}
 
 -- the tag, a heading's last byte: it names the format
 abbrev pub tagOf : Heading → ℕ

@@ -2,24 +2,13 @@
 -- each other. States document 02, §8. The comparison of two stores goes on using body and number only (`Claim.Agree`):
 -- with `Same` it would be false, since damage may differ.
 use Prim.Native.Nat.{ℕ, _≤_}
-use mathlib.Core.Path.{_≡_}
-use mathlib.Core.Logic.{_≢_, _⊎_, _↔_}
-use mathlib.Core.Bool.{false}
-use mathlib.Core.List.{List}
-use Rattle.model.specs.Bytes.{part}
-use Rattle.model.specs.Item.{validImage}
+use mathlib.Core.{Path._≡_, Logic._≢_, Logic._⊎_, Logic._↔_, Bool.false, List.List}
+use Rattle.model.specs.{Bytes.part, Item.validImage, Outcome.refusalOf, Calls.loadOf, History.on}
 use Rattle.model.specs.Repair.{View, repairOf}
-use Rattle.model.specs.Outcome.{refusalOf}
-use Rattle.model.specs.Calls.{loadOf}
 use Rattle.model.specs.Restart.{Inspected, inspectOf}
-use Rattle.model.specs.History.{on}
 use Rattle.model.specs.Claim.{History, Legal, reached, inspection, Agree}
-use Rattle.model.specs.declared.geometry.Geometry.{Geometry}
-use Rattle.model.specs.declared.state.State.{State}
-use Rattle.model.specs.declared.answer.Class.the-variants.{Good, Failed, Ahead}
+use Rattle.model.specs.Types.{Geometry, State, Good, Failed, Ahead, Repair, Repaired}
 use Rattle.model.specs.declared.answer.Start.the-variants.{Own}
-use Rattle.model.specs.declared.answer.Repair.{Repair}
-use Rattle.model.specs.declared.answer.Answer.the-variants.{Repaired}
 
 -- ---- sameness
 

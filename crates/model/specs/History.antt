@@ -6,26 +6,18 @@
 use Prim.Native.Nat.{ℕ, suc}
 use mathlib.Core.Bool.{Bool, true, false, cond, _&&_, _||_, not}
 use mathlib.Core.List.{List, [], _∷_}
-use lib.Dec.{eqb}
-use lib.ListN.{length}
+use lib.{Dec.eqb, ListN.length}
 use Rattle.model.specs.Tables.{all, every, firstOf}
-use Rattle.model.specs.Bytes.{sameBytes}
+use Rattle.model.specs.{Bytes.sameBytes, Item.isWritten, Index.entryRow, Scan.indexOf}
 use Rattle.model.specs.Checksum.{sealed, imageSealed}
 use Rattle.model.specs.Geometry.{Place, pageAt, slotAt, recordAt, noteAt, width, geometryOf, item, store}
-use Rattle.model.specs.Item.{isWritten}
-use Rattle.model.specs.Index.{entryRow}
 use Rattle.model.specs.Passes.{passesAt, isImage, onlyNew}
-use Rattle.model.specs.Scan.{indexOf}
 use Rattle.model.specs.Refusals.{restartRows, startCarryRows}
 use Rattle.model.specs.Outcome.{StoredItem, nothing, oneItem, newHeading, volumeAfter}
 use Rattle.model.specs.Calls.{Call, rowsOf, outcomeOf, isCall}
 use Rattle.model.specs.Restart.{restartOf, makeOf}
 use Rattle.model.specs.AbstractLog.{AbstractLog, Left, old, new, torn, leftNew, forget, stepCall, stepCut}
-use Rattle.model.specs.declared.geometry.Geometry.{Geometry}
-use Rattle.model.specs.declared.geometry.Heading.{Heading}
-use Rattle.model.specs.declared.state.PendingNote.{PendingNote}
-use Rattle.model.specs.declared.state.PendingNote.the-variants.{Absent, Present}
-use Rattle.model.specs.declared.state.State.{State}
+use Rattle.model.specs.Types.{Geometry, Heading, PendingNote, Absent, Present, State}
 
 -- Memory and state live only while the power is on (document 01: after Make, a cut or a refused Restart there are
 -- none).

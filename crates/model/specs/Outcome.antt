@@ -1,15 +1,11 @@
 -- What a call leaves: its answer, what it makes of state and memory, and what it stores. An outcome holds at most one
 -- item, or the heading, to store, so that no call stores more, and a crash within it has one thing to tear.
 use Prim.Native.Nat.{ℕ}
-use mathlib.Core.Bool.{cond}
-use mathlib.Core.List.{List}
+use mathlib.Core.{Bool.cond, List.List}
 use lib.Dec.{eqb}
 use Rattle.model.specs.Tables.{Row, firstOf}
 use Rattle.model.specs.Geometry.{Place, geometryOf, store, storeHeading}
-use Rattle.model.specs.declared.state.State.{State}
-use Rattle.model.specs.declared.answer.Reply.{Reply}
-use Rattle.model.specs.declared.answer.Answer.{Answer}
-use Rattle.model.specs.declared.answer.Answer.the-variants.{Refused, Nothing, Done, Repaired}
+use Rattle.model.specs.Types.{State, Reply, Answer, Refused, Nothing, Done, Repaired}
 
 -- what a call stores; `newHeading` is the heading with another tag
 pub data StoredItem : Type 0 where
@@ -34,9 +30,13 @@ volumeAfter v nothing = v
 volumeAfter v (oneItem at xs) = store (geometryOf v) v at xs
 volumeAfter v (newHeading tag) = storeHeading v tag
 
+-- an outcome by its parts: answer, state, memory, what is stored
+abbrev pub leaves : Answer → State → List ℕ → StoredItem → Outcome
+leaves a s m x = record { answer = a; state = s; memory = m; stored = x }
+
 -- a call that leaves everything as it was, and answers; a refused call is one
 abbrev pub unchanged : Answer → List ℕ → State → Outcome
-unchanged a m s = record { answer = a; state = s; memory = m; stored = nothing }
+unchanged a m s = leaves a s m nothing
 
 -- a call by its table: refused by the first row that holds, else done
 unfoldable pub decided : List Row → List ℕ → State → Outcome → Outcome
@@ -44,7 +44,7 @@ decided rows m s done = cond (eqb (firstOf rows) 0) done (unchanged (Refused (fi
 
 -- a call that stores, and leaves memory and state
 abbrev pub storing : StoredItem → List ℕ → State → Outcome
-storing x m s = record { answer = Done; state = s; memory = m; stored = x }
+storing x m s = leaves Done s m x
 
 -- the number that stands for an answer: 0, or the refusal's (the C function gives it)
 abbrev pub refusalOf : Answer → ℕ

@@ -9,9 +9,7 @@ use Rattle.model.specs.Tables.{every, within}
 use Rattle.model.specs.Geometry.{tagOf, withTag, Place, pageAt, slotAt, recordAt, noteAt, item}
 use Rattle.model.specs.Item.{validImage, validSomewhere}
 use Rattle.model.specs.Index.{slotUsed}
-use Rattle.model.specs.declared.geometry.Geometry.{Geometry}
-use Rattle.model.specs.declared.geometry.Heading.the-variants.{First, Second}
-use Rattle.model.specs.declared.state.Entry.{Entry}
+use Rattle.model.specs.Types.{Geometry, First, Second, Entry}
 
 -- some page whose backup the index gives to slot b is the page that the image is valid as
 unfoldable pub validAsNoted : Geometry → ℕ → List ℕ → ℕ → List Entry → Bool

@@ -3,16 +3,14 @@
 -- that order too. The tables of the reports, with 24 "before 21" as the other exception, stand in `reports`, that of the
 -- rehearsal in `planning`. The values of the types are proved in the crate `laws`.
 use Prim.Native.Nat.{ℕ, _<_}
-use mathlib.Core.Path.{_≡_}
-use mathlib.Core.Bool.{Bool, true, false, _&&_, _||_, not}
-use mathlib.Core.List.{List, [], _∷_}
-use lib.Dec.{eqb, leb}
-use lib.ListN.{length, getD}
+use mathlib.Core.{Path._≡_, Bool.Bool, Bool.true, Bool.false, Bool._&&_, Bool._||_, Bool.not, List.List, List.[]}
+use mathlib.Core.{List._∷_}
+use lib.{Dec.eqb, Dec.leb, ListN.length, ListN.getD}
 use Rattle.model.specs.Tables.{Row}
 use Rattle.model.specs.Refusals.{makeRows, restartRows, inspectRows}
 use Rattle.model.specs.Calls.{Call, rowsOf}
 use Rattle.model.specs.Demand1.{ByTable}
-use Rattle.model.specs.declared.state.State.{State}
+use Rattle.model.specs.Types.{State}
 
 -- ---- the exceptions
 

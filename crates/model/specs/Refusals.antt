@@ -1,25 +1,17 @@
 -- The refusals of the calls: document 01's table, with document 02's rows, turned on its side, one list of rows a call,
 -- in the order in which they are tested. The answer is the first row that holds.
 use Prim.Native.Nat.{ℕ, _+_}
-use mathlib.Core.Bool.{Bool, true, false, _&&_, not}
-use mathlib.Core.List.{List, [], _∷_, _++_}
-use lib.Dec.{eqb, leb, ltb}
-use lib.ListN.{length}
+use mathlib.Core.{Bool.Bool, Bool.true, Bool._&&_, Bool.not, List.List, List.[], List._∷_, List._++_}
+use lib.{Dec.eqb, Dec.ltb, ListN.length}
 use Rattle.model.specs.Tables.{Row, within}
 use Rattle.model.specs.Geometry.{tagOf, carryTag, headed, geometryOf, validCounts, validVolume, lengthFor}
-use Rattle.model.specs.Change.{fits}
-use Rattle.model.specs.Item.{imageLsn}
+use Rattle.model.specs.{Change.fits, Item.imageLsn, Passes.oldLeft}
 use Rattle.model.specs.Index.{entryOf, slotUsed}
-use Rattle.model.specs.Passes.{oldLeft}
 use Rattle.model.specs.Scan.{indexOf, validLog, validNotes}
 use Rattle.model.specs.Repair.{scannedView, stateView, walkOf, isBroken, isBelow}
 use Rattle.model.specs.State.{frameCount, validMemory, frameBytes, frameOf, logFull, notesFull, notePending}
 use Rattle.model.specs.State.{holder, held, blank, wellFormed}
-use Rattle.model.specs.declared.geometry.Geometry.{Geometry}
-use Rattle.model.specs.declared.geometry.Heading.the-variants.{First}
-use Rattle.model.specs.declared.change.Change.{Change}
-use Rattle.model.specs.declared.state.State.{State}
-use Rattle.model.specs.declared.answer.Stop.{Stop}
+use Rattle.model.specs.Types.{Geometry, First, Change, State, Stop}
 
 -- the rows 17 and 18 of a call that scans a volume, before its own
 abbrev pub logRows : List ℕ → List Row → List Row
@@ -40,18 +32,7 @@ frameBlocked s f = not (eqb (frameOf s f .page) 0) && pagePending s (frameOf s f
 abbrev pub pageDirty : State → ℕ → Bool
 pageDirty s p = frameOf s (holder s p) .dirty
 
--- 15: the page lsn in page p's frame is above the durable count
-abbrev pub notDurable : List ℕ → State → ℕ → Bool
-notDurable m s p = ltb (s .durable) (imageLsn (frameBytes m (holder s p)))
-
--- 19: the walk for page p breaks
-abbrev pub chainBroken : Geometry → List ℕ → State → ℕ → Bool
-chainBroken g v s p = isBroken (walkOf g p (stateView g v s p) .stop)
-
--- 23: the walk for page p goes below the run, by the live count and by the count found
-abbrev pub chainBelow : Geometry → List ℕ → State → ℕ → Bool
-chainBelow g v s p = isBelow (walkOf g p (stateView g v s p) .stop)
-
+-- 23: the walk for page p goes below the run, by the count found
 abbrev pub foundBelow : Geometry → List ℕ → ℕ → Bool
 foundBelow g v p = isBelow (walkOf g p (scannedView g v p) .stop)
 
@@ -109,7 +90,7 @@ changeRows v m s page c = stateRows v m s (changeTail (geometryOf v) v s page c)
 unfoldable pub forceRows : List ℕ → List ℕ → State → List Row
 forceRows v m s = stateRows v m s []
 
--- of a call that leaves a note pending, where t holds
+-- of a call that leaves a note pending, where t holds; 15: the page lsn in the frame is above the durable count
 abbrev pub noteTail : Geometry → List ℕ → State → Bool → ℕ → List Row → List Row
 noteTail g v s t lsn rest =
     (t && notePending (s .note), 13) ∷ (t && notesFull g v s, 14) ∷ (t && ltb (s .durable) lsn, 15) ∷ rest

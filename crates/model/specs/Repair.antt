@@ -1,27 +1,16 @@
 -- A page's class, the chain walk and the rebuilt page. States document 01, "Reading the disk": the four classes; the
 -- walk (own image, else the noted backup, else the record); the replay, oldest first; and refusal 19's condition.
 use Prim.Native.Nat.{ℕ, zero, suc}
-use mathlib.Core.Bool.{Bool, true, false, cond, _&&_}
-use mathlib.Core.List.{List, [], _∷_}
-use lib.Dec.{eqb, ltb}
-use lib.ListN.{length}
-use Rattle.model.specs.Tables.{all}
-use Rattle.model.specs.Checksum.{sealed}
-use Rattle.model.specs.Geometry.{Place, pageAt, slotAt, item, logSlot}
-use Rattle.model.specs.Change.{zeroBody}
+use mathlib.Core.{Bool.Bool, Bool.true, Bool.false, Bool.cond, Bool._&&_, List.List, List.[], List._∷_}
+use lib.{Dec.eqb, Dec.ltb, ListN.length}
+use Rattle.model.specs.{Tables.all, Checksum.sealed, Change.zeroBody, Index.entryOf}
+use Rattle.model.specs.Geometry.{pageAt, slotAt, item, logSlot}
 use Rattle.model.specs.Item.{imageLsn, imageBody, validImage, recordOf, recordLayout, isFormat, firstIsFormat}
 use Rattle.model.specs.Item.{applyRecord, frameImage}
-use Rattle.model.specs.Index.{entryOf}
 use Rattle.model.specs.Scan.{durableCount, firstHeld, indexOf}
-use Rattle.model.specs.declared.geometry.Geometry.{Geometry}
-use Rattle.model.specs.declared.state.Entry.{Entry}
-use Rattle.model.specs.declared.state.State.{State}
-use Rattle.model.specs.declared.answer.Class.{Class}
-use Rattle.model.specs.declared.answer.Class.the-variants.{Good, Behind, Stale, Failed, Ahead}
-use Rattle.model.specs.declared.answer.Start.{Start}
-use Rattle.model.specs.declared.answer.Stop.{Stop}
-use Rattle.model.specs.declared.answer.Stop.the-variants.{Own, Backup, Format, Broken, Below}
-use Rattle.model.specs.declared.answer.Repair.{Repair}
+use Rattle.model.specs.Types.{Geometry, Entry, State, Class, Good, Behind, Stale, Failed, Ahead, Start, Stop}
+use Rattle.model.specs.Types.{Broken, Below, Repair}
+use Rattle.model.specs.declared.answer.Stop.the-variants.{Own, Backup, Format}
 
 -- "Good if n is the newest durable number; Behind if below that and at least the last written number; Stale if below
 -- the last written number"; document 02, §8: "a passing own image above the newest durable number gets a class of its

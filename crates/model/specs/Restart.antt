@@ -1,9 +1,7 @@
 -- The calls that take no state: Restart, Make and Inspect. States document 01, "The calls".
 use Prim.Native.Nat.{ℕ}
-use mathlib.Core.Bool.{cond}
-use mathlib.Core.List.{List}
-use lib.Dec.{eqb}
-use lib.ListN.{length, replicate}
+use mathlib.Core.{Bool.cond, List.List}
+use lib.{Dec.eqb, ListN.length, ListN.replicate}
 use Rattle.model.specs.Tables.{firstOf}
 use Rattle.model.specs.Checksum.{sealImage}
 use Rattle.model.specs.Geometry.{geometryOf, emptyVolume}
@@ -12,11 +10,7 @@ use Rattle.model.specs.Repair.{scannedView, repairOf, rebuilt}
 use Rattle.model.specs.State.{zeroState, emptyFrame}
 use Rattle.model.specs.Refusals.{makeRows, restartRows, inspectRows}
 use Rattle.model.specs.Outcome.{Outcome, nothing, decided}
-use Rattle.model.specs.declared.geometry.Heading.{Heading}
-use Rattle.model.specs.declared.state.PendingNote.the-variants.{Absent}
-use Rattle.model.specs.declared.state.State.{State}
-use Rattle.model.specs.declared.answer.Answer.{Answer}
-use Rattle.model.specs.declared.answer.Answer.the-variants.{Refused, Done, Repaired}
+use Rattle.model.specs.Types.{Heading, Absent, State, Answer, Refused, Done, Repaired}
 
 -- the state that a volume's log and notes give, with no frame in use
 unfoldable pub restartState : List ℕ → State

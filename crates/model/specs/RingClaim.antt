@@ -2,24 +2,19 @@
 -- record is spare once its page's noted backup is at or above it; a note is spare once a later whole one of its kind
 -- exists for the page", and that nothing but spare items is overwritten. On a volume that is no ring nothing is.
 use Prim.Native.Nat.{ℕ, _+_, _-_, _≤_, _<_}
-use mathlib.Core.Path.{_≡_}
-use mathlib.Core.Logic.{_≢_, _↔_}
-use mathlib.Core.Bool.{Bool, true, false, _&&_, not}
-use mathlib.Core.List.{List, [], _∷_, _++_}
+use mathlib.Core.{Path._≡_, Logic._≢_, Logic._↔_, Bool.Bool, Bool.true, Bool.false, Bool._&&_, Bool.not, List.List}
+use mathlib.Core.{List.[], List._∷_, List._++_}
 use lib.ListN.{length, take}
-use Rattle.model.specs.Checksum.{sealed}
+use Rattle.model.specs.{Checksum.sealed, Index.entryOf, State.noteWhole}
 use Rattle.model.specs.Geometry.{pageAt, slotAt, recordAt, noteAt, geometryOf, item, ring, slotOf}
 use Rattle.model.specs.Item.{imageLsn, validImage, recordOf, isFormat, noteOf}
-use Rattle.model.specs.Index.{entryOf}
 use Rattle.model.specs.Scan.{logRecord, durableCount, firstHeld, noteRecord, noteCount, indexOf}
-use Rattle.model.specs.State.{noteWhole}
 use Rattle.model.specs.Outcome.{oneItem, refusalOf}
 use Rattle.model.specs.Calls.{Call, outcomeOf, loadOf}
 use Rattle.model.specs.AbstractLog.{Logged, lastPlace, Left, old, new, torn}
-use Rattle.model.specs.History.{Power, on, Event, restart, perform, crash, crashIn, damage, isRestamp}
+use Rattle.model.specs.History.{on, Event, restart, perform, crash, crashIn, damage, isRestamp}
 use Rattle.model.specs.Claim.{History, Legal, reached, logOf, durableOf, Safe, inspection, Alike}
-use Rattle.model.specs.declared.item.Note.{Note}
-use Rattle.model.specs.declared.state.State.{State}
+use Rattle.model.specs.Types.{Note, State}
 
 -- ---- spare items
 

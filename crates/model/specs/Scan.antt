@@ -1,20 +1,15 @@
 -- The scan of a volume's log and notes, and the index that they give. States document 01, "Restart: records 1 to n have
 -- right checks, ..", for any bytes, without memory or state. Restart, Inspect and the program share it.
 use Prim.Native.Nat.{ℕ, zero, suc, _+_, _-_, _*_}
-use mathlib.Core.Bool.{Bool, true, false, cond, _&&_, _||_, not}
-use mathlib.Core.List.{List, [], _∷_, map}
+use mathlib.Core.{Bool.Bool, Bool.cond, Bool._&&_, Bool._||_, Bool.not, List.List, List.[], List._∷_, List.map}
 use lib.Dec.{eqb, leb, ltb}
-use lib.ListN.{replicate}
 use Rattle.model.specs.Tables.{all, every, within, larger}
-use Rattle.model.specs.Bytes.{le, field, part, allZero}
+use Rattle.model.specs.Bytes.{field, part, allZero}
 use Rattle.model.specs.Checksum.{sealed, sealedRun}
-use Rattle.model.specs.Geometry.{Place, recordAt, noteAt, width, start, item, ring, slotOf, logSlot, noteSlot}
+use Rattle.model.specs.Geometry.{recordAt, noteAt, start, item, ring, slotOf, logSlot, noteSlot}
 use Rattle.model.specs.Item.{recordOf, recordLayout, firstIsFormat, noteOf, noteLayout, isWritten}
 use Rattle.model.specs.Index.{emptyIndex, entryRow, entryOf, setEntry, enterNote, slotUsed, settled}
-use Rattle.model.specs.declared.geometry.Geometry.{Geometry}
-use Rattle.model.specs.declared.item.LogRecord.{LogRecord}
-use Rattle.model.specs.declared.item.Note.{Note}
-use Rattle.model.specs.declared.state.Entry.{Entry}
+use Rattle.model.specs.Types.{Geometry, LogRecord, Note, Entry}
 
 -- ---- a section
 

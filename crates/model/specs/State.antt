@@ -1,25 +1,18 @@
 -- The memory, the state, and when a state is well formed (document 01: sound). States document 01, "Memory, lost at a
 -- cut, ..", and "A state is sound if ..", clause by clause, for any state: it is judged from the state, the geometry
 -- and the number of frames alone.
-use Prim.Native.Nat.{ℕ, zero, suc, _+_, _-_, _*_, _/_, _%_}
+use Prim.Native.Nat.{ℕ, suc, _+_, _-_, _*_, _/_, _%_}
 use mathlib.Core.Bool.{Bool, true, false, cond, _&&_, _||_, not}
 use mathlib.Core.List.{List, [], _∷_}
-use lib.Dec.{eqb, leb, ltb}
-use lib.ListN.{length, getD, replicate}
+use lib.{Dec.eqb, Dec.leb, Dec.ltb, ListN.getD, ListN.replicate}
 use Rattle.model.specs.Tables.{all, every, within}
 use Rattle.model.specs.Bytes.{part}
 use Rattle.model.specs.Checksum.{sealed}
 use Rattle.model.specs.Geometry.{ring, most, mostNotes, item, logSlot, noteSlot}
 use Rattle.model.specs.Item.{noteLayout, isWritten}
-use Rattle.model.specs.Index.{emptyEntry, emptyIndex, entryRow, entryOf}
+use Rattle.model.specs.Index.{emptyIndex, entryRow, entryOf}
 use Rattle.model.specs.Scan.{logRecord, noteRecord}
-use Rattle.model.specs.declared.geometry.Geometry.{Geometry}
-use Rattle.model.specs.declared.item.Note.{Note}
-use Rattle.model.specs.declared.state.Entry.{Entry}
-use Rattle.model.specs.declared.state.Frame.{Frame}
-use Rattle.model.specs.declared.state.PendingNote.{PendingNote}
-use Rattle.model.specs.declared.state.PendingNote.the-variants.{Absent, Present}
-use Rattle.model.specs.declared.state.State.{State}
+use Rattle.model.specs.Types.{Geometry, Entry, Frame, PendingNote, Absent, Present, State}
 
 -- ---- the memory: 16 pending records, then F frames
 

@@ -3,18 +3,12 @@
 -- Note by the page and lsn of the pending note: in a history these agree with the index, elsewhere they need not. And
 -- that a Restart gives a well-formed state. The values of the types are proved in the crate `laws`.
 use Prim.Native.Nat.{ℕ}
-use mathlib.Core.Path.{_≡_}
-use mathlib.Core.Bool.{Bool, true, false, _||_}
-use mathlib.Core.List.{List}
+use mathlib.Core.{Path._≡_, Bool.Bool, Bool.true, Bool.false, Bool._||_, List.List}
 use lib.ListN.{length}
-use Rattle.model.specs.Geometry.{geometryOf}
-use Rattle.model.specs.Bytes.{Octets}
+use Rattle.model.specs.{Geometry.geometryOf, Bytes.Octets, Outcome.volumeAfter, Restart.restartOf, Demand1.Arrays}
 use Rattle.model.specs.State.{frameCount, wellFormed}
-use Rattle.model.specs.Outcome.{volumeAfter}
 use Rattle.model.specs.Calls.{Call, outcomeOf, isCall}
-use Rattle.model.specs.Restart.{restartOf}
-use Rattle.model.specs.Demand1.{Arrays}
-use Rattle.model.specs.declared.state.State.{State}
+use Rattle.model.specs.Types.{State}
 
 -- the call enters in the index what it stores: Force and Note
 abbrev pub entersIndex : Call → Bool

@@ -1,13 +1,13 @@
 -- Numbers that fit: a state's numbers do, and what fits is given back by its state.
-use mathlib.Core.Path.{_≡_, refl, sym, ap, _∙_}
-use mathlib.Core.Bool.{Bool, true, false, cond, _&&_}
+use mathlib.Core.Path.{_≡_, refl, sym, _∙_}
+use mathlib.Core.Bool.{Bool, true, false, _&&_}
 use mathlib.Core.List.{List, [], _∷_, _++_, append-assoc}
 use Prim.Native.Nat.{ℕ, zero, suc, _+_, _*_, _%_, _≤_, _<_}
 use native.Mathlib.Numerals.{add-one}
 use native.Mathlib.Omega.{arith}
 use native.Mathlib.Nat.{mod-eq-of-lt}
 use lib.Dec.{eqb, leb}
-use lib.ListN.{length, take, drop, getD, length-append, length-take, length-drop}
+use lib.ListN.{length, take, drop, getD, length-append, length-drop}
 use lib.Seq.{take-suc, take-all, take-add, take-at, drop-at, drop-cons, drop-drop}
 use borrow.Author.Tests.{eq-eqb, ne-eqb, eqb-true, leb-true, le-leb}
 use Rattle.laws.proofs.Tables.{byCases, all-at, all-holds, and-left, and-right, and-both, every-at, every-all}
@@ -15,10 +15,8 @@ use Rattle.laws.proofs.Parts.{part-length}
 use Rattle.model.specs.Tables.{all, every}
 use Rattle.model.specs.Bytes.{part}
 use Rattle.model.specs.State.{emptyFrame}
-use Rattle.model.specs.Index.{emptyEntry}
-use Rattle.model.specs.declared.state.PendingNote.{PendingNote}
+use Rattle.model.specs.declared.{state.PendingNote.PendingNote, state.State.State}
 use Rattle.model.specs.declared.state.PendingNote.the-variants.{Absent, Present}
-use Rattle.model.specs.declared.state.State.{State}
 use Rattle.face.specs.Numbers.{bitOf, noteNumbers, frameNumbers, entryNumbers, numbersOf}
 use Rattle.face.specs.Numbers.{noteFrom, framesOf, entriesOf, stateOf, noteHeld, frameHeld, entryHeld, fits}
 use Rattle.numbers.proofs.NumberLaws.{Stated, NoteTold, whole, frame-page, frame-dirty, frames-long, entry-told, entries-long}

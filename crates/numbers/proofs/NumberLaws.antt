@@ -1,30 +1,25 @@
 -- Laws of the state's numbers: one more element written, the number at each place, lists compared, and that `stateOf` and
 -- `numbersOf` are each other's inverse on what fits.
-use mathlib.Core.Path.{_≡_, refl, sym, ap, _∙_}
+use mathlib.Core.Path.{_≡_, refl, sym, _∙_}
 use mathlib.Core.Bool.{Bool, true, false}
 use mathlib.Core.List.{List, [], _∷_, _++_, append-assoc, append-nil}
 use borrow.Rule.Slice.PartMut.{putMid, postOf}
 use Prim.Native.Nat.{ℕ, zero, suc, _+_, _*_, _%_, _≤_, _<_}
-use native.Mathlib.Numerals.{add-one}
 use native.Mathlib.Omega.{arith}
 use native.Mathlib.Nat.{mod-eq-of-lt}
 use lib.Dec.{eqb}
 use lib.ListN.{length, take, drop, getD, set, length-set, length-append, length-drop}
-use lib.Seq.{take-suc, take-suc-set, take-all, take-at, drop-at, drop-cons}
-use borrow.Author.Tests.{eq-eqb, ne-eqb, eqb-true}
-use Rattle.laws.proofs.Tables.{and-left, and-right}
+use lib.Seq.{take-suc, take-suc-set, take-all, take-at, drop-at}
+use borrow.Author.Tests.{ne-eqb}
 use Rattle.laws.proofs.Tabulated.{tabulate-length, tabulate-at, table-of}
-use Rattle.model.specs.Bytes.{part, sameBytes}
+use Rattle.model.specs.Bytes.{part}
 use Rattle.model.specs.Demand1.{Arrays}
 use Rattle.model.specs.Index.{emptyEntry}
 use Rattle.model.specs.State.{emptyFrame}
-use Rattle.model.specs.declared.state.Entry.{Entry}
-use Rattle.model.specs.declared.state.Frame.{Frame}
-use Rattle.model.specs.declared.state.PendingNote.{PendingNote}
+use Rattle.model.specs.declared.{state.Entry.Entry, state.Frame.Frame, state.PendingNote.PendingNote, state.State.State}
 use Rattle.model.specs.declared.state.PendingNote.the-variants.{Absent, Present}
-use Rattle.model.specs.declared.state.State.{State}
 use Rattle.face.specs.Numbers.{bitOf, noteNumbers, frameNumbers, entryNumbers, numbersOf}
-use Rattle.face.specs.Numbers.{noteFrom, frameRow, entryRow, framesOf, entriesOf, stateOf, fits}
+use Rattle.face.specs.Numbers.{noteFrom, frameRow, entryRow, framesOf, entriesOf, stateOf}
 
 -- ---- lists that agree so far
 

@@ -7,8 +7,7 @@ use native.Mathlib.Omega.{arith}
 use lib.ListN.{length, take, drop, getD, set, length-append}
 use lib.Seq.{take-at, drop-at, take-append-add, drop-append-add}
 use Rattle.model.specs.Index.{emptyEntry}
-use Rattle.model.specs.declared.state.Entry.{Entry}
-use Rattle.model.specs.declared.state.State.{State}
+use Rattle.model.specs.declared.{state.Entry.Entry, state.State.State}
 use Rattle.face.specs.Numbers.{noteNumbers, frameNumbers, entryNumbers, numbersOf}
 use Rattle.numbers.proofs.NumberLaws.{head-long, frames-long}
 

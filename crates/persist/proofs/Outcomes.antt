@@ -15,11 +15,8 @@ use Rattle.model.specs.Refusals.{stateRows, pageDirty, writeRows, backupRows, n
 use Rattle.model.specs.Outcome.{oneItem, unchanged, decided, volumeAfter}
 use Rattle.model.specs.Effects.{withFrame, withFrames, nextNote, notedState, noteStored, backupDone, writeDone}
 use Rattle.model.specs.Calls.{writeOf, backupOf, noteCall}
-use Rattle.model.specs.declared.geometry.Geometry.{Geometry}
-use Rattle.model.specs.declared.item.Note.{Note}
-use Rattle.model.specs.declared.state.Frame.{Frame}
+use Rattle.model.specs.declared.{geometry.Geometry.Geometry, item.Note.Note, state.Frame.Frame, state.State.State}
 use Rattle.model.specs.declared.state.PendingNote.the-variants.{Absent, Present}
-use Rattle.model.specs.declared.state.State.{State}
 use Rattle.model.specs.declared.answer.Answer.the-variants.{Refused, Nothing, Done}
 
 -- an item stored at a place; the code's geometry and offset

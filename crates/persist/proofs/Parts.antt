@@ -13,8 +13,7 @@ use Rattle.model.specs.Bytes.{field, part, splice}
 use Rattle.model.specs.Checksum.{sealImage}
 use Rattle.model.specs.Item.{imageLsn, noteBytes}
 use Rattle.model.specs.State.{frameAt, frameBytes}
-use Rattle.model.specs.declared.geometry.Geometry.{Geometry}
-use Rattle.model.specs.declared.item.Note.{Note}
+use Rattle.model.specs.declared.{geometry.Geometry.Geometry, item.Note.Note}
 
 -- the page lsn, read from the memory itself
 pub lsn-is : (m : List ℕ) (f at r : ℕ) → at ≡ frameAt f → r ≡ field 4 (at + 4) m → r ≡ imageLsn (frameBytes m f)

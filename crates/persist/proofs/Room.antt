@@ -16,9 +16,7 @@ use Rattle.model.specs.Item.{imageLsn}
 use Rattle.model.specs.Geometry.{mostNotes, geometryOf, Place, pageAt, slotAt, noteSlot, width, start}
 use Rattle.model.specs.State.{frameCount, frameAt, frameBytes, notesFull, holder, held, pendingNoteFits}
 use Rattle.model.specs.Refusals.{stateRows, pageDirty, writeRows, backupRows, writeTail, backupTail}
-use Rattle.model.specs.declared.geometry.Geometry.{Geometry}
-use Rattle.model.specs.declared.item.Note.{Note}
-use Rattle.model.specs.declared.state.PendingNote.the-variants.{Present}
+use Rattle.model.specs.declared.{geometry.Geometry.Geometry, item.Note.Note, state.PendingNote.the-variants.Present}
 use Rattle.model.specs.declared.state.State.{State}
 
 -- of an image that goes to a place; g is the code's geometry

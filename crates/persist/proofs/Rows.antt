@@ -11,9 +11,7 @@ use Rattle.model.specs.Index.{slotUsed}
 use Rattle.model.specs.Geometry.{geometryOf}
 use Rattle.model.specs.State.{frameBytes, frameOf, notePending, notesFull, holder}
 use Rattle.model.specs.Refusals.{stateRows, writeRows, backupRows, noteTail, writeTail, backupTail}
-use Rattle.model.specs.declared.geometry.Geometry.{Geometry}
-use Rattle.model.specs.declared.state.Frame.{Frame}
-use Rattle.model.specs.declared.state.State.{State}
+use Rattle.model.specs.declared.{geometry.Geometry.Geometry, state.Frame.Frame, state.State.State}
 
 module _ (v m : List ℕ) (s : State) (n page : ℕ) (e : n ≡ firstOf (stateRows v m s [])) where
   abbrev writeOwn : List Row

@@ -9,7 +9,6 @@ use mathlib.Core.List.{List, [], _∷_}
 use lib.Dec.{eqb, leb, ltb}
 use lib.ListN.{length, getD, set, replicate}
 use Rattle.model.specs.Tables.{Row, firstOf, within}
-use Rattle.model.specs.declared.answer.Answer.{Answer}
 use Rattle.model.specs.declared.answer.Answer.the-variants.{Refused, Done}
 use Rattle.planning.specs.declared.rehearsal.Victim.{Victim}
 use Rattle.planning.specs.declared.rehearsal.Victim.the-variants.{Written, Released}

@@ -9,31 +9,26 @@ use mathlib.Core.List.{List, [], _∷_, _++_}
 use lib.Dec.{eqb, leb}
 use lib.ListN.{length, getD, replicate}
 use Rattle.model.specs.Tables.{firstOf, every}
-use Rattle.model.specs.Geometry.{Place, pageAt, slotAt, recordAt, noteAt}
+use Rattle.model.specs.Geometry.{pageAt, slotAt, recordAt, noteAt}
 use Rattle.model.specs.Change.{fits}
 use Rattle.model.specs.Item.{imagePage, recordOf, noteOf}
-use Rattle.model.specs.Bytes.{le, field}
-use Rattle.model.specs.Index.{entryOf, slotUsed}
+use Rattle.model.specs.Index.{slotUsed}
 use Rattle.model.specs.Passes.{firstFrom}
 use Rattle.model.specs.State.{frameRow, held, blank}
 use Rattle.model.specs.Outcome.{StoredItem, nothing, oneItem, newHeading, refusalOf}
 use Rattle.model.specs.Calls.{Call, codeOf, isCall, outcomeOf, noPayload}
-use Rattle.model.specs.declared.command.Command.the-variants.{Change as ChangeCall}
 use Rattle.model.specs.Restart.{makeOf}
-use Rattle.model.specs.declared.command.Command.the-variants.{Begin, Load, Change as ChangeCall, Force, Write, Backup, Release, Note}
+use Rattle.model.specs.declared.{geometry.Heading.Heading, change.Change.the-variants.Put, answer.Answer.Answer}
+use Rattle.model.specs.declared.{state.Frame.Frame, state.State.State}
+use Rattle.model.specs.declared.command.Command.the-variants.{Begin, Load, Force, Write, Release}
+use Rattle.model.specs.declared.answer.Answer.the-variants.{Refused, Nothing, Done, Repaired}
+use Rattle.model.specs.declared.command.Command.the-variants.{Change as ChangeCall, Backup, Note}
 use Rattle.model.specs.History.{Power, off, on, Machine, perform, restart, step, isOn, freshMachine}
 use Rattle.planning.specs.Rehearsal.{accessOf, pageIn, victimWritten, noFigures, pageRow, setRow, withLoad, withRecord, oneImage, oneBackup, oneNote, rehearsalRows, rehearsalOf, totalOf}
-use Rattle.model.specs.declared.geometry.Heading.{Heading}
-use Rattle.model.specs.declared.change.Change.the-variants.{Put}
-use Rattle.model.specs.declared.answer.Answer.{Answer}
-use Rattle.model.specs.declared.answer.Answer.the-variants.{Refused, Nothing, Done, Repaired}
-use Rattle.model.specs.declared.state.Frame.{Frame}
-use Rattle.model.specs.declared.state.State.{State}
 use Rattle.planning.specs.declared.rehearsal.Settings.{Settings}
 use Rattle.planning.specs.declared.rehearsal.Access.{Access}
 use Rattle.planning.specs.declared.rehearsal.Access.the-variants.{Read, Change}
 use Rattle.planning.specs.declared.rehearsal.Figures.{Figures}
-use Rattle.planning.specs.declared.rehearsal.Rehearsed.{Rehearsed}
 
 -- ---- what the settings leave open
 

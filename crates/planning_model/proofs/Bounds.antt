@@ -1,16 +1,16 @@
 -- How much a step can add to a figure: at most 256.
 use Prim.Native.Nat.{ℕ, zero, suc, _+_, _*_, _-_, _%_, _≤_, _<_}
-use mathlib.Core.Path.{_≡_, refl, sym}
-use mathlib.Core.Bool.{Bool, true, false, cond, _&&_}
-use mathlib.Core.List.{List, [], _∷_}
+use mathlib.Core.Path.{_≡_}
+use mathlib.Core.Bool.{Bool, true, false, _&&_}
+use mathlib.Core.List.{List}
 use native.Mathlib.Omega.{arith}
 use native.Mathlib.Decide.{decLt, ℕ-discrete}
 use native.Mathlib.Nat.{mod-lt}
 use lib.Dec.{eqb, ltb}
-use lib.ListN.{length, getD, set, replicate, List·getD-eq-default}
+use lib.ListN.{length, getD, set, replicate}
 use lib.Seq.{getD-set-same, getD-set-other, set-out}
 use Rattle.laws.proofs.Tables.{byCases}
-use Rattle.planning.specs.Rehearsal.{noFigures, pageRow, setRow, withLoad, withImage, withRecord, withBackup, withChange, victimWritten, replayedBy, useRow, evicted, broughtIn, holding, leastUsed, foundIn, missing, touched, changed, stepOn, idle}
+use Rattle.planning.specs.Rehearsal.{noFigures, pageRow, withLoad, withImage, withRecord, withChange, victimWritten, replayedBy, useRow, evicted, broughtIn, holding, leastUsed, touched, changed, stepOn, idle}
 use Rattle.planning.specs.declared.rehearsal.Settings.{Settings}
 use Rattle.planning.specs.declared.rehearsal.Figures.{Figures}
 use Rattle.planning.specs.declared.rehearsal.Rehearsal.{Rehearsal}

@@ -20,17 +20,13 @@ use Rattle.model.specs.Refusals.{pageDirty, releaseRows}
 use Rattle.model.specs.Outcome.{StoredItem, nothing, oneItem, Outcome, volumeAfter, decided}
 use Rattle.model.specs.Effects.{withFrame, withFrames, nextNote, notedState, releaseDone, writeDone}
 use Rattle.model.specs.Calls.{writeOf, releaseOf, noPayload}
-use Rattle.model.specs.declared.command.Command.the-variants.{Write, Release, Note as NoteCall}
+use Rattle.model.specs.declared.{geometry.Geometry.Geometry, answer.Answer.the-variants.Done, item.Note.Note}
+use Rattle.model.specs.declared.{state.Entry.Entry, state.Frame.Frame, state.PendingNote.the-variants.Absent}
+use Rattle.model.specs.declared.state.State.{State}
+use Rattle.model.specs.declared.command.Command.the-variants.{Write, Release}
 use Rattle.model.specs.AbstractLog.{Logged, stepCall}
 use Rattle.planning.specs.Rehearsal.{pageRow, setRow, oneImage, oneNote, withImage}
 use Rattle.planning.specs.RehearsalRun.{Played, playCall}
-use Rattle.model.specs.declared.geometry.Geometry.{Geometry}
-use Rattle.model.specs.declared.answer.Answer.the-variants.{Done}
-use Rattle.model.specs.declared.item.Note.{Note}
-use Rattle.model.specs.declared.state.Entry.{Entry}
-use Rattle.model.specs.declared.state.Frame.{Frame}
-use Rattle.model.specs.declared.state.PendingNote.the-variants.{Absent}
-use Rattle.model.specs.declared.state.State.{State}
 use Rattle.planning.specs.declared.rehearsal.Victim.{Victim}
 use Rattle.planning.specs.declared.rehearsal.Victim.the-variants.{Written, Released}
 use Rattle.planning.specs.declared.rehearsal.Settings.{Settings}
@@ -45,6 +41,7 @@ use Rattle.planning_theory.proofs.Play.{Run, Stage, call-stays, rows-no
 use Rattle.planning_theory.proofs.Relation.{DirtyIn, Current, OnDisk, Sim, Backups, Rows, row-twice, rows-same, backup-same, backups-same, all-is, one-row}
 use Rattle.planning_theory.proofs.StoreSteps.{note-step}
 use Rattle.planning_theory.proofs.BackupStep.{noted-frames, noted-quiet}
+use Rattle.model.specs.declared.command.Command.the-variants.{Note as NoteCall}
 
 release-done : (v m : List ℕ) (s : State) (p : ℕ) → firstOf (releaseRows v m s p) ≡ 0
     → releaseOf v m s p

@@ -18,12 +18,11 @@ use Rattle.model.specs.State.{frameRow, holder, held}
 use Rattle.model.specs.Refusals.{beginRows}
 use Rattle.model.specs.Outcome.{StoredItem}
 use Rattle.model.specs.Calls.{noPayload}
-use Rattle.model.specs.declared.command.Command.the-variants.{Change as ChangeCall, Backup, Note}
+use Rattle.model.specs.declared.command.Command.the-variants.{Backup, Note}
 use Rattle.model.specs.AbstractLog.{Logged}
 use Rattle.planning.specs.Rehearsal.{accessOf, pageRow, setRow, withRecord, withBackup, withChange}
 use Rattle.planning.specs.RehearsalRun.{Choice, changesOf, backUp, Played, playCall, playCalls}
-use Rattle.model.specs.declared.geometry.Geometry.{Geometry}
-use Rattle.model.specs.declared.state.State.{State}
+use Rattle.model.specs.declared.{geometry.Geometry.Geometry, state.State.State}
 use Rattle.planning.specs.declared.rehearsal.Settings.{Settings}
 use Rattle.planning.specs.declared.rehearsal.Access.the-variants.{Read, Change}
 use Rattle.planning.specs.declared.rehearsal.FrameUse.{FrameUse}

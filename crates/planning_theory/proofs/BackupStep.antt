@@ -22,12 +22,8 @@ use Rattle.model.specs.declared.command.Command.the-variants.{Backup, Note as N
 use Rattle.model.specs.AbstractLog.{Logged, stepCall}
 use Rattle.planning.specs.Rehearsal.{pageRow, setRow, oneBackup, oneNote, withBackup}
 use Rattle.planning.specs.RehearsalRun.{Played, playCall}
-use Rattle.model.specs.declared.geometry.Geometry.{Geometry}
-use Rattle.model.specs.declared.answer.Answer.the-variants.{Done}
-use Rattle.model.specs.declared.item.Note.{Note}
-use Rattle.model.specs.declared.state.Entry.{Entry}
-use Rattle.model.specs.declared.state.Frame.{Frame}
-use Rattle.model.specs.declared.state.PendingNote.the-variants.{Absent}
+use Rattle.model.specs.declared.{geometry.Geometry.Geometry, answer.Answer.the-variants.Done, item.Note.Note}
+use Rattle.model.specs.declared.{state.Entry.Entry, state.Frame.Frame, state.PendingNote.the-variants.Absent}
 use Rattle.model.specs.declared.state.State.{State}
 use Rattle.planning.specs.declared.rehearsal.Settings.{Settings}
 use Rattle.planning.specs.declared.rehearsal.FrameUse.{FrameUse}

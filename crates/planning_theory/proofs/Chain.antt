@@ -1,7 +1,7 @@
 -- The length of the walk's chain: the page's changes after the start, where its own image is not valid.
 use mathlib.Core.Path.{_≡_, refl, ap}
 use mathlib.Core.Bool.{true, false, _&&_}
-use mathlib.Core.List.{List, [], _∷_, _++_, append-nil}
+use mathlib.Core.List.{List, [], _++_, append-nil}
 use Prim.Native.Nat.{ℕ, zero, suc, _+_, _≤_, _<_}
 use native.Mathlib.Omega.{arith}
 use lib.ListN.{length}
@@ -15,8 +15,7 @@ use Rattle.model.specs.Scan.{firstHeld}
 use Rattle.model.specs.Repair.{viewOf, Walk, walkFrom, walkOf, isBelow, backupStart}
 use Rattle.model.specs.Outcome.{StoredItem}
 use Rattle.model.specs.AbstractLog.{Logged}
-use Rattle.model.specs.declared.geometry.Geometry.{Geometry}
-use Rattle.model.specs.declared.state.State.{State}
+use Rattle.model.specs.declared.{geometry.Geometry.Geometry, state.State.State}
 use Rattle.history.proofs.Logs.{at, lastAt, lastOf, last-le, last-page}
 use Rattle.history.proofs.Walk.{Law, walk-says, last-reaches}
 use Rattle.history.proofs.Records.{AllFair, recOf}

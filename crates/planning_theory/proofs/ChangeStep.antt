@@ -21,18 +21,14 @@ use Rattle.model.specs.Refusals.{beginRows, changeRows}
 use Rattle.model.specs.Outcome.{StoredItem, nothing, Outcome, volumeAfter, decided}
 use Rattle.model.specs.Effects.{appendedState, appendedMemory, changedImage, beginDone, changeDone}
 use Rattle.model.specs.Calls.{beginOf, changeCall, noPayload}
-use Rattle.model.specs.declared.command.Command.the-variants.{Begin, Change as ChangeCall, Force}
+use Rattle.model.specs.declared.{geometry.Geometry.Geometry, answer.Answer.the-variants.Done, change.Change.Change}
+use Rattle.model.specs.declared.{change.Change.the-variants.Put, state.Entry.Entry, state.Frame.Frame}
+use Rattle.model.specs.declared.{state.PendingNote.the-variants.Absent, state.State.State}
+use Rattle.model.specs.declared.command.Command.the-variants.{Begin, Force}
 use Rattle.model.specs.AbstractLog.{Logged, loggedChange, stepCall}
 use Rattle.planning.specs.Rehearsal.{pageRow, setRow, withRecord}
 use Rattle.planning.specs.RehearsalRun.{Played, playCall}
-use Rattle.model.specs.declared.geometry.Geometry.{Geometry}
-use Rattle.model.specs.declared.answer.Answer.the-variants.{Done}
-use Rattle.model.specs.declared.change.Change.{Change}
-use Rattle.model.specs.declared.change.Change.the-variants.{Format, Put}
-use Rattle.model.specs.declared.state.Entry.{Entry}
-use Rattle.model.specs.declared.state.Frame.{Frame}
-use Rattle.model.specs.declared.state.PendingNote.the-variants.{Absent}
-use Rattle.model.specs.declared.state.State.{State}
+use Rattle.model.specs.declared.change.Change.the-variants.{Format}
 use Rattle.planning.specs.declared.rehearsal.Victim.{Victim}
 use Rattle.planning.specs.declared.rehearsal.Victim.the-variants.{Written, Released}
 use Rattle.planning.specs.declared.rehearsal.Settings.{Settings}
@@ -46,6 +42,7 @@ use Rattle.planning_theory.proofs.Chain.{Begun}
 use Rattle.planning_theory.proofs.Play.{Run, Stage, rows-none, run-as, ctx-as}
 use Rattle.planning_theory.proofs.Relation.{OnDisk, Mine, Sim, BackedAt, Backups, Rows, rows-more, backup-same, sim-keep}
 use Rattle.planning_theory.proofs.StoreSteps.{Forced, force-step}
+use Rattle.model.specs.declared.command.Command.the-variants.{Change as ChangeCall}
 
 -- ---- lists with one change more
 

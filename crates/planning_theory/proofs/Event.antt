@@ -13,13 +13,12 @@ use Rattle.laws.proofs.Frames.{not-held}
 use Rattle.model.specs.State.{frameRow, held, blank}
 use Rattle.model.specs.Outcome.{StoredItem}
 use Rattle.model.specs.Calls.{noPayload}
-use Rattle.model.specs.declared.command.Command.the-variants.{Load, Write, Release, Note}
+use Rattle.model.specs.declared.{geometry.Geometry.Geometry, state.PendingNote.the-variants.Absent, state.State.State}
+use Rattle.model.specs.declared.command.Command.the-variants.{Load, Write, Release}
+use Rattle.model.specs.declared.command.Command.the-variants.{Note}
 use Rattle.model.specs.AbstractLog.{Logged}
 use Rattle.planning.specs.Rehearsal.{victimWritten, useRow, pageRow, setRow, withLoad, withImage, holding, leastUsed, evicted, broughtIn, replayedBy, foundIn, missing, touched}
 use Rattle.planning.specs.RehearsalRun.{changesOf, victimRow, evictionCalls, Played, playCall, playCalls}
-use Rattle.model.specs.declared.geometry.Geometry.{Geometry}
-use Rattle.model.specs.declared.state.PendingNote.the-variants.{Absent}
-use Rattle.model.specs.declared.state.State.{State}
 use Rattle.planning.specs.declared.rehearsal.Victim.{Victim}
 use Rattle.planning.specs.declared.rehearsal.Victim.the-variants.{Written, Released}
 use Rattle.planning.specs.declared.rehearsal.Settings.{Settings}

@@ -10,13 +10,12 @@ use Rattle.laws.proofs.Tables.{true-not-false}
 use Rattle.model.specs.State.{frameRow, held, blank}
 use Rattle.model.specs.Outcome.{StoredItem}
 use Rattle.model.specs.Calls.{Call, noPayload}
-use Rattle.model.specs.declared.command.Command.the-variants.{Begin, Load, Change as ChangeCall, Force}
+use Rattle.model.specs.declared.{geometry.Geometry.Geometry, change.Change.the-variants.Put, state.State.State}
+use Rattle.model.specs.declared.command.Command.the-variants.{Begin, Load, Force}
 use Rattle.model.specs.AbstractLog.{Logged, loggedChange}
 use Rattle.planning.specs.Rehearsal.{pageRow, setRow, withRecord, evicted}
 use Rattle.planning.specs.RehearsalRun.{Choice, changesOf, evictionCalls, bringIn, backUp, callsOf, Played, playCall, playCalls}
-use Rattle.model.specs.declared.geometry.Geometry.{Geometry}
-use Rattle.model.specs.declared.change.Change.the-variants.{Format, Put}
-use Rattle.model.specs.declared.state.State.{State}
+use Rattle.model.specs.declared.change.Change.the-variants.{Format}
 use Rattle.planning.specs.declared.rehearsal.Settings.{Settings}
 use Rattle.planning.specs.declared.rehearsal.Access.the-variants.{Read, Change}
 use Rattle.planning.specs.declared.rehearsal.Figures.{Figures}
@@ -28,6 +27,7 @@ use Rattle.planning_theory.proofs.Relation.{Arrived, Rows}
 use Rattle.planning_theory.proofs.ChangeStep.{Changed, changed-step, begin-step, put-step}
 use Rattle.planning_theory.proofs.Event.{Full, stage-as, in-frame, blank-yes, blank-not, fo, f16, row, row-low, row-victim, eviction-stage}
 use Rattle.planning_theory.proofs.Backed.{holder-of, page-high, no-page, begin-high}
+use Rattle.model.specs.declared.command.Command.the-variants.{Change as ChangeCall}
 
 -- a later change of page p, and what it logs
 abbrev pub putOf : Choice → ℕ → Call

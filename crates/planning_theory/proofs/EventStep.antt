@@ -13,12 +13,11 @@ use Rattle.laws.proofs.Tables.{byCases}
 use Rattle.model.specs.State.{frameRow, held, blank}
 use Rattle.model.specs.Outcome.{StoredItem}
 use Rattle.model.specs.Calls.{Call, noPayload}
+use Rattle.model.specs.declared.{geometry.Geometry.Geometry, state.State.State}
 use Rattle.model.specs.declared.command.Command.the-variants.{Begin, Load, Force}
 use Rattle.model.specs.AbstractLog.{Logged}
 use Rattle.planning.specs.Rehearsal.{accessOf, pageIn, victimWritten, pageRow, setRow, withChange, evicted, broughtIn, foundIn, touched, changed, stepOn}
 use Rattle.planning.specs.RehearsalRun.{Choice, evictionCalls, backUp, callsOf, Played, playCall, playCalls}
-use Rattle.model.specs.declared.geometry.Geometry.{Geometry}
-use Rattle.model.specs.declared.state.State.{State}
 use Rattle.planning.specs.declared.rehearsal.Settings.{Settings}
 use Rattle.planning.specs.declared.rehearsal.Access.{Access}
 use Rattle.planning.specs.declared.rehearsal.Access.the-variants.{Read, Change}

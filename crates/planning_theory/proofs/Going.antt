@@ -20,19 +20,18 @@ use Rattle.model.specs.Refusals.{pageDirty}
 use Rattle.model.specs.Outcome.{StoredItem, nothing, oneItem, Outcome, volumeAfter, unchanged, decided}
 use Rattle.model.specs.Effects.{withFrame, withFrames, appendedState, appendedMemory, changedImage, isGood, nextNote, forcedState, notedState, backupDone, beginDone, changeDone, forceDone, loadDone, releaseDone, writeDone}
 use Rattle.model.specs.Calls.{Call, rowsOf, outcomeOf, noPayload}
-use Rattle.model.specs.declared.command.Command.the-variants.{Begin, Load, Change as ChangeCall, Force, Write, Backup, Release, Note}
+use Rattle.model.specs.declared.{geometry.Geometry.Geometry, change.Change.Change, state.PendingNote.PendingNote}
+use Rattle.model.specs.declared.state.State.{State}
+use Rattle.model.specs.declared.command.Command.the-variants.{Begin, Load, Force, Write, Release}
+use Rattle.model.specs.declared.answer.Answer.the-variants.{Nothing, Done, Repaired}
+use Rattle.model.specs.declared.state.PendingNote.the-variants.{Absent, Present}
+use Rattle.model.specs.declared.command.Command.the-variants.{Change as ChangeCall, Backup, Note}
 use Rattle.model.specs.AbstractLog.{Logged, AbstractLog, stepCall}
 use Rattle.model.specs.Carry.{carries}
 use Rattle.model.specs.History.{Power, off, on, isRestamp, payloadFits}
 use Rattle.planning.specs.Rehearsal.{pageRow, setRow, withLoad, withRecord, oneImage, oneBackup}
 use Rattle.planning.specs.RehearsalRun.{Played, answerCount, storedCount, playCall}
-use Rattle.model.specs.declared.geometry.Geometry.{Geometry}
-use Rattle.model.specs.declared.answer.Answer.the-variants.{Nothing, Done, Repaired}
-use Rattle.model.specs.declared.change.Change.{Change}
 use Rattle.model.specs.declared.change.Change.the-variants.{Format}
-use Rattle.model.specs.declared.state.PendingNote.{PendingNote}
-use Rattle.model.specs.declared.state.PendingNote.the-variants.{Absent, Present}
-use Rattle.model.specs.declared.state.State.{State}
 use Rattle.planning.specs.declared.rehearsal.Settings.{Settings}
 use Rattle.planning.specs.declared.rehearsal.Figures.{Figures}
 use Rattle.history.proofs.Leaf.{valid-page}

@@ -2,12 +2,12 @@
 -- model's without a refusal.
 use mathlib.Core.Path.{_≡_, refl, ap}
 use mathlib.Core.List.{List, [], _∷_}
-use Prim.Native.Nat.{ℕ, suc, _+_, _-_, _≤_, _<_}
+use Prim.Native.Nat.{ℕ, _-_, _<_}
 use native.Mathlib.Omega.{arith}
 use native.Mathlib.Decide.{decLt}
 use lib.ListN.{length, replicate, length-replicate, List·getD-eq-default}
 use Rattle.model.specs.Geometry.{validCounts, lengthFor}
-use Rattle.model.specs.Change.{fits, changeFits}
+use Rattle.model.specs.Change.{changeFits}
 use Rattle.model.specs.Refusals.{makeRows}
 use Rattle.model.specs.Outcome.{refusalOf}
 use Rattle.model.specs.Restart.{makeOf}

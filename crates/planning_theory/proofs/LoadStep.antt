@@ -20,15 +20,12 @@ use Rattle.model.specs.Refusals.{loadRows}
 use Rattle.model.specs.Outcome.{StoredItem, nothing, Outcome, volumeAfter, decided}
 use Rattle.model.specs.Effects.{withFrame, withFrames, isGood, loadDone}
 use Rattle.model.specs.Calls.{loadOf, noPayload}
-use Rattle.model.specs.declared.command.Command.the-variants.{Load}
+use Rattle.model.specs.declared.{command.Command.the-variants.Load, geometry.Geometry.Geometry}
+use Rattle.model.specs.declared.{answer.Answer.the-variants.Repaired, state.Frame.Frame}
+use Rattle.model.specs.declared.{state.PendingNote.the-variants.Absent, state.State.State}
 use Rattle.model.specs.AbstractLog.{Logged, stepCall}
 use Rattle.planning.specs.Rehearsal.{pageRow, setRow, withLoad, victimWritten, replayedBy}
 use Rattle.planning.specs.RehearsalRun.{playCall}
-use Rattle.model.specs.declared.geometry.Geometry.{Geometry}
-use Rattle.model.specs.declared.answer.Answer.the-variants.{Repaired}
-use Rattle.model.specs.declared.state.Frame.{Frame}
-use Rattle.model.specs.declared.state.PendingNote.the-variants.{Absent}
-use Rattle.model.specs.declared.state.State.{State}
 use Rattle.planning.specs.declared.rehearsal.Victim.{Victim}
 use Rattle.planning.specs.declared.rehearsal.Victim.the-variants.{Written, Released}
 use Rattle.planning.specs.declared.rehearsal.Settings.{Settings}

@@ -14,8 +14,7 @@ use Rattle.model.specs.Carry.{carries}
 use Rattle.model.specs.History.{isRestamp, pastAfter, Power, off, on, payloadFits, step}
 use Rattle.planning.specs.Rehearsal.{accessOf}
 use Rattle.planning.specs.RehearsalRun.{Choices, Played, answered, answerCount, storedCount, playCall, playCalls, callsIn, playEvents}
-use Rattle.model.specs.declared.geometry.Geometry.{Geometry}
-use Rattle.model.specs.declared.state.State.{State}
+use Rattle.model.specs.declared.{geometry.Geometry.Geometry, state.State.State}
 use Rattle.planning.specs.declared.rehearsal.Figures.{Figures}
 use Rattle.planning.specs.declared.rehearsal.Settings.{Settings}
 use Rattle.history.proofs.Context.{Ctx}

@@ -16,11 +16,8 @@ use Rattle.model.specs.History.{restart, step, freshMachine}
 use Rattle.model.specs.Claim.{fresh}
 use Rattle.planning.specs.Rehearsal.{accessOf, pageIn, noFigures, pageRow, playFrom, idle, pagesFit, rehearsalRows, rehearsalOf, stepOn, totalOf}
 use Rattle.planning.specs.RehearsalRun.{Choices, Played, playCalls, callsIn, playEvents, Site, restartedSite, realRun, Tried, freeSlot, backedUp, Roomy, EnoughRoom}
-use Rattle.model.specs.declared.geometry.Geometry.{Geometry}
-use Rattle.model.specs.declared.change.Change.the-variants.{Put}
-use Rattle.model.specs.declared.state.Entry.{Entry}
-use Rattle.model.specs.declared.state.PendingNote.{PendingNote}
-use Rattle.model.specs.declared.state.PendingNote.the-variants.{Absent}
+use Rattle.model.specs.declared.{geometry.Geometry.Geometry, change.Change.the-variants.Put, state.Entry.Entry}
+use Rattle.model.specs.declared.{state.PendingNote.PendingNote, state.PendingNote.the-variants.Absent}
 use Rattle.model.specs.declared.state.State.{State}
 use Rattle.planning.specs.declared.rehearsal.Settings.{Settings}
 use Rattle.planning.specs.declared.rehearsal.Figures.{Figures}

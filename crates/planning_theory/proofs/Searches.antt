@@ -1,7 +1,6 @@
 -- The model's searches beside the store's: the frame that holds a page, and the least recently used.
 use mathlib.Core.Path.{_≡_, refl, ap}
 use mathlib.Core.Logic.{_≢_}
-use mathlib.Core.Bool.{Bool, true, false}
 use mathlib.Core.List.{List}
 use Prim.Native.Nat.{ℕ, zero, suc, _≤_, _<_}
 use native.Mathlib.Omega.{arith}
@@ -15,8 +14,7 @@ use Rattle.model.specs.Tables.{every}
 use Rattle.model.specs.State.{frameRow}
 use Rattle.planning.specs.Rehearsal.{useRow, holding, leastUsed}
 use Rattle.planning.specs.RehearsalRun.{lastUse, useOf, victimRow}
-use Rattle.model.specs.declared.state.Frame.{Frame}
-use Rattle.model.specs.declared.state.State.{State}
+use Rattle.model.specs.declared.{state.Frame.Frame, state.State.State}
 use Rattle.planning.specs.declared.rehearsal.FrameUse.{FrameUse}
 
 -- ---- the frame that holds a page

@@ -1,7 +1,7 @@
 -- The lowest free slot: with n slots in the index at most, it is one of the first n + 1.
 use mathlib.Core.Path.{_≡_, refl}
 use mathlib.Core.Logic.{_≢_}
-use mathlib.Core.Bool.{Bool, true, false, cond, not}
+use mathlib.Core.Bool.{false, cond, not}
 use mathlib.Core.List.{List, [], _∷_}
 use Prim.Native.Nat.{ℕ, zero, suc, _+_, _-_, _≤_, _<_}
 use native.Mathlib.Omega.{arith}
@@ -14,8 +14,7 @@ use Rattle.laws.proofs.Search.{first-found}
 use Rattle.model.specs.Index.{entryRow, entryOf, slotUsed}
 use Rattle.planning.specs.Rehearsal.{pageRow}
 use Rattle.planning.specs.RehearsalRun.{freeSlot, backedUp}
-use Rattle.model.specs.declared.state.Entry.{Entry}
-use Rattle.model.specs.declared.state.State.{State}
+use Rattle.model.specs.declared.{state.Entry.Entry, state.State.State}
 use Rattle.planning.specs.declared.rehearsal.Figures.{Figures}
 
 -- how many entries have a slot

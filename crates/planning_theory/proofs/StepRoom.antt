@@ -11,13 +11,12 @@ use Rattle.laws.proofs.Tables.{byCases, true-not-false}
 use Rattle.model.specs.State.{frameRow}
 use Rattle.model.specs.Outcome.{StoredItem}
 use Rattle.model.specs.Calls.{Call, noPayload}
-use Rattle.model.specs.declared.command.Command.the-variants.{Write, Backup, Release, Note}
+use Rattle.model.specs.declared.{geometry.Geometry.Geometry, state.PendingNote.the-variants.Absent, state.State.State}
+use Rattle.model.specs.declared.command.Command.the-variants.{Write, Release}
+use Rattle.model.specs.declared.command.Command.the-variants.{Backup, Note}
 use Rattle.model.specs.AbstractLog.{Logged}
 use Rattle.planning.specs.Rehearsal.{useRow, pageRow, setRow, withRecord, withImage, withBackup, withChange, evicted, totalOf}
 use Rattle.planning.specs.RehearsalRun.{Choice, evictionCalls, backUp, Played, playCall, playCalls}
-use Rattle.model.specs.declared.geometry.Geometry.{Geometry}
-use Rattle.model.specs.declared.state.PendingNote.the-variants.{Absent}
-use Rattle.model.specs.declared.state.State.{State}
 use Rattle.planning.specs.declared.rehearsal.Victim.{Victim}
 use Rattle.planning.specs.declared.rehearsal.Victim.the-variants.{Written, Released}
 use Rattle.planning.specs.declared.rehearsal.Settings.{Settings}

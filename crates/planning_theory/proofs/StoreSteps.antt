@@ -20,17 +20,13 @@ use Rattle.model.specs.Refusals.{forceRows, noteRows}
 use Rattle.model.specs.Outcome.{StoredItem, oneItem, Outcome, volumeAfter, decided}
 use Rattle.model.specs.Effects.{forcedState, notedState, forceDone}
 use Rattle.model.specs.Calls.{forceOf, noteCall, noPayload}
-use Rattle.model.specs.declared.command.Command.the-variants.{Force, Note as NoteCall}
+use Rattle.model.specs.declared.{command.Command.the-variants.Force, geometry.Geometry.Geometry}
+use Rattle.model.specs.declared.{answer.Answer.the-variants.Done, item.LogRecord.LogRecord, item.Note.Note}
+use Rattle.model.specs.declared.{state.PendingNote.PendingNote, state.PendingNote.the-variants.Present}
+use Rattle.model.specs.declared.state.State.{State}
 use Rattle.model.specs.AbstractLog.{Logged, stepCall}
 use Rattle.planning.specs.Rehearsal.{pageRow, setRow, withRecord, oneNote}
 use Rattle.planning.specs.RehearsalRun.{playCall}
-use Rattle.model.specs.declared.geometry.Geometry.{Geometry}
-use Rattle.model.specs.declared.answer.Answer.the-variants.{Done}
-use Rattle.model.specs.declared.item.LogRecord.{LogRecord}
-use Rattle.model.specs.declared.item.Note.{Note}
-use Rattle.model.specs.declared.state.PendingNote.{PendingNote}
-use Rattle.model.specs.declared.state.PendingNote.the-variants.{Present}
-use Rattle.model.specs.declared.state.State.{State}
 use Rattle.planning.specs.declared.rehearsal.Figures.{Figures}
 use Rattle.history.proofs.Logs.{atA}
 use Rattle.history.proofs.Leaf.{note-read}
@@ -42,6 +38,7 @@ use Rattle.history.proofs.Context.{Ctx, sized, geo, len, few}
 use Rattle.history.proofs.Keeps.{some-pending}
 use Rattle.planning_theory.proofs.Play.{Run, Stage, rows-none, run-as, ctx-as}
 use Rattle.planning_theory.proofs.Relation.{backup-same}
+use Rattle.model.specs.declared.command.Command.the-variants.{Note as NoteCall}
 
 -- the page images as they were
 abbrev pub PagesStay : Geometry → List ℕ → List ℕ → Type 0

@@ -18,16 +18,16 @@ use Rattle.model.specs.Index.{entryOf, slotUsed}
 use Rattle.model.specs.Scan.{indexOf}
 use Rattle.model.specs.Claim.{startStands}
 use Rattle.model.specs.State.{frameRow, frameCount, frameBytes, holder, held, blank, lastNumber, logFull, notesFull, notePending}
-use Rattle.model.specs.Refusals.{frameBlocked, pageDirty, notDurable}
+use Rattle.model.specs.Refusals.{frameBlocked, pageDirty}
+use Rattle.laws.proofs.Conditions.{notDurable}
 use Rattle.model.specs.Outcome.{StoredItem, refusalOf}
 use Rattle.model.specs.Calls.{outcomeOf, Call, rowsOf, noPayload}
-use Rattle.model.specs.declared.command.Command.the-variants.{Begin, Load, Change as ChangeCall, Force, Write, Backup, Release, Note}
+use Rattle.model.specs.declared.{geometry.Geometry.Geometry, change.Change.Change}
+use Rattle.model.specs.declared.{state.PendingNote.the-variants.Absent, state.State.State}
+use Rattle.model.specs.declared.command.Command.the-variants.{Begin, Load, Force, Write, Release}
+use Rattle.model.specs.declared.command.Command.the-variants.{Change as ChangeCall, Backup, Note}
 use Rattle.model.specs.AbstractLog.{Logged}
 use Rattle.planning.specs.RehearsalRun.{playCall}
-use Rattle.model.specs.declared.geometry.Geometry.{Geometry}
-use Rattle.model.specs.declared.change.Change.{Change}
-use Rattle.model.specs.declared.state.PendingNote.the-variants.{Absent}
-use Rattle.model.specs.declared.state.State.{State}
 use Rattle.planning.specs.declared.rehearsal.Figures.{Figures}
 use Rattle.history.proofs.Logs.{lastAt, lastOf, last-le}
 use Rattle.history.proofs.Leaf.{frame-lsn}

@@ -16,12 +16,9 @@ use Rattle.model.specs.Index.{emptyEntry, entryOf, setEntry, withLast, withDura
 use Rattle.model.specs.State.{pendingAt, frameAt, lastNumber}
 use Rattle.model.specs.Effects.{appendedState, appendedMemory, forcedState, notedState}
 use Rattle.planning.specs.Rehearsal.{pageRow, setRow, oneNote, totalOf}
-use Rattle.model.specs.declared.change.Change.{Change}
-use Rattle.model.specs.declared.item.Note.{Note}
-use Rattle.model.specs.declared.state.Entry.{Entry}
-use Rattle.model.specs.declared.state.PendingNote.{PendingNote}
-use Rattle.model.specs.declared.state.PendingNote.the-variants.{Absent, Present}
+use Rattle.model.specs.declared.{change.Change.Change, item.Note.Note, state.Entry.Entry, state.PendingNote.PendingNote}
 use Rattle.model.specs.declared.state.State.{State}
+use Rattle.model.specs.declared.state.PendingNote.the-variants.{Absent, Present}
 use Rattle.planning.specs.declared.rehearsal.Settings.{Settings}
 use Rattle.planning.specs.declared.rehearsal.Figures.{Figures}
 use Rattle.planning_theory.proofs.Relation.{column-same}

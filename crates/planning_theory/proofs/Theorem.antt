@@ -22,8 +22,7 @@ use Rattle.model.specs.History.{on, Event, restart, step, allowed, stepLog, fre
 use Rattle.model.specs.Claim.{History, Legal, fresh, reached, logOf, durableOf}
 use Rattle.planning.specs.Rehearsal.{accessOf, pageIn, noFigures, unused, playFrom, idle, pagesFit, rehearsalRows, rehearsalOf, stepOn}
 use Rattle.planning.specs.RehearsalRun.{Choices, changesOf, lastUse, Played, playCalls, callsIn, playEvents, Site, restartedSite, realRun, SameFigures}
-use Rattle.model.specs.declared.geometry.Geometry.{Geometry}
-use Rattle.model.specs.declared.state.State.{State}
+use Rattle.model.specs.declared.{geometry.Geometry.Geometry, state.State.State}
 use Rattle.planning.specs.declared.rehearsal.Victim.{Victim}
 use Rattle.planning.specs.declared.rehearsal.Victim.the-variants.{Written, Released}
 use Rattle.planning.specs.declared.rehearsal.Settings.{Settings}

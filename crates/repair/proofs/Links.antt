@@ -12,8 +12,9 @@ use Rattle.laws.proofs.Tables.{all-at, byCases, or-cases, or-other, or-neither}
 use Rattle.model.specs.Checksum.{sealed}
 use Rattle.model.specs.Item.{recordOf, recordLayout, isFormat, firstIsFormat}
 use Rattle.model.specs.Repair.{Walk, stopAt, behind, chainRecord, walkFrom}
-use Rattle.model.specs.declared.answer.Stop.the-variants.{Own, Backup, Format, Broken, Below}
 use Rattle.model.specs.declared.item.LogRecord.{LogRecord}
+use Rattle.model.specs.declared.answer.Stop.the-variants.{Broken, Below}
+use Rattle.model.specs.declared.answer.Stop.the-variants.{Own, Backup, Format}
 use Rattle.repair.specs.Walked.{stepOf, Sound}
 use Rattle.repair.specs.declared.walk.Step.{Step}
 use Rattle.repair.specs.declared.walk.Step.the-variants.{Halt, Read}

@@ -11,16 +11,14 @@ use borrow.Rule.Slice.PartMut.{putMid}
 use Rattle.laws.proofs.Chain.{chain-few}
 use Rattle.laws.proofs.Zeros.{zeros}
 use Rattle.laws.proofs.Parts.{splice-length, put-part, put-splice}
-use Rattle.model.specs.Bytes.{part, splice}
+use Rattle.model.specs.Bytes.{part}
 use Rattle.model.specs.Geometry.{pageAt, slotAt, item}
 use Rattle.model.specs.Item.{imageLsn, imageBody, validImage, frameImage, recordLayout, applyRecord}
-use Rattle.model.specs.Repair.{classOf, classIn, isBroken, View, viewOf, walkFrom, walkOf, ownStart, backupStart, replayChain, startBody, rebuiltBody, rebuilt, repairOf}
-use Rattle.model.specs.declared.answer.Stop.{Stop}
-use Rattle.model.specs.declared.answer.Stop.the-variants.{Own, Backup, Format, Broken, Below}
-use Rattle.model.specs.declared.answer.Class.{Class}
-use Rattle.model.specs.declared.answer.Repair.{Repair}
-use Rattle.model.specs.declared.state.Entry.{Entry}
+use Rattle.model.specs.Repair.{classOf, isBroken, View, viewOf, walkFrom, walkOf, ownStart, backupStart, replayChain, startBody, rebuiltBody, rebuilt, repairOf}
+use Rattle.model.specs.declared.{answer.Stop.Stop, answer.Class.Class, answer.Repair.Repair, state.Entry.Entry}
 use Rattle.model.specs.declared.geometry.Geometry.{Geometry}
+use Rattle.model.specs.declared.answer.Stop.the-variants.{Broken, Below}
+use Rattle.model.specs.declared.answer.Stop.the-variants.{Own, Backup, Format}
 use Rattle.repair.specs.Walked.{Whole, logOf, counted, walkedOf, repairAs, chainFrom}
 use Rattle.repair.specs.declared.walk.Traced.{Traced}
 use Rattle.repair.specs.declared.walk.Walked.{Walked}

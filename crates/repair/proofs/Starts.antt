@@ -15,8 +15,7 @@ use Rattle.model.specs.Bytes.{field}
 use Rattle.model.specs.Checksum.{imageSealed}
 use Rattle.model.specs.Item.{imageLsn, validImage}
 use Rattle.model.specs.Repair.{viewOf, ownStart, backupStart}
-use Rattle.model.specs.declared.geometry.Geometry.{Geometry}
-use Rattle.model.specs.declared.state.Entry.{Entry}
+use Rattle.model.specs.declared.{geometry.Geometry.Geometry, state.Entry.Entry}
 use Rattle.repair.specs.Walked.{Ready}
 
 pub positive : (n : ℕ) → (n ≡ 0 → ⊥) → 1 ≤ n

@@ -7,7 +7,7 @@ use mathlib.Core.Bool.{true, false}
 use mathlib.Core.List.{List, [], _∷_}
 use native.Mathlib.Omega.{arith}
 use lib.Dec.{eqb, ltb}
-use borrow.Author.Tests.{eq-eqb, lt-ltb, ltb-true, ltb-false}
+use borrow.Author.Tests.{eq-eqb, lt-ltb, ltb-false}
 use Rattle.laws.proofs.Tables.{byCases, all-holds}
 use Rattle.laws.proofs.Scanned.{Linked, link-cases, link-first, Fit, Newest, newest, held-low, log-fits}
 use Rattle.model.specs.Checksum.{sealed}
@@ -15,7 +15,7 @@ use Rattle.model.specs.Geometry.{geometryOf, validVolume, logSlot, item}
 use Rattle.model.specs.Item.{recordLayout, isFormat, firstIsFormat}
 use Rattle.model.specs.Index.{entryOf}
 use Rattle.model.specs.Scan.{logRecord, durableCount, firstHeld, logIndex, validLog, validNotes, indexOf}
-use Rattle.model.specs.Repair.{ownStart, backupStart, chainRecord, walkFrom, walkOf, isBroken, scannedView}
+use Rattle.model.specs.Repair.{chainRecord, walkFrom, walkOf, isBroken, scannedView}
 use Rattle.model.specs.declared.geometry.Geometry.{Geometry}
 use Rattle.repair.specs.Walked.{Whole, logOf}
 use Rattle.repair.proofs.Links.{link, link-back}

@@ -11,9 +11,9 @@ use lib.ListN.{length, take, set}
 use lib.Seq.{take-suc-set}
 use Rattle.laws.proofs.Tables.{true-not-false}
 use Rattle.model.specs.Item.{recordOf}
-use Rattle.model.specs.Repair.{Walk, stopAt, behind, walkFrom, isBroken}
-use Rattle.model.specs.declared.answer.Stop.{Stop}
-use Rattle.model.specs.declared.answer.Stop.the-variants.{Format, Broken}
+use Rattle.model.specs.Repair.{Walk, stopAt, walkFrom, isBroken}
+use Rattle.model.specs.declared.{answer.Stop.Stop, answer.Stop.the-variants.Broken}
+use Rattle.model.specs.declared.answer.Stop.the-variants.{Format}
 use Rattle.repair.specs.Walked.{counted, stepOf, Sound, chainFrom}
 use Rattle.repair.specs.declared.walk.Traced.{Traced}
 use Rattle.repair.specs.declared.walk.Step.{Step}

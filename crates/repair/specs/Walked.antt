@@ -9,10 +9,9 @@ use lib.ListN.{length}
 use Rattle.model.specs.Geometry.{geometryOf, validVolume, logSlot, item}
 use Rattle.model.specs.Item.{recordOf, isFormat}
 use Rattle.model.specs.Repair.{View, viewOf, Walk, classIn, chainRecord, walkOf, startOf, isBroken}
-use Rattle.model.specs.declared.geometry.Geometry.{Geometry}
-use Rattle.model.specs.declared.state.Entry.{Entry}
-use Rattle.model.specs.declared.answer.Stop.the-variants.{Own, Backup, Broken, Below}
-use Rattle.model.specs.declared.answer.Repair.{Repair}
+use Rattle.model.specs.declared.{geometry.Geometry.Geometry, state.Entry.Entry, answer.Repair.Repair}
+use Rattle.model.specs.declared.answer.Stop.the-variants.{Broken, Below}
+use Rattle.model.specs.declared.answer.Stop.the-variants.{Own, Backup}
 use Rattle.repair.specs.declared.walk.Target.{Target}
 use Rattle.repair.specs.declared.walk.Traced.{Traced}
 use Rattle.repair.specs.declared.walk.Walked.{Walked}

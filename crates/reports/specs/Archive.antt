@@ -5,7 +5,7 @@
 use Prim.Native.Nat.{ℕ, zero, suc, _+_, _-_, _*_, _/_, _≤_}
 use mathlib.Core.Path.{_≡_}
 use mathlib.Core.Logic.{_≢_, _↔_}
-use mathlib.Core.Bool.{Bool, true, false, cond, _&&_, not}
+use mathlib.Core.Bool.{Bool, true, cond, _&&_, not}
 use mathlib.Core.List.{List, [], _∷_, _++_}
 use lib.Dec.{eqb, leb, ltb}
 use lib.ListN.{length, take, drop, replicate}
@@ -15,11 +15,10 @@ use Rattle.model.specs.Checksum.{sealed}
 use Rattle.model.specs.Geometry.{geometryOf}
 use Rattle.model.specs.Change.{zeroBody}
 use Rattle.model.specs.Item.{imagePage, recordOf, recordLayout, applyRecord, frameImage}
-use Rattle.model.specs.Scan.{durableCount, linked, gone}
-use Rattle.reports.specs.Reading.{wholeRows, Restarts, heldRecords}
+use Rattle.model.specs.Scan.{durableCount, linked}
+use Rattle.reports.specs.Reading.{wholeRows, heldRecords}
 use Rattle.model.specs.Claim.{History, Legal, reached, inspection, shown}
-use Rattle.model.specs.declared.answer.Answer.{Answer}
-use Rattle.model.specs.declared.answer.Answer.the-variants.{Done}
+use Rattle.model.specs.declared.{answer.Answer.Answer, answer.Answer.the-variants.Done}
 use Rattle.reports.specs.declared.reading.Size.{Size}
 
 -- ---- the bytes

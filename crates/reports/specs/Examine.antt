@@ -8,13 +8,10 @@ use Rattle.model.specs.Tables.{Row, firstOf}
 use Rattle.model.specs.Geometry.{validVolume}
 use Rattle.model.specs.Refusals.{imageRows}
 use Rattle.model.specs.Restart.{inspectOf}
-use Rattle.model.specs.declared.answer.Class.{Class}
+use Rattle.model.specs.declared.{answer.Class.Class, answer.Start.Start, answer.Repair.Repair, answer.Answer.Answer}
 use Rattle.model.specs.declared.answer.Class.the-variants.{Good, Behind, Stale, Failed, Ahead}
-use Rattle.model.specs.declared.answer.Start.{Start}
-use Rattle.model.specs.declared.answer.Start.the-variants.{Own, Backup, Format}
-use Rattle.model.specs.declared.answer.Repair.{Repair}
-use Rattle.model.specs.declared.answer.Answer.{Answer}
 use Rattle.model.specs.declared.answer.Answer.the-variants.{Refused, Nothing, Done, Repaired}
+use Rattle.model.specs.declared.answer.Start.the-variants.{Own, Backup, Format}
 
 abbrev pub classNumber : Class → ℕ
 classNumber Good = 1

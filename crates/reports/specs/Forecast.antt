@@ -2,7 +2,7 @@
 -- building a page. One figure then replaces the two: the count that inspection would report, and still 0 for a blank
 -- page. For a page where §7's walk would fail the figure is that refusal, and the other pages' stand." It replaces §1's
 -- two figures, which were from the log and notes alone.
-use Prim.Native.Nat.{ℕ, zero, suc, _-_, _≤_, _<_}
+use Prim.Native.Nat.{ℕ, suc, _-_, _<_}
 use mathlib.Core.Path.{_≡_}
 use mathlib.Core.Logic.{_⊎_}
 use mathlib.Core.Bool.{true, cond, not}
@@ -10,7 +10,7 @@ use mathlib.Core.List.{List, [], _∷_}
 use lib.Dec.{eqb, ltb}
 use lib.ListN.{length, getD, replicate}
 use Rattle.model.specs.Tables.{Row, firstOf, within, tabulate}
-use Rattle.model.specs.Geometry.{Place, pageAt, slotAt, geometryOf, validVolume, item, store}
+use Rattle.model.specs.Geometry.{pageAt, slotAt, geometryOf, validVolume, item, store}
 use Rattle.model.specs.Item.{validImage, imageLsn}
 use Rattle.model.specs.Repair.{Walk, walkOf, isBelow}
 use Rattle.model.specs.Refusals.{logRows}

@@ -13,7 +13,6 @@ use lib.Dec.{eqb}
 use lib.ListN.{length, take, getD}
 use Rattle.model.specs.Geometry.{geometryOf}
 use Rattle.model.specs.Scan.{durableCount, firstHeld, gone}
-use Rattle.model.specs.Repair.{View}
 use Rattle.reports.specs.Reading.{Restarts, pageView, heldRecords}
 use Rattle.model.specs.Outcome.{refusalOf}
 use Rattle.model.specs.Restart.{inspectOf}

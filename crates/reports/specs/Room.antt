@@ -1,7 +1,7 @@
 -- What room a volume has: how many more log records and notes it takes before the refusals 12 and 14, and the page that
 -- then stands in the way. States document 02, §7, "12 and 14 are now given exactly if ..", for the records and notes
 -- that come next after a restart.
-use Prim.Native.Nat.{ℕ, zero, suc, _+_, _-_, _≤_, _<_}
+use Prim.Native.Nat.{ℕ, suc, _+_, _-_, _≤_, _<_}
 use mathlib.Core.Path.{_≡_}
 use mathlib.Core.Bool.{Bool, true, false, cond}
 use mathlib.Core.List.{List, [], _∷_}
@@ -15,8 +15,7 @@ use Rattle.model.specs.State.{lastNumber, logFull, notesFull}
 use Rattle.model.specs.Restart.{restartState}
 use Rattle.reports.specs.Reading.{scanRows, Restarts}
 use Rattle.model.specs.Demand1.{ByTable}
-use Rattle.model.specs.declared.geometry.Geometry.{Geometry}
-use Rattle.model.specs.declared.state.State.{State}
+use Rattle.model.specs.declared.{geometry.Geometry.Geometry, state.State.State}
 use Rattle.reports.specs.declared.reading.Space.{Space}
 use Rattle.reports.specs.declared.reading.Room.{Room}
 

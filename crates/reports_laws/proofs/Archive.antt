@@ -1,34 +1,27 @@
 -- The archive of a volume that restarts and whose record 1 is there: as long as was told, taken by the reader, and cut into the same
 -- sections. The proof of `ArchiveClaim`.
 use mathlib.Core.Path.{_≡_, refl, sym, ap, _∙_, subst}
-use mathlib.Core.Logic.{_≢_}
-use mathlib.Core.Bool.{Bool, true, false, _&&_, cond, not}
+use mathlib.Core.Bool.{Bool, true, false, cond, not}
 use mathlib.Core.List.{List, [], _∷_, _++_, append-nil}
-use Prim.Native.Nat.{ℕ, zero, suc, _+_, _-_, _*_, _/_, _≤_, _<_}
+use Prim.Native.Nat.{ℕ, zero, suc, _+_, _-_, _*_, _≤_, _<_}
 use native.Mathlib.Omega.{arith}
 use native.Mathlib.Decide.{ℕ-discrete}
-use lib.Dec.{eqb, ltb, eqb·zero-suc, eqb·suc-zero, eqb·suc-suc}
+use lib.Dec.{eqb, eqb·zero-suc, eqb·suc-zero, eqb·suc-suc}
 use lib.ListN.{length, getD, length-append}
-use borrow.Author.Tests.{eqb-true, eq-eqb, ne-eqb, lt-ltb, not-false}
-use Rattle.laws.proofs.Tables.{Numbered, byCases, none-at, and-left, and-right, and-both, when-true, when-false, true-not-false}
+use borrow.Author.Tests.{eqb-true, eq-eqb, lt-ltb, not-false}
+use Rattle.laws.proofs.Tables.{Numbered, byCases, none-at, and-left, and-right, and-both, when-true, when-false}
 use Rattle.laws.proofs.Tabulated.{tabulate-length}
 use Rattle.laws.proofs.Places.{valid-facts, item-length}
 use Rattle.laws.proofs.Ring.{slot-in}
-use Rattle.laws.proofs.Decided.{by-table}
-use Rattle.laws.proofs.Scanned.{Fit, Newest, newest, down, firstLsn, held-low, whole-start, whole-run, whole-few, whole-fits}
+use Rattle.laws.proofs.Scanned.{Fit, newest, down, firstLsn, held-low, whole-start, whole-run, whole-few, whole-fits}
 use Rattle.reports_laws.proofs.ArchiveSections.{pages-one, valid-cut, counted-cut, Laid, section-length, parted-back, valid-back, only}
 use Rattle.model.specs.Tables.{Row, firstOf, tabulate}
-use Rattle.model.specs.Checksum.{sealed}
 use Rattle.model.specs.Geometry.{geometryOf, validVolume, recordAt, slotOf, item, logSlot}
-use Rattle.model.specs.Item.{recordOf, recordLayout}
-use Rattle.model.specs.Index.{entryOf}
-use Rattle.model.specs.Scan.{logRecord, durableCount, firstHeld, gone, logIndex, linked, validLog, validNotes}
+use Rattle.model.specs.Item.{recordOf}
+use Rattle.model.specs.Scan.{logRecord, durableCount, firstHeld, gone, linked, validLog, validNotes}
 use Rattle.reports.specs.Reading.{wholeRows, pageRecords, heldRecords}
-use Rattle.reports.specs.Archive.{sectionBytes, archiveBytes, sectionsOf, archiveLength, sizeOf, sizeRefusal, archiveRows, Filled, filledBy, archiveOf, inSection, validSection, validFrom, partedFrom, lastNumberIn, readRows, readOf, areaFrom, validSections, ArchiveClaim}
-use Rattle.model.specs.Demand1.{ByTable}
-use Rattle.model.specs.declared.geometry.Geometry.{Geometry}
-use Rattle.model.specs.declared.answer.Answer.{Answer}
-use Rattle.model.specs.declared.answer.Answer.the-variants.{Refused, Nothing, Done, Repaired}
+use Rattle.reports.specs.Archive.{sectionBytes, archiveBytes, sectionsOf, archiveLength, archiveRows, filledBy, archiveOf, inSection, validSection, validFrom, partedFrom, lastNumberIn, validSections, ArchiveClaim}
+use Rattle.model.specs.declared.{geometry.Geometry.Geometry, answer.Answer.the-variants.Done}
 
 -- ---- one section
 

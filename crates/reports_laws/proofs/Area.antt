@@ -1,26 +1,26 @@
 -- The area that the reader fills: image p is that of section p, whatever archive is taken.
 use mathlib.Core.Path.{_≡_, refl, sym, ap, _∙_}
-use mathlib.Core.Bool.{Bool, true, false, _&&_, cond, not}
+use mathlib.Core.Bool.{true, not}
 use mathlib.Core.List.{List, [], _∷_, _++_}
 use Prim.Native.Nat.{ℕ, zero, suc, _+_, _-_, _*_, _/_, _≤_, _<_}
 use native.Mathlib.Omega.{arith}
 use lib.Dec.{eqb, ltb}
 use lib.ListN.{length, take, drop, getD, length-append, length-take, length-drop, length-replicate}
 use lib.Seq.{take-at, drop-at, drop-drop}
-use borrow.Author.Tests.{eqb-true, eq-eqb, not-false}
-use Rattle.laws.proofs.Tables.{byCases, all-at, none-at, and-left, and-right, and-both, within-holds, within-bounds}
+use borrow.Author.Tests.{eq-eqb, not-false}
+use Rattle.laws.proofs.Tables.{byCases, all-at, none-at, and-left, and-right, within-holds}
 use Rattle.laws.proofs.Parts.{part-length}
 use Rattle.laws.proofs.Items.{frameImage-length}
 use Rattle.laws.proofs.Changes.{Fits, fits-facts}
-use Rattle.reports_laws.proofs.ArchiveSections.{here-fits, here-valid, rest-valid, fits-left, only}
+use Rattle.reports_laws.proofs.ArchiveSections.{here-fits, here-valid, rest-valid, fits-left}
 use Rattle.reports_laws.proofs.Archive.{filled-done}
-use Rattle.model.specs.Tables.{Row, firstOf, within}
+use Rattle.model.specs.Tables.{Row}
 use Rattle.model.specs.Bytes.{le, part, allZero, byteAt}
 use Rattle.model.specs.Checksum.{sealed}
 use Rattle.model.specs.Change.{zeroBody, changeOf, changeFits, applyChange}
-use Rattle.model.specs.Item.{recordOf, recordLayout, payloadOf, changeIn, applyRecord}
+use Rattle.model.specs.Item.{recordOf, recordLayout, payloadOf, applyRecord}
 use Rattle.model.specs.Scan.{linked}
-use Rattle.reports.specs.Archive.{filledBy, inSection, validSection, recordsFrom, frontSection, pastSection, sectionFits, validFrom, partedFrom, replayRecords, lastNumberIn, sectionImage, areaFrom, validArea, readRows, readOf, imageAt}
+use Rattle.reports.specs.Archive.{inSection, validSection, recordsFrom, frontSection, pastSection, validFrom, partedFrom, replayRecords, lastNumberIn, sectionImage, areaFrom, validArea, readRows, readOf, imageAt}
 use Rattle.model.specs.declared.answer.Answer.the-variants.{Done}
 
 -- ---- the length of an image

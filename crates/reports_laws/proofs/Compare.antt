@@ -1,21 +1,18 @@
 -- The comparison of two logs for C, on any volumes: told in 66 numbers. The proof of `CompareClaim`.
 use mathlib.Core.Path.{_≡_, sym, ap, _∙_}
-use mathlib.Core.Logic.{_≢_}
 use mathlib.Core.Bool.{Bool, false, not}
 use mathlib.Core.List.{List, _∷_}
 use Prim.Native.Nat.{ℕ, suc}
 use native.Mathlib.Omega.{arith}
 use lib.Dec.{eqb}
 use lib.ListN.{length, length-map, length-replicate}
-use borrow.Author.Tests.{eqb-true, eq-eqb, ne-eqb}
+use borrow.Author.Tests.{eqb-true, eq-eqb}
 use Rattle.laws.proofs.Tables.{byCases, none-at}
-use Rattle.laws.proofs.Decided.{by-table}
 use Rattle.laws.proofs.Tabulated.{tabulate-length}
 use Rattle.reports_laws.proofs.Mirror.{number-is}
 use Rattle.model.specs.Tables.{firstOf}
 use Rattle.reports.specs.Mirror.{eitherRows, laterRows, mirrorRows, mirrorOf, mirrorRefusal}
 use Rattle.reports.specs.Mirror.{flag, numbersOf, compareRows, compareOf, CompareClaim}
-use Rattle.model.specs.Demand1.{ByTable}
 
 module _ (v w report : List ℕ) where
   abbrev no : ℕ

@@ -1,33 +1,28 @@
 -- The figures of the forecast are those of inspection, on any volume: the proof of `ForecastClaim`. What is seen of an image is shown in
 -- `Scans`.
 use mathlib.Core.Path.{_≡_, refl, sym, _∙_}
-use mathlib.Core.Logic.{_⊎_, inl, inr, ⊎-elim, _≢_}
-use mathlib.Core.Bool.{Bool, true, false, _&&_, cond, not}
+use mathlib.Core.Logic.{_⊎_, ⊎-elim, _≢_}
+use mathlib.Core.Bool.{Bool, true, false, cond, not}
 use mathlib.Core.List.{List}
 use Prim.Native.Nat.{ℕ, zero, suc, _-_, _≤_, _<_}
 use native.Mathlib.Omega.{arith}
 use native.Mathlib.Decide.{decLt}
-use lib.Dec.{eqb, leb, ltb}
-use lib.ListN.{length, getD, replicate}
+use lib.Dec.{eqb}
+use lib.ListN.{length}
 use borrow.Author.Tests.{eqb-true, eq-eqb, lt-ltb, le-ltb, not-false}
-use Rattle.laws.proofs.Tables.{byCases, none-at, true-not-false, within-bounds}
+use Rattle.laws.proofs.Tables.{byCases, none-at, within-bounds}
 use Rattle.laws.proofs.Places.{valid-facts}
-use Rattle.laws.proofs.Decided.{by-table}
 use Rattle.laws.proofs.Tabulated.{tabulate-at, tabulate-past, replicate-at}
 use Rattle.reports_laws.proofs.Scans.{page-judged, slot-judged}
-use Rattle.model.specs.Tables.{firstOf, within, tabulate}
+use Rattle.model.specs.Tables.{firstOf, within}
 use Rattle.model.specs.Geometry.{geometryOf, validVolume}
-use Rattle.model.specs.Item.{validImage, imageLsn}
 use Rattle.model.specs.Scan.{validLog, validNotes}
-use Rattle.model.specs.Repair.{View, Walk, walkFrom, walkOf, ownStart, backupStart, repairOf, isBelow}
+use Rattle.model.specs.Repair.{walkFrom, walkOf, ownStart, backupStart, repairOf, isBelow}
 use Rattle.model.specs.Refusals.{inspectRows}
 use Rattle.reports.specs.Reading.{scanRows, Restarts, pageView}
 use Rattle.model.specs.Restart.{inspectOf}
-use Rattle.reports.specs.Forecast.{figureOf, counted, below, forecastAt, forecastOf, forecastRow, figureIn, Asked, ForecastClaim}
-use Rattle.model.specs.Demand1.{ByTable}
-use Rattle.reports.specs.declared.reading.Figure.{Figure}
-use Rattle.model.specs.declared.answer.Answer.{Answer}
-use Rattle.model.specs.declared.answer.Answer.the-variants.{Refused, Nothing, Done, Repaired}
+use Rattle.reports.specs.Forecast.{figureOf, counted, forecastAt, forecastOf, forecastRow, figureIn, Asked, ForecastClaim}
+use Rattle.model.specs.declared.answer.Answer.the-variants.{Refused, Repaired}
 
 -- ---- figures
 

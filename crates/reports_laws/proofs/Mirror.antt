@@ -1,34 +1,28 @@
 -- Two logs held against each other, on any volumes: what is common, that the volumes have equal parts in it, and that up to there the
 -- records are the same, the previous numbers too. The proof of `MirrorClaim`.
-use mathlib.Core.Path.{_≡_, refl, sym, ap, _∙_, subst}
-use mathlib.Core.Logic.{_≢_, _⊎_, inl, inr, ⊎-elim, _↔_}
-use mathlib.Core.Bool.{Bool, true, false, _&&_, _||_, cond, not, and-comm, or-comm}
+use mathlib.Core.Path.{_≡_, refl, sym, ap, _∙_}
+use mathlib.Core.Logic.{_≢_, _⊎_, ⊎-elim, _↔_}
+use mathlib.Core.Bool.{Bool, true, false, _&&_, _||_, not, and-comm, or-comm}
 use mathlib.Core.List.{List, [], _∷_}
 use Prim.Native.Nat.{ℕ, zero, suc, _+_, _-_, _≤_, _<_}
 use native.Mathlib.Omega.{arith}
 use native.Mathlib.Decide.{decLt, ℕ-discrete}
 use lib.Dec.{eqb, leb}
-use lib.ListN.{length, getD, replicate}
-use borrow.Author.Tests.{eqb-true, eqb-false, eq-eqb, ne-eqb, leb-true, leb-false, not-false}
-use Rattle.laws.proofs.Tables.{byCases, and-left, and-right, or-cases, or-neither, none-at, every-at, every-all, not-true, true-not-false, within-bounds}
+use lib.ListN.{length, getD}
+use borrow.Author.Tests.{eqb-true, eqb-false, ne-eqb, leb-true, leb-false, not-false}
+use Rattle.laws.proofs.Tables.{byCases, and-left, and-right, or-neither, none-at, every-at, every-all, not-true, true-not-false}
 use Rattle.laws.proofs.Parts.{part-at, part-part, same-bytes, bytes-same}
 use Rattle.laws.proofs.Fields.{field-part}
-use Rattle.laws.proofs.Decided.{by-table}
 use Rattle.laws.proofs.Tabulated.{tabulate-at}
 use Rattle.laws.proofs.Scanned.{Fit, link-cases, whole-fits}
-use Rattle.model.specs.Tables.{Row, firstOf, every, within, smaller, tabulate}
+use Rattle.model.specs.Tables.{Row, firstOf, every, smaller}
 use Rattle.model.specs.Bytes.{field, byteAt, part, sameBytes}
-use Rattle.model.specs.Geometry.{geometryOf, validVolume, item, logSlot}
-use Rattle.model.specs.Item.{recordOf, payloadOf, firstIsFormat}
+use Rattle.model.specs.Geometry.{geometryOf, validVolume}
+use Rattle.model.specs.Item.{recordOf, payloadOf}
 use Rattle.model.specs.Index.{entryOf}
 use Rattle.model.specs.Scan.{enterRecord, linked, logRecord, logIndex, validLog, validNotes, gone}
 use Rattle.reports.specs.Mirror.{sameChange, recordIn, durableIn, commonFrom, commonOf, touchedIn, mirrorRows, comparison, mirrorOf, mirrorRefusal, exchanged, listed, CommonRecords, MirrorClaim}
-use Rattle.model.specs.Demand1.{ByTable}
-use Rattle.model.specs.declared.item.LogRecord.{LogRecord}
-use Rattle.model.specs.declared.state.Entry.{Entry}
-use Rattle.reports.specs.declared.reading.Comparison.{Comparison}
-use Rattle.reports.specs.declared.reading.Comparison.the-variants.{Refused, Agree, FirstLacks, SecondLacks, Differs}
-use Rattle.reports.specs.declared.reading.Compared.{Compared}
+use Rattle.model.specs.declared.{item.LogRecord.LogRecord, state.Entry.Entry}
 
 -- ---- bytes
 

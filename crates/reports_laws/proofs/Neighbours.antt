@@ -1,29 +1,25 @@
 -- A page's inspection depends on its own image, its records, its last written number and its noted backup alone: the proof of
 -- `NeighboursClaim`. The walk through the log is told again as a walk over the list of the page's records, the newest first.
-use mathlib.Core.Path.{_≡_, refl, sym, ap, _∙_, subst}
-use mathlib.Core.Logic.{_≢_, _⊎_, inl, inr, ⊎-elim}
-use mathlib.Core.Bool.{Bool, true, false, _&&_, _||_, cond, not}
+use mathlib.Core.Path.{_≡_, refl, ap, _∙_}
+use mathlib.Core.Logic.{_⊎_, inl, inr, ⊎-elim}
+use mathlib.Core.Bool.{Bool, true, false, cond}
 use mathlib.Core.List.{List, [], _∷_, _++_, reverse, append-nil}
 use mathlib.Mathlib.Data.List.Basic.{reverse-concat'}
 use Prim.Native.Nat.{ℕ, zero, suc, _+_, _-_, _≤_, _<_}
 use native.Mathlib.Omega.{arith}
-use native.Mathlib.Decide.{ℕ-discrete}
 use lib.Dec.{eqb, ltb}
 use lib.ListN.{length}
-use borrow.Author.Tests.{eqb-true, eqb-false, eq-eqb, ne-eqb, le-ltb, lt-ltb}
-use Rattle.laws.proofs.Tables.{byCases, and-left, and-right, or-cases, within-bounds, when-true, when-false, true-not-false}
+use borrow.Author.Tests.{eqb-true, le-ltb, lt-ltb}
+use Rattle.laws.proofs.Tables.{byCases}
 use Rattle.laws.proofs.Chain.{chain-falls}
 use Rattle.laws.proofs.Walks.{step, named}
-use Rattle.laws.proofs.Scanned.{Fit, Newest, newest, link-cases, down, firstLsn, held-low, log-fits}
-use Rattle.model.specs.Tables.{within}
+use Rattle.laws.proofs.Scanned.{Fit, newest, link-cases, down, firstLsn}
 use Rattle.model.specs.Geometry.{item, logSlot}
-use Rattle.model.specs.Item.{recordOf, applyRecord, isFormat, firstIsFormat}
-use Rattle.model.specs.Index.{entryOf}
-use Rattle.model.specs.Scan.{logRecord, linked, logIndex}
+use Rattle.model.specs.Item.{recordOf, applyRecord, isFormat}
+use Rattle.model.specs.Scan.{logRecord, linked}
 use Rattle.model.specs.Repair.{Walk, stopAt, behind, chainRecord, walkFrom, replayChain}
 use Rattle.reports.specs.Reading.{pageRecords}
-use Rattle.model.specs.declared.geometry.Geometry.{Geometry}
-use Rattle.model.specs.declared.answer.Stop.the-variants.{Own, Backup, Format, Broken, Below}
+use Rattle.model.specs.declared.{geometry.Geometry.Geometry, answer.Stop.the-variants.Broken}
 
 -- ---- a page's records, the newest first
 

@@ -1,8 +1,8 @@
 -- What room a volume has: the first refused number, and the claims.
-use Prim.Native.Nat.{ℕ, zero, suc, _+_, _-_, _≤_, _<_}
-use mathlib.Core.Path.{_≡_, refl, sym, ap, _∙_}
-use mathlib.Core.Bool.{Bool, true, false, _&&_, _||_, not}
-use mathlib.Core.List.{List, [], _∷_}
+use Prim.Native.Nat.{ℕ, suc, _+_, _-_, _≤_, _<_}
+use mathlib.Core.Path.{_≡_, refl, sym}
+use mathlib.Core.Bool.{true, false}
+use mathlib.Core.List.{List}
 use native.Mathlib.Omega.{arith}
 use lib.Dec.{eqb, leb}
 use borrow.Author.Tests.{eq-eqb, eqb-true, leb-true}
@@ -10,9 +10,8 @@ use Rattle.laws.proofs.Decided.{by-table}
 use Rattle.laws.proofs.Tables.{byCases}
 use Rattle.laws.proofs.Search.{first-from}
 use Rattle.model.specs.Tables.{firstOf}
-use Rattle.model.specs.Geometry.{geometryOf, item, logSlot, ring, most}
+use Rattle.model.specs.Geometry.{geometryOf, item, logSlot}
 use Rattle.model.specs.Item.{recordOf}
-use Rattle.model.specs.Index.{entryOf}
 use Rattle.model.specs.State.{lastNumber, recordNeeded, logFull}
 use Rattle.model.specs.Restart.{restartState}
 use Rattle.reports.specs.Reading.{scanRows, Restarts}

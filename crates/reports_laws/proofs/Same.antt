@@ -19,7 +19,7 @@ use Rattle.reports_laws.proofs.SameRepair.{durable-same, walk-same, rep
 use Rattle.model.specs.Tables.{Row, firstOf, within}
 use Rattle.model.specs.Checksum.{sealImage}
 use Rattle.model.specs.Geometry.{geometryOf}
-use Rattle.model.specs.Scan.{durableCount, firstHeld, gone}
+use Rattle.model.specs.Scan.{durableCount, gone}
 use Rattle.model.specs.Repair.{Walk, walkOf, rebuilt, isBelow}
 use Rattle.model.specs.Refusals.{inspectRows}
 use Rattle.reports.specs.Reading.{wholeRows, Restarts, pageView, heldRecords}

@@ -26,11 +26,9 @@ use Rattle.model.specs.Scan.{durableCount, firstHeld, indexOf}
 use Rattle.model.specs.Repair.{Walk, chainRecord, walkFrom, walkOf, replayChain, startBody, rebuiltBody, rebuilt, classOf, classIn, ownStart, backupStart, startOf, repairOf}
 use Rattle.reports.specs.Reading.{Restarts, pageView, heldRecords}
 use Rattle.reports.specs.Neighbours.{SamePage}
-use Rattle.model.specs.declared.geometry.Geometry.{Geometry}
-use Rattle.model.specs.declared.answer.Class.{Class}
-use Rattle.model.specs.declared.answer.Stop.{Stop}
-use Rattle.model.specs.declared.answer.Stop.the-variants.{Own, Backup, Format, Broken, Below}
-use Rattle.model.specs.declared.answer.Repair.{Repair}
+use Rattle.model.specs.declared.{geometry.Geometry.Geometry, answer.Class.Class, answer.Stop.Stop, answer.Repair.Repair}
+use Rattle.model.specs.declared.answer.Stop.the-variants.{Broken, Below}
+use Rattle.model.specs.declared.answer.Stop.the-variants.{Own, Backup, Format}
 
 -- ---- one volume that restarts
 

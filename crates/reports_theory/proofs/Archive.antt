@@ -1,13 +1,12 @@
 -- The archive after a history: each section is the page's kept changes, so what is rebuilt from it is the page's replay, as inspection
 -- shows.
 use mathlib.Core.Path.{_≡_, refl, sym, ap, _∙_}
-use mathlib.Core.Logic.{_≢_, ⊎-elim}
-use mathlib.Core.Bool.{Bool, true, false, cond}
+use mathlib.Core.Logic.{_≢_}
+use mathlib.Core.Bool.{false}
 use mathlib.Core.List.{List, [], _∷_, _++_, append-nil}
 use Prim.Native.Nat.{ℕ, zero, suc, _+_, _-_, _*_, _≤_, _<_}
 use native.Mathlib.Omega.{arith}
-use native.Mathlib.Decide.{ℕ-discrete}
-use lib.ListN.{length, take, drop, getD, replicate, length-append, length-replicate}
+use lib.ListN.{length, take, replicate, length-append}
 use lib.Seq.{take-at, drop-at}
 use lib.Dec.{eqb}
 use borrow.Author.Tests.{eqb-true, eqb-false}
@@ -19,24 +18,20 @@ use Rattle.reports_laws.proofs.Archive.{Whole, held-is, wrote, written-back, la
 use Rattle.reports_laws.proofs.Area.{read-done, read-image}
 use Rattle.model.specs.Bytes.{bytesOf, part}
 use Rattle.model.specs.Geometry.{geometryOf, item, logSlot}
-use Rattle.model.specs.Change.{zeroBody, applyChange}
-use Rattle.model.specs.Item.{imagePage, frameImage, recordOf, recordFor, applyRecord}
-use Rattle.model.specs.Scan.{logRecord, durableCount, gone}
+use Rattle.model.specs.Change.{zeroBody}
+use Rattle.model.specs.Item.{frameImage, recordOf, applyRecord}
+use Rattle.model.specs.Scan.{logRecord, gone}
 use Rattle.reports.specs.Reading.{pageRecords, heldRecords}
-use Rattle.model.specs.Tables.{tabulate}
 use Rattle.model.specs.AbstractLog.{Logged, lastPlace, replay}
-use Rattle.model.specs.Claim.{History, Legal, reached, durableOf, inspection, shown, Gone, Inspects}
-use Rattle.reports.specs.Archive.{archiveBytes, sectionsOf, archiveOf, partedFrom, replayRecords, lastNumberIn, sectionImage, readOf, imageAt, Rebuilds, ArchiveHistory}
-use Rattle.model.specs.declared.geometry.Geometry.{Geometry}
-use Rattle.model.specs.declared.item.LogRecord.{LogRecord}
-use Rattle.model.specs.declared.item.Note.{Note}
+use Rattle.model.specs.Claim.{History, Legal, reached, durableOf, inspection, Gone, Inspects}
+use Rattle.reports.specs.Archive.{archiveBytes, sectionsOf, archiveOf, replayRecords, lastNumberIn, sectionImage, readOf, imageAt, Rebuilds, ArchiveHistory}
+use Rattle.model.specs.declared.{geometry.Geometry.Geometry, item.LogRecord.LogRecord, item.Note.Note}
 use Rattle.model.specs.declared.answer.Answer.the-variants.{Done}
-use Rattle.history.proofs.Logs.{at, lastAt, lastOf, bodyOf, replayAt, last-hit, last-miss, replay-hit, replay-miss, replay-is, last-is}
+use Rattle.history.proofs.Logs.{at, lastAt, replayAt, last-hit, last-miss, replay-hit, replay-miss, replay-is, last-is}
 use Rattle.history.proofs.Records.{recOf, length-replay}
-use Rattle.history.proofs.Sections.{volume-sized}
 use Rattle.history.proofs.Disk.{Holds, Noted}
 use Rattle.history.proofs.LogScan.{first, started, rec-at, durable-count, not-gone}
-use Rattle.history.proofs.Reached.{Undamaged, present, tied}
+use Rattle.history.proofs.Reached.{present, tied}
 use Rattle.history.proofs.Theorem.{demand2}
 
 -- ---- a section with one record more

@@ -2,44 +2,38 @@
 -- not listed has the same replay in both.
 use mathlib.Core.Path.{_≡_, refl, sym, ap, _∙_}
 use mathlib.Core.Logic.{_≢_, _⊎_, inl, inr}
-use mathlib.Core.Bool.{Bool, true, false, cond}
+use mathlib.Core.Bool.{true, false}
 use mathlib.Core.List.{List, [], _∷_, _++_}
 use Prim.Native.Nat.{ℕ, zero, suc, _+_, _-_, _≤_, _<_}
 use native.Mathlib.Omega.{arith}
 use native.Mathlib.Decide.{decLt, ℕ-discrete}
-use lib.ListN.{length, take, drop, getD, length-append, List·getD-append, take-append-drop}
+use lib.ListN.{length, take, drop, length-append, List·getD-append, take-append-drop}
 use lib.Seq.{length-take-le, take-all}
 use lib.Dec.{eqb}
 use borrow.Author.Tests.{eqb-true}
 use Rattle.laws.proofs.Tables.{byCases, true-not-false}
 use Rattle.laws.proofs.Parts.{same-bytes, bytes-same}
-use Rattle.laws.proofs.Places.{valid-facts}
 use Rattle.laws.proofs.Checksums.{withSum-length}
 use Rattle.laws.proofs.Items.{with-part}
-use Rattle.laws.proofs.Changes.{Fits, fits-facts, change-back, padded-bytes, Encodes, encoded-length, encoded-back, encoded-payload}
-use Rattle.reports_laws.proofs.Mirror.{common, number-is, Both, both, answer-is, listed-exact, field-same, byte-same, payload-same}
-use Rattle.model.specs.Bytes.{bytesOf, part, sameBytes}
+use Rattle.laws.proofs.Changes.{fits-facts, change-back, padded-bytes, Encodes, encoded-length, encoded-back, encoded-payload}
+use Rattle.reports_laws.proofs.Mirror.{common, Both, both, answer-is, listed-exact, field-same, byte-same, payload-same}
+use Rattle.model.specs.Bytes.{bytesOf, part}
 use Rattle.model.specs.Checksum.{checksum, withChecksum}
-use Rattle.model.specs.Geometry.{topNumber, geometryOf, item, logSlot}
-use Rattle.model.specs.Change.{kindOf, lengthOf, offsetOf, fillOf, changeOf}
+use Rattle.model.specs.Geometry.{topNumber, geometryOf}
+use Rattle.model.specs.Change.{kindOf, lengthOf, offsetOf, fillOf}
 use Rattle.model.specs.Item.{recordOf, recordFor, payloadOf, padded, recordBytes, encodeChange}
 use Rattle.model.specs.Scan.{logRecord, gone}
 use Rattle.model.specs.AbstractLog.{Logged, lastPlace, replay}
-use Rattle.model.specs.Claim.{History, Legal, reached, durableOf, inspection, shown, Gone, Inspects, ShowsReplay, Agree, Begins}
+use Rattle.model.specs.Claim.{History, Legal, reached, durableOf, inspection, ShowsReplay, Agree, Begins}
 use Rattle.reports.specs.Mirror.{sameChange, recordIn, durableIn, commonOf, comparison, mirrorOf, mirrorRefusal, listed, LongestCommon, MirrorHistory}
-use Rattle.model.specs.declared.change.Change.{Change}
-use Rattle.model.specs.declared.item.LogRecord.{LogRecord}
-use Rattle.model.specs.declared.item.Note.{Note}
-use Rattle.model.specs.declared.geometry.Geometry.{Geometry}
+use Rattle.model.specs.declared.{change.Change.Change, item.LogRecord.LogRecord}
 use Rattle.reports.specs.declared.reading.Comparison.{Comparison}
-use Rattle.reports.specs.declared.reading.Comparison.the-variants as answers
 use Rattle.history.proofs.Logs.{noLogged, at, lastAt, lastOf, replayAt, bodyOf, last-agree, replay-agree, last-miss, replay-miss, last-le, last-is, replay-is}
 use Rattle.history.proofs.Records.{Fair, recOf}
 use Rattle.history.proofs.Sections.{volume-sized, most-high}
-use Rattle.history.proofs.Disk.{Holds, Noted}
 use Rattle.history.proofs.LogScan.{durable-count}
 use Rattle.reports_theory.proofs.Archive.{stands, page-read}
-use Rattle.history.proofs.Reached.{Undamaged, present, tied}
+use Rattle.history.proofs.Reached.{present, tied}
 use Rattle.history.proofs.Theorem.{demand2}
 
 -- ---- the record of a change

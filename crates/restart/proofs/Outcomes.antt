@@ -15,9 +15,8 @@ use Rattle.model.specs.State.{validMemory, zeroState}
 use Rattle.model.specs.Refusals.{restartRows}
 use Rattle.model.specs.Outcome.{replyOf, decided}
 use Rattle.model.specs.Restart.{restartState, restartOf}
-use Rattle.model.specs.declared.state.State.{State}
+use Rattle.model.specs.declared.{state.State.State, answer.Reply.Reply}
 use Rattle.model.specs.declared.answer.Answer.the-variants.{Refused, Done}
-use Rattle.model.specs.declared.answer.Reply.{Reply}
 use Rattle.index.specs.Scanned.{scanRows, scanRefusal, scannedOf}
 use Rattle.index.specs.declared.Scanned.{Scanned}
 use Rattle.index.proofs.Whole.{clean}

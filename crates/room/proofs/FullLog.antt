@@ -13,9 +13,7 @@ use Rattle.model.specs.Geometry.{ring, most, item, logSlot}
 use Rattle.model.specs.Item.{recordOf}
 use Rattle.model.specs.Index.{entryOf}
 use Rattle.model.specs.State.{lastNumber, recordNeeded, logFull}
-use Rattle.model.specs.declared.geometry.Geometry.{Geometry}
-use Rattle.model.specs.declared.item.LogRecord.{LogRecord}
-use Rattle.model.specs.declared.state.Entry.{Entry}
+use Rattle.model.specs.declared.{geometry.Geometry.Geometry, item.LogRecord.LogRecord, state.Entry.Entry}
 use Rattle.model.specs.declared.state.State.{State}
 
 -- past the turn there are as many numbers as slots

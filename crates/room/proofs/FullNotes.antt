@@ -14,9 +14,7 @@ use Rattle.model.specs.Geometry.{ring, mostNotes, topNumber, item, noteSlot}
 use Rattle.model.specs.Item.{noteOf}
 use Rattle.model.specs.Scan.{noteRecord}
 use Rattle.model.specs.State.{noteWhole, noteLike, noteNeeded, notesFull}
-use Rattle.model.specs.declared.geometry.Geometry.{Geometry}
-use Rattle.model.specs.declared.item.Note.{Note}
-use Rattle.model.specs.declared.state.State.{State}
+use Rattle.model.specs.declared.{geometry.Geometry.Geometry, item.Note.Note, state.State.State}
 
 module _ (g : Geometry) (v : List ℕ) where
   pub whole-is : (n : ℕ) (r : List ℕ) (e : Note) (sum : Bool) → r ≡ item g v (noteSlot g n) → e ≡ noteOf r → sum ≡ sealed 12 r

@@ -1,23 +1,21 @@
 -- How many more there is room for: the first number that is refused, and what the definitions say in each of their cases.
-use mathlib.Core.Path.{_≡_, refl, sym, ap, _∙_}
+use mathlib.Core.Path.{_≡_, sym, ap, _∙_}
 use mathlib.Core.Bool.{Bool, true, false, _&&_}
 use mathlib.Core.List.{List}
 use Prim.Native.Nat.{ℕ, suc, _+_, _-_, _≤_, _<_}
 use native.Mathlib.Numerals.{add-one}
 use native.Mathlib.Omega.{arith}
 use lib.Dec.{eqb, leb, ltb}
-use borrow.Author.Tests.{leb-true, leb-false, lt-leb, ltb-true, ne-eqb, eq-eqb}
+use borrow.Author.Tests.{leb-true, leb-false, lt-leb, ltb-true, ne-eqb}
 use Rattle.reports_laws.proofs.Forecast.{scanned}
 use Rattle.laws.proofs.Tables.{and-left, and-right, or-neither}
 use Rattle.model.specs.Tables.{firstOf}
-use Rattle.model.specs.Geometry.{geometryOf, validVolume, ring, most, mostNotes, topNumber}
+use Rattle.model.specs.Geometry.{geometryOf, validVolume, ring, most, mostNotes}
 use Rattle.model.specs.Scan.{logRecord, noteRecord}
-use Rattle.model.specs.State.{lastNumber, recordNeeded, noteNeeded, logFull, notesFull}
+use Rattle.model.specs.State.{lastNumber, logFull, notesFull}
 use Rattle.model.specs.Restart.{restartState}
 use Rattle.reports.specs.Reading as reading
-use Rattle.model.specs.declared.geometry.Geometry.{Geometry}
-use Rattle.model.specs.declared.item.LogRecord.{LogRecord}
-use Rattle.model.specs.declared.item.Note.{Note}
+use Rattle.model.specs.declared.{geometry.Geometry.Geometry, item.LogRecord.LogRecord, item.Note.Note}
 use Rattle.model.specs.declared.state.State.{State}
 use Rattle.index.specs.Scanned.{scanRows, scanRefusal, scannedOf}
 use Rattle.index.specs.declared.Scanned.{Scanned}

@@ -3,10 +3,10 @@ use mathlib.Core.Path.{_≡_, refl, sym, ap, _∙_}
 use mathlib.Core.Bool.{Bool, true, false, cond, _&&_, _||_, not}
 use mathlib.Core.List.{List, []}
 use Prim.Native.Nat.{ℕ, zero, suc, _+_, _-_, _*_, _%_, _≤_, _<_}
-use native.Mathlib.Nat.{mod-lt, mod-eq-of-lt, mod-self, mod-add-mod, mul-le-mul-left, mul-zero, mul-add, mul-one, mul-sub}
+use native.Mathlib.Nat.{mod-lt, mod-eq-of-lt, mod-self, mod-add-mod, mul-le-mul-left, mul-zero, mul-sub}
 use native.Mathlib.Numerals.{add-one, add-two}
 use native.Mathlib.Omega.{arith}
-use lib.Dec.{leb, eqb}
+use lib.Dec.{eqb}
 use lib.ListN.{length, take, drop, drop-of-length-le}
 use borrow.Author.Tests.{le-leb, lt-leb}
 use Rattle.laws.proofs.Checksums.{run-none, run-stops, run-goes, run-most}
@@ -19,7 +19,7 @@ use Rattle.model.specs.Scan.{highest, restZero, countIn, firstIn, endsIn}
 use Rattle.section.specs.declared.Section.{Section}
 use Rattle.section.specs.declared.Run.{Run}
 use Rattle.section.specs.declared.Front.{Front}
-use Rattle.section.specs.Section.{frontAt, frontIn, runIn, Placed, slotBytes, slotsIn, highestAt}
+use Rattle.section.specs.Section.{frontAt, frontIn, runIn, slotBytes, slotsIn, highestAt}
 
 -- ---- places
 

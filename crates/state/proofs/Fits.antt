@@ -16,10 +16,7 @@ use Rattle.model.specs.Index.{emptyEntry, entryRow, entryOf}
 use Rattle.model.specs.State.{emptyFrame, holderFrom, frameCount, validMemory, pendingNoteFits, frameFits, entryFits, pageFits, wellFormed}
 use Rattle.model.specs.Refusals.{stateRows}
 use Rattle.state.specs.Clauses.{firstIn, soleIn, frameClauses, frameIn, pageClauses, pageIn, keptIn, countClauses}
-use Rattle.model.specs.declared.geometry.Geometry.{Geometry}
-use Rattle.model.specs.declared.state.Entry.{Entry}
-use Rattle.model.specs.declared.state.Frame.{Frame}
-use Rattle.model.specs.declared.state.State.{State}
+use Rattle.model.specs.declared.{geometry.Geometry.Geometry, state.Entry.Entry, state.Frame.Frame, state.State.State}
 
 -- a test that is made twice counts once
 absorbed : (q h : Bool) → ((q || h) || q) ≡ (h || q)

@@ -7,8 +7,7 @@ use Rattle.laws.proofs.Tables.{when-true, when-false}
 use Rattle.model.specs.Tables.{within}
 use Rattle.model.specs.Index.{entryOf, setEntry, withDurable}
 use Rattle.model.specs.Effects.{forcedState}
-use Rattle.model.specs.declared.state.Entry.{Entry}
-use Rattle.model.specs.declared.state.State.{State}
+use Rattle.model.specs.declared.{state.Entry.Entry, state.State.State}
 
 -- one more durable record and one fewer pending, with the index given
 abbrev pub counted : State → List Entry → State

@@ -12,9 +12,7 @@ use Rattle.laws.proofs.Tables.{when-true, when-false}
 use Rattle.model.specs.Index.{entryOf}
 use Rattle.model.specs.State.{emptyFrame, frameOf, holderFrom}
 use Rattle.model.specs.Refusals.{frameBlocked}
-use Rattle.model.specs.declared.state.Entry.{Entry}
-use Rattle.model.specs.declared.state.Frame.{Frame}
-use Rattle.model.specs.declared.state.State.{State}
+use Rattle.model.specs.declared.{state.Entry.Entry, state.Frame.Frame, state.State.State}
 
 -- ---- the search for the frame that holds page p: what the rows from i on give
 

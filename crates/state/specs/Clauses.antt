@@ -9,9 +9,7 @@ use Rattle.model.specs.Tables.{all, every}
 use Rattle.model.specs.Geometry.{most, mostNotes}
 use Rattle.model.specs.State.{emptyFrame, holderFrom, pendingNoteFits, entryZero}
 use Rattle.model.specs.Index.{entryRow, entryOf}
-use Rattle.model.specs.declared.geometry.Geometry.{Geometry}
-use Rattle.model.specs.declared.state.Entry.{Entry}
-use Rattle.model.specs.declared.state.Frame.{Frame}
+use Rattle.model.specs.declared.{geometry.Geometry.Geometry, state.Entry.Entry, state.Frame.Frame}
 use Rattle.model.specs.declared.state.PendingNote.{PendingNote}
 
 -- no row of a frame table before row i holds its page

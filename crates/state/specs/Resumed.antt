@@ -1,8 +1,7 @@
 -- The state that a scan gives, with no frame in use.
 use lib.ListN.{replicate}
 use Rattle.model.specs.State.{emptyFrame}
-use Rattle.model.specs.declared.state.PendingNote.the-variants.{Absent}
-use Rattle.model.specs.declared.state.State.{State}
+use Rattle.model.specs.declared.{state.PendingNote.the-variants.Absent, state.State.State}
 use Rattle.index.specs.declared.Scanned.{Scanned}
 
 abbrev pub resumedState : Scanned → State

@@ -3,8 +3,7 @@ use Prim.Native.Nat.{ℕ}
 use mathlib.Core.List.{List}
 use Rattle.model.specs.Outcome.{Outcome}
 use Rattle.model.specs.Calls.{outcomeOf}
-use Rattle.model.specs.declared.answer.Reply.{Reply}
-use Rattle.model.specs.declared.command.Command.{Command}
+use Rattle.model.specs.declared.{answer.Reply.Reply, command.Command.Command}
 use Rattle.store.specs.declared.Store.{Store}
 use Rattle.store.specs.declared.Returned.{Returned}
 

@@ -1,6 +1,6 @@
 -- The advice, case by case: what the code answers is the policy's.
-use mathlib.Core.Path.{_≡_, refl, sym, ap, _∙_}
-use mathlib.Core.Bool.{Bool, true, false, cond, _&&_, _||_, not}
+use mathlib.Core.Path.{_≡_, sym, ap, _∙_}
+use mathlib.Core.Bool.{Bool, true, false, cond, _||_, not}
 use mathlib.Core.List.{List, [], _∷_}
 use Prim.Native.Nat.{ℕ, _+_, _/_, _≤_, _<_}
 use native.Mathlib.Omega.{arith}
@@ -14,24 +14,22 @@ use Rattle.state.proofs.Fits.{refusal-then}
 use Rattle.model.specs.Tables.{firstOf, within}
 use Rattle.model.specs.Bytes.{byteAt}
 use Rattle.model.specs.Geometry.{ring, geometryOf, validVolume}
-use Rattle.model.specs.Item.{isWritten}
 use Rattle.model.specs.Scan.{logRecord, noteRecord}
 use Rattle.model.specs.State.{frameCount, frameAt, frameBytes, frameOf, logFull, notesFull, notePending, holder, held}
 use Rattle.model.specs.Refusals.{stateRows, loadRows}
 use Rattle.model.specs.Calls.{noPayload}
-use Rattle.upkeep_policy.specs.Upkeep.{Advice, idle, make, notePosition, logPosition, firstNeededNote, firstNeededLog}
+use Rattle.upkeep_policy.specs.Upkeep.{Advice, make, notePosition, logPosition, firstNeededNote, firstNeededLog}
 use Rattle.upkeep_policy.specs.Upkeep.{freeSlot}
 use Rattle.upkeep_policy.specs.Upkeep.{bringIn, backUp, writeOut, renew, upkeepOf, advisedBy, adviseRows, adviseOf}
-use Rattle.model.specs.declared.change.Change.the-variants.{Put}
-use Rattle.model.specs.declared.command.Command.the-variants.{Load, Change, Force, Write, Backup, Note}
-use Rattle.model.specs.declared.geometry.Geometry.{Geometry}
-use Rattle.model.specs.declared.item.Note.{Note as NoteFields}
-use Rattle.model.specs.declared.state.Frame.{Frame}
+use Rattle.model.specs.declared.{change.Change.the-variants.Put, geometry.Geometry.Geometry, state.Frame.Frame}
 use Rattle.model.specs.declared.state.State.{State}
+use Rattle.model.specs.declared.command.Command.the-variants.{Load, Force, Write}
+use Rattle.model.specs.declared.command.Command.the-variants.{Change, Backup, Note}
 use Rattle.upkeep_policy.specs.declared.upkeep.Advised.{Advised}
 use Rattle.upkeep_policy.specs.declared.upkeep.Upkeep.{Upkeep}
 use Rattle.upkeep_policy.specs.declared.upkeep.Upkeep.the-variants.{Refused, Idle, Stuck, Make}
 use Rattle.upkeep.specs.Parts.{ringAdvice}
+use Rattle.model.specs.declared.item.Note.{Note as NoteFields}
 
 -- an answer without payload
 abbrev pub bare : Upkeep → Advised

@@ -1,5 +1,5 @@
 -- The log positions: the code's tests come to the definition.
-use mathlib.Core.Path.{_≡_, sym, ap, _∙_}
+use mathlib.Core.Path.{_≡_, ap, _∙_}
 use mathlib.Core.Bool.{Bool, true, false}
 use mathlib.Core.List.{List}
 use Prim.Native.Nat.{ℕ, _+_, _-_, _/_, _≤_, _<_}
@@ -14,9 +14,7 @@ use Rattle.model.specs.Passes.{firstFrom}
 use Rattle.model.specs.Scan.{logRecord}
 use Rattle.model.specs.State.{recordNeeded}
 use Rattle.upkeep_policy.specs.Upkeep.{logPosition, logAhead, firstNeededLog}
-use Rattle.model.specs.declared.geometry.Geometry.{Geometry}
-use Rattle.model.specs.declared.item.LogRecord.{LogRecord}
-use Rattle.model.specs.declared.state.State.{State}
+use Rattle.model.specs.declared.{geometry.Geometry.Geometry, item.LogRecord.LogRecord, state.State.State}
 use Rattle.upkeep.proofs.Search.{first-start}
 
 module _ (g : Geometry) (v : List ℕ) (s : State) where

@@ -1,5 +1,5 @@
 -- The one pass over the notes: what it has seen so far of a note, and what that comes to where it ends.
-use mathlib.Core.Path.{_≡_, refl, sym, ap, _∙_}
+use mathlib.Core.Path.{_≡_, refl, sym, _∙_}
 use mathlib.Core.Bool.{Bool, true, false, _&&_, _||_, not}
 use mathlib.Core.List.{List}
 use Prim.Native.Nat.{ℕ, suc, _+_, _-_, _≤_, _<_}
@@ -20,8 +20,7 @@ use Rattle.laws.proofs.Tables.{
 use Rattle.model.specs.Tables.{every}
 use Rattle.model.specs.Scan.{noteRecord}
 use Rattle.model.specs.State.{noteWhole, noteNeeded}
-use Rattle.model.specs.declared.geometry.Geometry.{Geometry}
-use Rattle.model.specs.declared.item.Note.{Note}
+use Rattle.model.specs.declared.{geometry.Geometry.Geometry, item.Note.Note}
 use Rattle.room.proofs.FullNotes.{laterOther}
 
 -- ---- plain laws

@@ -1,14 +1,14 @@
 -- The note positions: the code's tests come to the definition.
-use mathlib.Core.Path.{_≡_, refl, sym, ap, _∙_}
+use mathlib.Core.Path.{_≡_, refl, sym, _∙_}
 use mathlib.Core.Bool.{Bool, true, false, _&&_, _||_}
 use mathlib.Core.List.{List, []}
-use Prim.Native.Nat.{ℕ, suc, _+_, _-_, _*_, _%_, _≤_, _<_}
+use Prim.Native.Nat.{ℕ, _+_, _-_, _%_, _≤_, _<_}
 use native.Mathlib.Nat.{mod-lt}
 use native.Mathlib.Decide.{decLt}
 use native.Mathlib.Numerals.{add-one}
 use native.Mathlib.Omega.{arith}
 use lib.Dec.{eqb, leb, ltb}
-use lib.ListN.{length, take, drop, drop-of-length-le}
+use lib.ListN.{length, drop-of-length-le}
 use borrow.Author.Tests.{
   ltb-true,
   lt-ltb,
@@ -21,21 +21,19 @@ use borrow.Author.Tests.{
   eqb-false,
   ne-eqb,
 }
-use Rattle.laws.proofs.Tables.{and-left, or-cases, or-neither, byCases, true-not-false}
+use Rattle.laws.proofs.Tables.{and-left, or-neither, byCases, true-not-false}
 use Rattle.laws.proofs.Search.{first-from}
 use Rattle.laws.proofs.Places.{total, valid-facts}
 use Rattle.model.specs.Tables.{every}
 use Rattle.model.specs.Bytes.{le, part}
 use Rattle.model.specs.Checksum.{sealed}
-use Rattle.model.specs.Geometry.{ring, mostNotes, geometryOf, validVolume, start, noteAt, slotOf, item, noteSlot}
+use Rattle.model.specs.Geometry.{ring, mostNotes, geometryOf, validVolume, start, noteAt, item, noteSlot}
 use Rattle.model.specs.Item.{noteOf}
 use Rattle.model.specs.Passes.{firstFrom}
 use Rattle.model.specs.Scan.{noteRecord}
 use Rattle.model.specs.State.{noteWhole, noteNeeded, notesFull}
 use Rattle.upkeep_policy.specs.Upkeep.{notePosition, noteAhead, firstNeededNote}
-use Rattle.model.specs.declared.geometry.Geometry.{Geometry}
-use Rattle.model.specs.declared.item.Note.{Note}
-use Rattle.model.specs.declared.state.State.{State}
+use Rattle.model.specs.declared.{geometry.Geometry.Geometry, item.Note.Note, state.State.State}
 
 and-false : (a : Bool) → (a && false) ≡ false
 and-false true = refl

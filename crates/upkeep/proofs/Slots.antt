@@ -8,8 +8,7 @@ use Rattle.model.specs.Geometry.{geometryOf, validVolume}
 use Rattle.model.specs.Index.{slotUsed}
 use Rattle.model.specs.Passes.{firstFrom}
 use Rattle.upkeep_policy.specs.Upkeep.{freeSlot}
-use Rattle.model.specs.declared.geometry.Geometry.{Geometry}
-use Rattle.model.specs.declared.state.State.{State}
+use Rattle.model.specs.declared.{geometry.Geometry.Geometry, state.State.State}
 
 pub slots-few : (v : List ℕ) (g : Geometry) → validVolume v ≡ true → g ≡ geometryOf v → g .slots ≤ 128
 slots-few v g valid eg = rw eg (valid-facts v valid .b-high)

@@ -17,14 +17,13 @@ use Rattle.model.specs.Scan.{logRecord, noteRecord, indexOf}
 use Rattle.model.specs.State.{frameCount, frameBytes, recordNeeded, logFull, noteNeeded, notesFull, notePending, holder, held}
 use Rattle.model.specs.Refusals.{pageDirty, stateRows, loadRows}
 use Rattle.model.specs.Calls.{Call, codeOf, noPayload}
-use Rattle.model.specs.declared.command.Command.the-variants.{Load, Change, Force, Write, Backup, Note}
+use Rattle.model.specs.declared.{change.Change.the-variants.Put, geometry.Geometry.Geometry}
+use Rattle.model.specs.declared.{state.PendingNote.PendingNote, state.State.State}
+use Rattle.model.specs.declared.command.Command.the-variants.{Load, Force, Write}
+use Rattle.model.specs.declared.state.PendingNote.the-variants.{Absent, Present}
+use Rattle.model.specs.declared.command.Command.the-variants.{Change, Backup, Note}
 use Rattle.model.specs.History.{Power, off, on, Machine, Event, restart, perform, crash, crashIn, damage, step}
 use Rattle.model.specs.Carry.{carries, countOf}
-use Rattle.model.specs.declared.change.Change.the-variants.{Put}
-use Rattle.model.specs.declared.geometry.Geometry.{Geometry}
-use Rattle.model.specs.declared.state.PendingNote.{PendingNote}
-use Rattle.model.specs.declared.state.PendingNote.the-variants.{Absent, Present}
-use Rattle.model.specs.declared.state.State.{State}
 use Rattle.upkeep_policy.specs.declared.upkeep.Advised.{Advised}
 use Rattle.upkeep_policy.specs.declared.upkeep.Upkeep.the-variants.{Refused, Idle, Stuck, Make}
 

@@ -1,10 +1,10 @@
 -- What upkeep promises, as types (docs/UPKEEP.md: T1 to T4). The values are proved in the crate
 -- `upkeep_theory`. T1: where it has nothing to do no call is refused for room. T2: followed, it comes to that, within
 -- 5 W + 3 P + 1 calls. T3: it changes no page's text. T4: it is stuck only at a page that is lost.
-use Prim.Native.Nat.{ℕ, zero, suc, _+_, _*_, _/_, _≤_, _<_}
+use Prim.Native.Nat.{ℕ, _+_, _*_, _/_, _≤_, _<_}
 use mathlib.Core.Path.{_≡_}
 use mathlib.Core.Logic.{_≢_, _⊎_, _↔_}
-use mathlib.Core.Bool.{Bool, true, false}
+use mathlib.Core.Bool.{true, false}
 use mathlib.Core.List.{List, [], _∷_, _++_}
 use lib.ListN.{length}
 use Rattle.model.specs.Tables.{within}
@@ -17,8 +17,7 @@ use Rattle.model.specs.AbstractLog.{Logged, replay, lastPlace}
 use Rattle.model.specs.History.{Power, off, on, Machine, Event, perform}
 use Rattle.model.specs.Carry.{carries, startsIn}
 use Rattle.model.specs.Claim.{History, Legal, fresh, reached, logOf, durableOf, Gone, Proviso}
-use Rattle.model.specs.declared.answer.Answer.the-variants.{Nothing}
-use Rattle.model.specs.declared.geometry.Heading.the-variants.{Second}
+use Rattle.model.specs.declared.{answer.Answer.the-variants.Nothing, geometry.Heading.the-variants.Second}
 use Rattle.model.specs.declared.state.State.{State}
 use Rattle.upkeep_policy.specs.Upkeep.{idle, stuck, make, freeSlot, upkeepOf, adviceOf, everWritten, disciplined, upkeepEvents}
 

@@ -23,14 +23,11 @@ use Rattle.model.specs.Refusals.{forceRows, noteRows}
 use Rattle.model.specs.Outcome.{StoredItem, volumeAfter, decided}
 use Rattle.model.specs.Effects.{noteStored, notedState, forcedState, forceDone}
 use Rattle.model.specs.Calls.{Call, outcomeOf, noPayload}
-use Rattle.model.specs.declared.command.Command.the-variants.{Force, Note as NoteCall}
+use Rattle.model.specs.declared.{command.Command.the-variants.Force, geometry.Geometry.Geometry, item.Note.Note}
+use Rattle.model.specs.declared.{state.PendingNote.PendingNote, state.State.State}
+use Rattle.model.specs.declared.state.PendingNote.the-variants.{Absent, Present}
 use Rattle.model.specs.Carry.{countOf}
 use Rattle.model.specs.AbstractLog.{Logged}
-use Rattle.model.specs.declared.geometry.Geometry.{Geometry}
-use Rattle.model.specs.declared.item.Note.{Note}
-use Rattle.model.specs.declared.state.PendingNote.{PendingNote}
-use Rattle.model.specs.declared.state.PendingNote.the-variants.{Absent, Present}
-use Rattle.model.specs.declared.state.State.{State}
 use Rattle.history.proofs.Entries.{lenN}
 use Rattle.history.proofs.Keeps.{note-store}
 use Rattle.history.proofs.Context.{Ctx, geo}
@@ -50,6 +47,7 @@ use Rattle.upkeep_theory.proofs.StateCounts.{noted-counts, forced-count
 use Rattle.upkeep_theory.proofs.Renewals.{Then, by-rows, load-step, backup-step, came, second-backup, write-step}
 use Rattle.upkeep_theory.proofs.Renewals.{put-step}
 use Rattle.upkeep_theory.proofs.Measure.{written-bound}
+use Rattle.model.specs.declared.command.Command.the-variants.{Note as NoteCall}
 
 module _ {C : Type 0} {g : Geometry} {v m : List ℕ} {past : List StoredItem} {s : State} {k w : List Logged}
     (x : Ctx C g v m past s k w) (turns : ring g ≡ true) (n2 : 2 ≤ g .notes) (W : ℕ)

@@ -22,8 +22,7 @@ use Rattle.model.specs.History.{Power, off, on, Machine, Event, restart, perfor
 use Rattle.model.specs.History.{leftVolume, payloadFits, tornFits, allowed, step, allAllowed, run, logAfter, stepLog}
 use Rattle.model.specs.History.{isStartCarry}
 use Rattle.model.specs.Refusals.{restartRows}
-use Rattle.model.specs.declared.geometry.Geometry.{Geometry}
-use Rattle.model.specs.declared.state.State.{State}
+use Rattle.model.specs.declared.{geometry.Geometry.Geometry, state.State.State}
 use Rattle.history.proofs.Context.{Ctx, geo}
 use Rattle.history.proofs.Inv.{Inv}
 use Rattle.history.proofs.Steps.{context, all-steps}

@@ -7,9 +7,7 @@ use native.Mathlib.Omega.{arith}
 use lib.ListN.{length, getD, set}
 use Rattle.model.specs.Geometry.{pageAt, slotAt, recordAt, noteAt, item, store}
 use Rattle.model.specs.Index.{emptyEntry, entryOf}
-use Rattle.model.specs.declared.geometry.Geometry.{Geometry}
-use Rattle.model.specs.declared.state.Entry.{Entry}
-use Rattle.model.specs.declared.state.State.{State}
+use Rattle.model.specs.declared.{geometry.Geometry.Geometry, state.Entry.Entry, state.State.State}
 use Rattle.history.proofs.Sections.{Volume, store-other}
 use Rattle.upkeep_theory.proofs.Shift.{MoreMarks}
 

@@ -19,15 +19,11 @@ use Rattle.model.specs.State.{notePending}
 use Rattle.model.specs.Outcome.{StoredItem, volumeAfter, decided}
 use Rattle.model.specs.Effects.{noteStored}
 use Rattle.model.specs.Calls.{outcomeOf, noPayload}
-use Rattle.model.specs.declared.command.Command.the-variants.{Note as NoteCall}
 use Rattle.model.specs.Carry.{countOf}
 use Rattle.model.specs.AbstractLog.{Logged}
-use Rattle.model.specs.declared.geometry.Geometry.{Geometry}
-use Rattle.model.specs.declared.item.Note.{Note}
-use Rattle.model.specs.declared.state.Entry.{Entry}
-use Rattle.model.specs.declared.state.PendingNote.{PendingNote}
+use Rattle.model.specs.declared.{geometry.Geometry.Geometry, item.Note.Note, state.Entry.Entry}
+use Rattle.model.specs.declared.{state.PendingNote.PendingNote, state.State.State}
 use Rattle.model.specs.declared.state.PendingNote.the-variants.{Absent, Present}
-use Rattle.model.specs.declared.state.State.{State}
 use Rattle.history.proofs.Keeps.{note-store}
 use Rattle.history.proofs.Refusals.{ownRows, rows-are}
 use Rattle.history.proofs.Entries.{markAt}
@@ -35,6 +31,7 @@ use Rattle.history.proofs.Context.{Ctx, geo, entry-is, sized}
 use Rattle.upkeep_policy.specs.Upkeep.{make, writtenPages, upkeepOf}
 use Rattle.upkeep_theory.proofs.Shape.{notes}
 use Rattle.upkeep_theory.proofs.Near.{wroteIn, written-pages}
+use Rattle.model.specs.declared.command.Command.the-variants.{Note as NoteCall}
 
 -- ---- the cap on cuts
 

@@ -12,12 +12,11 @@ use Rattle.model.specs.Geometry.{ring, topNumber}
 use Rattle.model.specs.State.{frameCount, notePending}
 use Rattle.model.specs.Outcome.{StoredItem, volumeAfter}
 use Rattle.model.specs.Calls.{Call, outcomeOf, noPayload}
-use Rattle.model.specs.declared.command.Command.the-variants.{Force, Note}
+use Rattle.model.specs.declared.{command.Command.the-variants.Force, geometry.Geometry.Geometry, state.State.State}
+use Rattle.model.specs.declared.command.Command.the-variants.{Note}
 use Rattle.model.specs.Carry.{countOf, startsIn}
 use Rattle.model.specs.AbstractLog.{Logged, AbstractLog}
 use Rattle.model.specs.History.{on, Machine, perform, payloadFits, isStartCarry, allowed, step, run}
-use Rattle.model.specs.declared.geometry.Geometry.{Geometry}
-use Rattle.model.specs.declared.state.State.{State}
 use Rattle.history.proofs.Context.{Ctx}
 use Rattle.history.proofs.Inv.{Inv}
 use Rattle.history.proofs.Steps.{context}

@@ -19,15 +19,14 @@ use Rattle.model.specs.Outcome.{StoredItem, Outcome, volumeAfter, decided}
 use Rattle.model.specs.Effects.{noteStored, backupDone, beginDone, changeDone, forceDone, loadDone, releaseDone, writeDone}
 use Rattle.model.specs.Calls.{Call, outcomeOf}
 use Rattle.model.specs.Restart.{restartState}
-use Rattle.model.specs.declared.command.Command.the-variants.{Begin, Load, Change, Force, Write, Backup, Release, Note as NoteCall, StartCarry, Restamp, FinishCarry}
+use Rattle.model.specs.declared.{geometry.Geometry.Geometry, item.Note.Note, state.PendingNote.PendingNote}
+use Rattle.model.specs.declared.state.State.{State}
+use Rattle.model.specs.declared.command.Command.the-variants.{Begin, Load, Force, Write, Release, StartCarry, Restamp, FinishCarry}
+use Rattle.model.specs.declared.state.PendingNote.the-variants.{Absent, Present}
+use Rattle.model.specs.declared.command.Command.the-variants.{Change, Backup, Note as NoteCall}
 use Rattle.model.specs.Carry.{carries}
 use Rattle.model.specs.AbstractLog.{Logged, torn}
 use Rattle.model.specs.History.{leftVolume, itemSealed, tornFits}
-use Rattle.model.specs.declared.geometry.Geometry.{Geometry}
-use Rattle.model.specs.declared.item.Note.{Note}
-use Rattle.model.specs.declared.state.PendingNote.{PendingNote}
-use Rattle.model.specs.declared.state.PendingNote.the-variants.{Absent, Present}
-use Rattle.model.specs.declared.state.State.{State}
 use Rattle.history.proofs.Disk.{Holds, Noted}
 use Rattle.history.proofs.Images.{write-store, backup-store}
 use Rattle.history.proofs.Keeps.{writes, backs, note-store, force-store}

@@ -19,8 +19,7 @@ use Rattle.model.specs.Outcome.{StoredItem}
 use Rattle.model.specs.Restart.{restartState}
 use Rattle.model.specs.AbstractLog.{AbstractLog}
 use Rattle.model.specs.History.{Power, off, on, damageFits, storedBefore}
-use Rattle.model.specs.declared.geometry.Geometry.{Geometry}
-use Rattle.model.specs.declared.state.State.{State}
+use Rattle.model.specs.declared.{geometry.Geometry.Geometry, state.State.State}
 use Rattle.laws.proofs.Ring.{slot-in}
 use Rattle.history.proofs.Sections.{Volume, volume-size, volume-store}
 use Rattle.history.proofs.Context.{geo}

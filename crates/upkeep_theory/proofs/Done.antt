@@ -1,8 +1,7 @@
 -- What upkeep advises in a machine that a history reached is done: the call is not refused, and does not answer
 -- Nothing.
 use Rattle.history.proofs.Refusals.{call-refusal, ownRows, rows-are}
-use mathlib.Core.Path.{sym}
-use mathlib.Core.Path.{_≡_, refl, _∙_}
+use mathlib.Core.Path.{sym, _≡_, refl, _∙_}
 use mathlib.Core.Logic.{_≢_}
 use mathlib.Core.Bool.{Bool, true, false, cond, not}
 use mathlib.Core.List.{List}
@@ -17,21 +16,19 @@ use Rattle.model.specs.Geometry.{geometryOf}
 use Rattle.model.specs.Change.{changeFits}
 use Rattle.model.specs.Index.{entryOf, slotUsed}
 use Rattle.model.specs.State.{frameCount, logFull, notesFull, notePending, held, blank}
-use Rattle.model.specs.Refusals.{pageDirty, notDurable, chainBroken, chainBelow, loadRows, changeRows, writeRows}
+use Rattle.model.specs.Refusals.{pageDirty, loadRows, changeRows, writeRows}
+use Rattle.laws.proofs.Conditions.{notDurable, chainBroken, chainBelow}
 use Rattle.model.specs.Refusals.{backupRows}
 use Rattle.model.specs.Outcome.{StoredItem, refusalOf, decided}
 use Rattle.model.specs.Effects.{noteStored, backupDone, changeDone, forceDone, loadDone, writeDone}
 use Rattle.model.specs.Calls.{Call, outcomeOf, rowsOf, noPayload}
-use Rattle.model.specs.declared.command.Command.the-variants.{Load, Force, Write, Backup, Note}
-use Rattle.model.specs.AbstractLog.{Logged}
-use Rattle.model.specs.declared.change.Change.the-variants.{Put}
-use Rattle.model.specs.declared.answer.Answer.{Answer}
+use Rattle.model.specs.declared.{change.Change.the-variants.Put, answer.Answer.Answer, answer.Repair.Repair}
+use Rattle.model.specs.declared.{geometry.Geometry.Geometry, state.PendingNote.PendingNote, state.State.State}
+use Rattle.model.specs.declared.command.Command.the-variants.{Load, Force, Write}
 use Rattle.model.specs.declared.answer.Answer.the-variants.{Nothing, Done, Repaired}
-use Rattle.model.specs.declared.answer.Repair.{Repair}
-use Rattle.model.specs.declared.geometry.Geometry.{Geometry}
-use Rattle.model.specs.declared.state.PendingNote.{PendingNote}
 use Rattle.model.specs.declared.state.PendingNote.the-variants.{Absent, Present}
-use Rattle.model.specs.declared.state.State.{State}
+use Rattle.model.specs.declared.command.Command.the-variants.{Backup, Note}
+use Rattle.model.specs.AbstractLog.{Logged}
 use Rattle.history.proofs.Logs.{last-mono}
 use Rattle.history.proofs.Context.{Ctx, geo, len, last-entry, durable-last}
 use Rattle.history.proofs.Loads.{never-broken}

@@ -18,12 +18,9 @@ use Rattle.model.specs.Scan.{noteRecord}
 use Rattle.model.specs.Outcome.{StoredItem}
 use Rattle.model.specs.Effects.{withFrames, appendedState, notedState}
 use Rattle.model.specs.AbstractLog.{Logged}
-use Rattle.model.specs.declared.geometry.Geometry.{Geometry}
-use Rattle.model.specs.declared.item.Note.{Note}
-use Rattle.model.specs.declared.state.Entry.{Entry}
-use Rattle.model.specs.declared.state.Frame.{Frame}
-use Rattle.model.specs.declared.state.PendingNote.the-variants.{Absent, Present}
+use Rattle.model.specs.declared.{geometry.Geometry.Geometry, item.Note.Note, state.Entry.Entry, state.Frame.Frame}
 use Rattle.model.specs.declared.state.State.{State}
+use Rattle.model.specs.declared.state.PendingNote.the-variants.{Absent, Present}
 use Rattle.history.proofs.Entries.{note as note′, markAt}
 use Rattle.history.proofs.Context.{Ctx, sized}
 use Rattle.upkeep_policy.specs.Upkeep.{everWritten, pendingWritten}

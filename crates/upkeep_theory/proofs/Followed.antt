@@ -6,7 +6,7 @@ use mathlib.Core.Bool.{Bool, true, false, cond, _&&_, _||_}
 use mathlib.Core.List.{List, [], _∷_}
 use lib.Dec.{eqb, leb}
 use lib.ListN.{length, getD}
-use borrow.Author.Tests.{eqb-true, leb-true, ne-eqb}
+use borrow.Author.Tests.{leb-true, ne-eqb}
 use Rattle.laws.proofs.Tables.{and-left, and-right, all-at, not-true, true-not-false}
 use Rattle.laws.proofs.Changes.{change-back}
 use Rattle.laws.proofs.Parts.{same-bytes}
@@ -16,7 +16,8 @@ use Rattle.model.specs.Change.{changeOf}
 use Rattle.model.specs.State.{frameCount}
 use Rattle.model.specs.Calls.{Call, codeOf}
 use Rattle.model.specs.declared.command.Command.{Command}
-use Rattle.model.specs.declared.command.Command.the-variants.{Begin, Load, Change, Force, Write, Backup, Release, Note, StartCarry, Restamp, FinishCarry}
+use Rattle.model.specs.declared.command.Command.the-variants.{Begin, Load, Force, Write, Release, StartCarry, Restamp, FinishCarry}
+use Rattle.model.specs.declared.command.Command.the-variants.{Change, Backup, Note}
 use Rattle.model.specs.History.{Power, off, on, Machine, Event, restart, perform, crash, crashIn, damage, step}
 use Rattle.model.specs.Carry.{carries}
 use Rattle.upkeep_policy.specs.Upkeep.{Advice, idle, stuck, make, sameCall, followsCall, follows, adviceOf, cutsAfter, writtenPages, reservedFits, inBounds, disciplined}

@@ -23,14 +23,12 @@ use Rattle.model.specs.Refusals.{pageDirty, loadRows, changeRows, forceRows, wr
 use Rattle.model.specs.Outcome.{StoredItem, Outcome, decided}
 use Rattle.model.specs.Effects.{changedImage, forcedState, noteStored, notedState, appendedState, appendedMemory, backupDone, changeDone, forceDone, loadDone, writeDone}
 use Rattle.model.specs.Calls.{Call, outcomeOf, noPayload}
-use Rattle.model.specs.declared.command.Command.the-variants.{Load, Force, Write, Backup, Note}
-use Rattle.model.specs.AbstractLog.{Logged}
-use Rattle.model.specs.declared.change.Change.the-variants.{Put}
-use Rattle.model.specs.declared.geometry.Geometry.{Geometry}
-use Rattle.model.specs.declared.state.Frame.{Frame}
-use Rattle.model.specs.declared.state.PendingNote.{PendingNote}
+use Rattle.model.specs.declared.{change.Change.the-variants.Put, geometry.Geometry.Geometry, state.Frame.Frame}
+use Rattle.model.specs.declared.{state.PendingNote.PendingNote, state.State.State}
+use Rattle.model.specs.declared.command.Command.the-variants.{Load, Force, Write}
 use Rattle.model.specs.declared.state.PendingNote.the-variants.{Absent, Present}
-use Rattle.model.specs.declared.state.State.{State}
+use Rattle.model.specs.declared.command.Command.the-variants.{Backup, Note}
+use Rattle.model.specs.AbstractLog.{Logged}
 use Rattle.history.proofs.Logs.{lastOf, bodyOf, last-le}
 use Rattle.history.proofs.Leaf.{frame-body, frame-size, frame-changed}
 use Rattle.history.proofs.Inv.{Memory}

@@ -20,8 +20,7 @@ use Rattle.model.specs.State.{noteNeeded}
 use Rattle.model.specs.History.{freshMachine, allAllowed, run, logAfter}
 use Rattle.model.specs.Carry.{startsIn}
 use Rattle.model.specs.Claim.{History, Legal, fresh, reached, logOf}
-use Rattle.model.specs.declared.geometry.Geometry.{Geometry}
-use Rattle.model.specs.declared.geometry.Heading.the-variants.{Second}
+use Rattle.model.specs.declared.{geometry.Geometry.Geometry, geometry.Heading.the-variants.Second}
 use Rattle.model.specs.declared.state.PendingNote.the-variants.{Absent}
 use Rattle.history.proofs.Inv.{Inv}
 use Rattle.history.proofs.LogScan.{durable-count}

@@ -20,11 +20,8 @@ use Rattle.model.specs.Effects.{appendedState, forcedState}
 use Rattle.model.specs.Calls.{Call}
 use Rattle.model.specs.Carry.{countOf}
 use Rattle.model.specs.AbstractLog.{Logged}
-use Rattle.model.specs.declared.change.Change.the-variants.{Put}
-use Rattle.model.specs.declared.geometry.Geometry.{Geometry}
-use Rattle.model.specs.declared.item.Note.{Note}
-use Rattle.model.specs.declared.state.PendingNote.the-variants.{Present}
-use Rattle.model.specs.declared.state.State.{State}
+use Rattle.model.specs.declared.{change.Change.the-variants.Put, geometry.Geometry.Geometry, item.Note.Note}
+use Rattle.model.specs.declared.{state.PendingNote.the-variants.Present, state.State.State}
 use Rattle.history.proofs.Context.{Ctx, geo}
 use Rattle.upkeep_policy.specs.Upkeep.{noteAhead, notePosition}
 use Rattle.upkeep_theory.proofs.Shape.{Renewal, loads, backs as backing, writes as writing, puts, Advised, notes}

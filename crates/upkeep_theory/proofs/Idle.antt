@@ -18,12 +18,14 @@ use Rattle.model.specs.Geometry.{ring, topNumber, geometryOf}
 use Rattle.model.specs.Change.{fits}
 use Rattle.model.specs.Index.{slotUsed}
 use Rattle.model.specs.State.{frameCount, recordNeeded, logFull, noteNeeded, notesFull, notePending, held, blank}
-use Rattle.model.specs.Refusals.{stateRows, frameBlocked, pageDirty, notDurable, loadRows, beginRows, changeRows}
+use Rattle.model.specs.Refusals.{stateRows, frameBlocked, pageDirty, loadRows, beginRows, changeRows}
+use Rattle.laws.proofs.Conditions.{notDurable}
 use Rattle.model.specs.Refusals.{forceRows, writeRows, backupRows, releaseRows, noteRows}
 use Rattle.model.specs.Calls.{Call, rowsOf, noPayload}
-use Rattle.model.specs.declared.command.Command.the-variants.{Begin, Load, Change, Force, Write, Backup, Release, Note, StartCarry, Restamp, FinishCarry}
-use Rattle.model.specs.Carry.{carries}
 use Rattle.model.specs.declared.state.State.{State}
+use Rattle.model.specs.declared.command.Command.the-variants.{Begin, Load, Force, Write, Release, StartCarry, Restamp, FinishCarry}
+use Rattle.model.specs.declared.command.Command.the-variants.{Change, Backup, Note}
+use Rattle.model.specs.Carry.{carries}
 use Rattle.history.proofs.Loads.{Others, none-other}
 use Rattle.history.proofs.Refusals.{call-refusal}
 use Rattle.upkeep_policy.specs.Upkeep.{Advice, idle, stuck, make, noteAhead, logAhead, reserve, firstNeededNote}

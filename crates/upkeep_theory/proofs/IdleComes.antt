@@ -16,10 +16,8 @@ use Rattle.model.specs.Outcome.{StoredItem}
 use Rattle.model.specs.AbstractLog.{AbstractLog}
 use Rattle.model.specs.History.{Power, on, Machine}
 use Rattle.model.specs.Claim.{fresh, reached, logOf}
-use Rattle.model.specs.declared.geometry.Geometry.{Geometry}
-use Rattle.model.specs.declared.state.PendingNote.{PendingNote}
+use Rattle.model.specs.declared.{geometry.Geometry.Geometry, state.PendingNote.PendingNote, state.State.State}
 use Rattle.model.specs.declared.state.PendingNote.the-variants.{Absent, Present}
-use Rattle.model.specs.declared.state.State.{State}
 use Rattle.history.proofs.Inv.{Inv}
 use Rattle.history.proofs.Steps.{context}
 use Rattle.history.proofs.Reached.{madeWith}

@@ -22,10 +22,7 @@ use Rattle.model.specs.Outcome.{StoredItem}
 use Rattle.model.specs.Effects.{appendedState, forcedState, notedState}
 use Rattle.model.specs.Restart.{restartState}
 use Rattle.model.specs.AbstractLog.{Logged}
-use Rattle.model.specs.declared.geometry.Geometry.{Geometry}
-use Rattle.model.specs.declared.item.Note.{Note}
-use Rattle.model.specs.declared.state.Entry.{Entry}
-use Rattle.model.specs.declared.state.State.{State}
+use Rattle.model.specs.declared.{geometry.Geometry.Geometry, item.Note.Note, state.Entry.Entry, state.State.State}
 use Rattle.model.specs.declared.state.PendingNote.the-variants.{Present}
 use Rattle.history.proofs.Logs.{noLogged, at, lastOf, bodyOf, last-ge, last-le}
 use Rattle.history.proofs.Leaf.{frame-lsn, note-read}

@@ -4,8 +4,7 @@ use mathlib.Core.Bool.{Bool, true, false, cond, _||_}
 use mathlib.Core.List.{List}
 use Prim.Native.Nat.{ℕ, _-_, _≤_}
 use native.Mathlib.Omega.{arith}
-use lib.Dec.{eqb, ltb}
-use lib.ListN.{length, getD}
+use lib.ListN.{getD}
 use borrow.Author.Tests.{lt-ltb}
 use Rattle.laws.proofs.Tables.{true-not-false}
 use Rattle.model.specs.Tables.{firstOf}
@@ -16,18 +15,16 @@ use Rattle.model.specs.Refusals.{loadRows}
 use Rattle.model.specs.Outcome.{StoredItem}
 use Rattle.model.specs.Effects.{withFrame, withFrames}
 use Rattle.model.specs.Calls.{Call, codeOf, numberOf, isCall, noPayload}
-use Rattle.model.specs.declared.command.Command.the-variants.{Begin, Load, Change, Force, Write, Backup, Release, Note, StartCarry, Restamp, FinishCarry}
+use Rattle.model.specs.declared.{command.Command.the-variants.Load, geometry.Geometry.Geometry, state.State.State}
 use Rattle.model.specs.AbstractLog.{Logged}
-use Rattle.model.specs.declared.geometry.Geometry.{Geometry}
-use Rattle.model.specs.declared.state.State.{State}
 use Rattle.history.proofs.Context.{Ctx, geo}
-use Rattle.history.proofs.Loads.{loads as loaded}
 use Rattle.upkeep_policy.specs.Upkeep.{make, noteAhead, logAhead, firstNeededLog, notePosition, logPosition, upkeepOf}
 use Rattle.upkeep_theory.proofs.Shape.{Renewal, loads, backs as backing, writes as writing, puts, Advised, notes}
 use Rattle.upkeep_theory.proofs.Shape.{forces, byNote, byLog, advised}
 use Rattle.upkeep_theory.proofs.Tidy.{Tidy}
 use Rattle.upkeep_theory.proofs.Step.{needs-second}
 use Rattle.upkeep_theory.proofs.Same.{holder-put}
+use Rattle.history.proofs.Loads.{loads as loaded}
 
 -- how much of its renewal a call has behind it
 abbrev pub weight : Call → ℕ

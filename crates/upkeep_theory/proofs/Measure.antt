@@ -16,8 +16,7 @@ use Rattle.model.specs.State.{noteNeeded, recordNeeded}
 use Rattle.model.specs.Outcome.{StoredItem}
 use Rattle.model.specs.Carry.{countOf}
 use Rattle.model.specs.AbstractLog.{Logged}
-use Rattle.model.specs.declared.geometry.Geometry.{Geometry}
-use Rattle.model.specs.declared.state.State.{State}
+use Rattle.model.specs.declared.{geometry.Geometry.Geometry, state.State.State}
 use Rattle.history.proofs.Context.{Ctx}
 use Rattle.upkeep_policy.specs.Upkeep.{reserve}
 use Rattle.upkeep_theory.proofs.Counting.{count-both}

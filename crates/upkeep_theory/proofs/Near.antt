@@ -20,9 +20,7 @@ use Rattle.model.specs.Scan.{noteRecord, indexOf}
 use Rattle.model.specs.State.{noteWhole}
 use Rattle.model.specs.Carry.{countOf}
 use Rattle.model.specs.AbstractLog.{Logged}
-use Rattle.model.specs.declared.geometry.Geometry.{Geometry}
-use Rattle.model.specs.declared.item.Note.{Note}
-use Rattle.model.specs.declared.state.Entry.{Entry}
+use Rattle.model.specs.declared.{geometry.Geometry.Geometry, item.Note.Note, state.Entry.Entry}
 use Rattle.model.specs.declared.state.PendingNote.{PendingNote}
 use Rattle.history.proofs.Entries.{note, markAt, lastBy, lsnBy, by-ge, by-le, mark-by, Mark}
 use Rattle.history.proofs.Sections.{volume-sized}

@@ -11,10 +11,8 @@ use Rattle.model.specs.State.{frameCount, pendingBytes, notePending}
 use Rattle.model.specs.Outcome.{StoredItem}
 use Rattle.model.specs.Effects.{forcedState}
 use Rattle.model.specs.Calls.{noPayload}
-use Rattle.model.specs.declared.command.Command.the-variants.{Force, Note}
+use Rattle.model.specs.declared.{command.Command.the-variants.Force, geometry.Geometry.Geometry, state.State.State}
 use Rattle.model.specs.AbstractLog.{Logged}
-use Rattle.model.specs.declared.geometry.Geometry.{Geometry}
-use Rattle.model.specs.declared.state.State.{State}
 use Rattle.history.proofs.Context.{Ctx}
 use Rattle.upkeep_policy.specs.Upkeep.{reserve, everWritten}
 use Rattle.upkeep_theory.proofs.Shape.{Advised, notes}

@@ -20,11 +20,8 @@ use Rattle.model.specs.State.{frameCount, notePending}
 use Rattle.model.specs.Outcome.{StoredItem, volumeAfter}
 use Rattle.model.specs.Effects.{notedState}
 use Rattle.model.specs.Calls.{outcomeOf, noPayload}
-use Rattle.model.specs.declared.command.Command.the-variants.{Note as NoteCall}
 use Rattle.model.specs.AbstractLog.{Logged}
-use Rattle.model.specs.declared.geometry.Geometry.{Geometry}
-use Rattle.model.specs.declared.item.Note.{Note}
-use Rattle.model.specs.declared.state.PendingNote.the-variants.{Present}
+use Rattle.model.specs.declared.{geometry.Geometry.Geometry, item.Note.Note, state.PendingNote.the-variants.Present}
 use Rattle.model.specs.declared.state.State.{State}
 use Rattle.history.proofs.Context.{Ctx}
 use Rattle.upkeep_policy.specs.Upkeep.{reserve, everWritten}
@@ -41,6 +38,7 @@ use Rattle.upkeep_theory.proofs.NextSums.{note-sum, note-low}
 use Rattle.upkeep_theory.proofs.StateCounts.{noted-counts}
 use Rattle.upkeep_theory.proofs.Phases.{Phase, quiet, rest, left, Leads}
 use Rattle.upkeep_theory.proofs.Done.{no-row}
+use Rattle.model.specs.declared.command.Command.the-variants.{Note as NoteCall}
 
 module _ {C : Type 0} {g : Geometry} {v m : List ℕ} {past : List StoredItem} {s : State} {k w : List Logged}
     (x : Ctx C g v m past s k w) (turns : ring g ≡ true) (n2 : 2 ≤ g .notes) (W : ℕ)

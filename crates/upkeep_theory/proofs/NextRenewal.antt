@@ -17,13 +17,11 @@ use Rattle.model.specs.Refusals.{pageDirty}
 use Rattle.model.specs.Outcome.{StoredItem}
 use Rattle.model.specs.Effects.{withFrame, withFrames, appendedState}
 use Rattle.model.specs.Calls.{Call, noPayload}
-use Rattle.model.specs.declared.command.Command.the-variants.{Load, Write, Backup, Note as NoteCall}
+use Rattle.model.specs.declared.{geometry.Geometry.Geometry, item.Note.Note, state.Frame.Frame}
+use Rattle.model.specs.declared.{state.PendingNote.the-variants.Present, state.State.State}
+use Rattle.model.specs.declared.command.Command.the-variants.{Load, Write}
+use Rattle.model.specs.declared.command.Command.the-variants.{Backup}
 use Rattle.model.specs.AbstractLog.{Logged}
-use Rattle.model.specs.declared.geometry.Geometry.{Geometry}
-use Rattle.model.specs.declared.item.Note.{Note}
-use Rattle.model.specs.declared.state.Frame.{Frame}
-use Rattle.model.specs.declared.state.PendingNote.the-variants.{Present}
-use Rattle.model.specs.declared.state.State.{State}
 use Rattle.history.proofs.Context.{Ctx, geo}
 use Rattle.upkeep_policy.specs.Upkeep.{reserve, noteAhead, logAhead, logPosition, refresh, everWritten}
 use Rattle.upkeep_theory.proofs.Shape.{Renewal, loads, backs as backing, writes as writing, puts, Advised, notes}

@@ -20,11 +20,9 @@ use Rattle.model.specs.Geometry.{noteAt, item, store, slotOf, noteSlot}
 use Rattle.model.specs.Item.{noteOf, noteBytes}
 use Rattle.model.specs.Scan.{noteRecord}
 use Rattle.model.specs.State.{noteNeeded, noteWhole, noteLike}
-use Rattle.model.specs.declared.geometry.Geometry.{Geometry}
-use Rattle.model.specs.declared.item.Note.{Note}
-use Rattle.model.specs.declared.state.PendingNote.{PendingNote}
-use Rattle.model.specs.declared.state.PendingNote.the-variants.{Absent, Present}
+use Rattle.model.specs.declared.{geometry.Geometry.Geometry, item.Note.Note, state.PendingNote.PendingNote}
 use Rattle.model.specs.declared.state.State.{State}
+use Rattle.model.specs.declared.state.PendingNote.the-variants.{Absent, Present}
 use Rattle.history.proofs.Sections.{Volume}
 use Rattle.upkeep_policy.specs.Upkeep.{noteAhead}
 use Rattle.upkeep_theory.proofs.Shift.{alike, note-same, torn-first, torn-others, note-shift, note-read-new}

@@ -20,15 +20,12 @@ use Rattle.model.specs.Refusals.{pageDirty, loadRows, changeRows, forceRows, wr
 use Rattle.model.specs.Outcome.{StoredItem, volumeAfter, decided}
 use Rattle.model.specs.Effects.{noteStored, withFrame, withFrames, appendedState, forcedState, notedState, backupDone, changeDone, forceDone, loadDone, writeDone}
 use Rattle.model.specs.Calls.{Call, outcomeOf, noPayload}
-use Rattle.model.specs.declared.command.Command.the-variants.{Load, Force, Write, Backup, Note as NoteCall}
-use Rattle.model.specs.AbstractLog.{Logged}
-use Rattle.model.specs.declared.change.Change.the-variants.{Put}
-use Rattle.model.specs.declared.geometry.Geometry.{Geometry}
-use Rattle.model.specs.declared.item.Note.{Note}
-use Rattle.model.specs.declared.state.Frame.{Frame}
-use Rattle.model.specs.declared.state.PendingNote.{PendingNote}
+use Rattle.model.specs.declared.{change.Change.the-variants.Put, geometry.Geometry.Geometry, item.Note.Note}
+use Rattle.model.specs.declared.{state.Frame.Frame, state.PendingNote.PendingNote, state.State.State}
+use Rattle.model.specs.declared.command.Command.the-variants.{Load, Force, Write}
 use Rattle.model.specs.declared.state.PendingNote.the-variants.{Absent, Present}
-use Rattle.model.specs.declared.state.State.{State}
+use Rattle.model.specs.declared.command.Command.the-variants.{Backup, Note as NoteCall}
+use Rattle.model.specs.AbstractLog.{Logged}
 use Rattle.history.proofs.Images.{sealed-size}
 use Rattle.history.proofs.Keeps.{writes, backs}
 use Rattle.history.proofs.Context.{Ctx, geo}

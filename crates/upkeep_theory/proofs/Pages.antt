@@ -20,9 +20,7 @@ use Rattle.model.specs.Scan.{logRecord, noteRecord}
 use Rattle.model.specs.State.{recordNeeded, noteNeeded, noteWhole, noteLike}
 use Rattle.model.specs.Outcome.{StoredItem}
 use Rattle.model.specs.AbstractLog.{Logged}
-use Rattle.model.specs.declared.geometry.Geometry.{Geometry}
-use Rattle.model.specs.declared.item.Note.{Note}
-use Rattle.model.specs.declared.item.LogRecord.{LogRecord}
+use Rattle.model.specs.declared.{geometry.Geometry.Geometry, item.Note.Note, item.LogRecord.LogRecord}
 use Rattle.model.specs.declared.state.State.{State}
 use Rattle.history.proofs.Logs.{at, lastOf, last-ge}
 use Rattle.history.proofs.Entries.{note}

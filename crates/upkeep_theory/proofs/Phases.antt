@@ -9,10 +9,7 @@ use Rattle.model.specs.Item.{isWritten}
 use Rattle.model.specs.State.{notePending}
 use Rattle.model.specs.Outcome.{volumeAfter}
 use Rattle.model.specs.Calls.{Call, outcomeOf}
-use Rattle.model.specs.declared.command.Command.the-variants.{Note as NoteCall}
-use Rattle.model.specs.declared.geometry.Geometry.{Geometry}
-use Rattle.model.specs.declared.item.Note.{Note}
-use Rattle.model.specs.declared.state.PendingNote.the-variants.{Present}
+use Rattle.model.specs.declared.{geometry.Geometry.Geometry, item.Note.Note, state.PendingNote.the-variants.Present}
 use Rattle.model.specs.declared.state.State.{State}
 use Rattle.upkeep_policy.specs.Upkeep.{everWritten}
 use Rattle.upkeep_theory.proofs.Shape.{notes}

@@ -18,16 +18,15 @@ use Rattle.model.specs.Item.{imageLsn}
 use Rattle.model.specs.Index.{entryOf, slotUsed}
 use Rattle.model.specs.State.{frameCount, frameBytes, frameOf, holder, held, blank, logFull, notesFull, notePending}
 use Rattle.model.specs.State.{emptyFrame}
-use Rattle.model.specs.Refusals.{pagePending, frameBlocked, pageDirty, notDurable, chainBroken, chainBelow}
+use Rattle.model.specs.Refusals.{pagePending, frameBlocked, pageDirty}
+use Rattle.laws.proofs.Conditions.{notDurable, chainBroken, chainBelow}
 use Rattle.model.specs.Outcome.{StoredItem, refusalOf}
 use Rattle.model.specs.Calls.{Call, outcomeOf, noPayload}
-use Rattle.model.specs.declared.command.Command.the-variants.{Begin, Load, Change, Force, Write, Backup, Release, Note, StartCarry, Restamp, FinishCarry}
+use Rattle.model.specs.declared.{geometry.Geometry.Geometry, state.Entry.Entry, state.Frame.Frame, state.State.State}
+use Rattle.model.specs.declared.command.Command.the-variants.{Begin, Load, Force, Write, Release, StartCarry, Restamp, FinishCarry}
+use Rattle.model.specs.declared.command.Command.the-variants.{Change, Backup, Note}
 use Rattle.model.specs.AbstractLog.{Logged}
 use Rattle.model.specs.Carry.{carries}
-use Rattle.model.specs.declared.geometry.Geometry.{Geometry}
-use Rattle.model.specs.declared.state.Entry.{Entry}
-use Rattle.model.specs.declared.state.Frame.{Frame}
-use Rattle.model.specs.declared.state.State.{State}
 use Rattle.history.proofs.Logs.{lastAt, lastOf, bodyOf, last-le}
 use Rattle.history.proofs.Leaf.{frame-lsn}
 use Rattle.history.proofs.Context.{Ctx, in-range, sized, len, few, body-size, entry-is, found-frame}

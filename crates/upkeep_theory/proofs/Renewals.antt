@@ -23,15 +23,12 @@ use Rattle.model.specs.Refusals.{pageDirty, loadRows, changeRows, writeRows, ba
 use Rattle.model.specs.Outcome.{StoredItem, Outcome, volumeAfter, decided}
 use Rattle.model.specs.Effects.{appendedState, backupDone, changeDone, loadDone, writeDone}
 use Rattle.model.specs.Calls.{outcomeOf, noPayload}
-use Rattle.model.specs.declared.command.Command.the-variants.{Load, Write, Backup, Note as NoteCall}
-use Rattle.model.specs.AbstractLog.{Logged}
-use Rattle.model.specs.declared.change.Change.the-variants.{Put}
-use Rattle.model.specs.declared.geometry.Geometry.{Geometry}
-use Rattle.model.specs.declared.item.Note.{Note}
-use Rattle.model.specs.declared.state.Entry.{Entry}
-use Rattle.model.specs.declared.state.Frame.{Frame}
+use Rattle.model.specs.declared.{change.Change.the-variants.Put, geometry.Geometry.Geometry, item.Note.Note}
+use Rattle.model.specs.declared.{state.Entry.Entry, state.Frame.Frame, state.State.State}
+use Rattle.model.specs.declared.command.Command.the-variants.{Load, Write}
 use Rattle.model.specs.declared.state.PendingNote.the-variants.{Absent, Present}
-use Rattle.model.specs.declared.state.State.{State}
+use Rattle.model.specs.declared.command.Command.the-variants.{Backup}
+use Rattle.model.specs.AbstractLog.{Logged}
 use Rattle.history.proofs.Entries.{note as note′, markAt}
 use Rattle.history.proofs.Images.{sealed-size}
 use Rattle.history.proofs.Keeps.{writes, backs}

@@ -17,13 +17,10 @@ use Rattle.model.specs.Refusals.{loadRows, changeRows}
 use Rattle.model.specs.Outcome.{StoredItem, decided}
 use Rattle.model.specs.Effects.{forcedState, appendedMemory, changeDone, loadDone}
 use Rattle.model.specs.Calls.{outcomeOf, noPayload}
-use Rattle.model.specs.declared.command.Command.the-variants.{Load, Note}
+use Rattle.model.specs.declared.{command.Command.the-variants.Load, change.Change.the-variants.Put}
+use Rattle.model.specs.declared.{geometry.Geometry.Geometry, state.PendingNote.the-variants.Absent, state.State.State}
 use Rattle.model.specs.Carry.{countOf}
 use Rattle.model.specs.AbstractLog.{Logged}
-use Rattle.model.specs.declared.change.Change.the-variants.{Put}
-use Rattle.model.specs.declared.geometry.Geometry.{Geometry}
-use Rattle.model.specs.declared.state.PendingNote.the-variants.{Absent}
-use Rattle.model.specs.declared.state.State.{State}
 use Rattle.history.proofs.Logs.{lastOf, bodyOf, last-le}
 use Rattle.history.proofs.Leaf.{frame-size}
 use Rattle.history.proofs.Memory.{pending-memory, frame-memory}

@@ -14,9 +14,7 @@ use Rattle.model.specs.Index.{entryRow}
 use Rattle.model.specs.State.{holderFrom}
 use Rattle.model.specs.Effects.{appendedState, forcedState}
 use Rattle.model.specs.Tables.{within}
-use Rattle.model.specs.declared.state.Entry.{Entry}
-use Rattle.model.specs.declared.state.Frame.{Frame}
-use Rattle.model.specs.declared.state.State.{State}
+use Rattle.model.specs.declared.{state.Entry.Entry, state.Frame.Frame, state.State.State}
 use Rattle.upkeep_policy.specs.Upkeep.{everWritten, pendingWritten}
 use Rattle.upkeep_theory.proofs.Apart.{field-set}
 use Rattle.upkeep_theory.proofs.Counting.{count-le}

@@ -16,16 +16,14 @@ use Rattle.model.specs.State.{noteNeeded, noteWhole, noteLike}
 use Rattle.model.specs.Outcome.{StoredItem}
 use Rattle.model.specs.Carry.{countOf}
 use Rattle.model.specs.AbstractLog.{Logged}
-use Rattle.model.specs.declared.geometry.Geometry.{Geometry}
-use Rattle.model.specs.declared.item.Note.{Note}
-use Rattle.model.specs.declared.state.State.{State}
-use Rattle.history.proofs.Entries.{note as note′}
+use Rattle.model.specs.declared.{geometry.Geometry.Geometry, item.Note.Note, state.State.State}
 use Rattle.history.proofs.Context.{Ctx}
 use Rattle.upkeep_theory.proofs.NotesTidy.{alike-holds}
 use Rattle.upkeep_theory.proofs.Near.{wroteIn, stands-whole}
 use Rattle.upkeep_theory.proofs.Tidy.{Tidy, sinceWritten}
 use Rattle.upkeep_theory.proofs.Step.{place2}
 use Rattle.upkeep_theory.proofs.Measure.{restOf, three-of}
+use Rattle.history.proofs.Entries.{note as note′}
 
 module _ {C : Type 0} {g : Geometry} {v m : List ℕ} {past : List StoredItem} {s : State} {k w : List Logged}
     (x : Ctx C g v m past s k w) (turns : ring g ≡ true) (n2 : 2 ≤ g .notes) (cuts : ℕ) (t : Tidy g v s cuts)

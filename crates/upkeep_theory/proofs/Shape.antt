@@ -16,8 +16,9 @@ use Rattle.model.specs.Scan.{logRecord, noteRecord}
 use Rattle.model.specs.State.{logFull, notesFull, notePending, held}
 use Rattle.model.specs.Refusals.{pageDirty, loadRows}
 use Rattle.model.specs.Calls.{Call, noPayload}
-use Rattle.model.specs.declared.command.Command.the-variants.{Load, Force, Write, Backup, Note}
 use Rattle.model.specs.declared.state.State.{State}
+use Rattle.model.specs.declared.command.Command.the-variants.{Load, Force, Write}
+use Rattle.model.specs.declared.command.Command.the-variants.{Backup, Note}
 use Rattle.upkeep_policy.specs.Upkeep.{idle, stuck, make, notePosition, logPosition, noteAhead, logAhead, reserve}
 use Rattle.upkeep_policy.specs.Upkeep.{firstNeededNote, firstNeededLog, noSlot, freeSlot, refresh, renew, upkeepOf}
 

@@ -3,10 +3,7 @@ use mathlib.Core.Path.{_≡_, refl}
 use Prim.Native.Nat.{ℕ, suc, _+_, _-_}
 use native.Mathlib.Numerals.{add-one}
 use Rattle.model.specs.Effects.{notedState, forcedState, appendedState}
-use Rattle.model.specs.declared.command.Command.the-variants.{Note as NoteCall}
-use Rattle.model.specs.declared.item.Note.{Note}
-use Rattle.model.specs.declared.state.PendingNote.the-variants.{Absent}
-use Rattle.model.specs.declared.state.State.{State}
+use Rattle.model.specs.declared.{item.Note.Note, state.PendingNote.the-variants.Absent, state.State.State}
 use Rattle.upkeep_theory.proofs.Shape.{notes}
 
 pub noted-counts : (s : State) (n : Note)

@@ -19,14 +19,13 @@ use Rattle.model.specs.Refusals.{releaseRows, noteRows}
 use Rattle.model.specs.Outcome.{StoredItem, Outcome, volumeAfter, decided}
 use Rattle.model.specs.Effects.{noteStored, appendedState, backupDone, beginDone, changeDone, forceDone, loadDone, releaseDone, writeDone}
 use Rattle.model.specs.Calls.{Call, outcomeOf}
-use Rattle.model.specs.declared.command.Command.the-variants.{Begin, Load, Change, Force, Write, Backup, Release, Note as NoteCall, StartCarry, Restamp, FinishCarry}
+use Rattle.model.specs.declared.{geometry.Geometry.Geometry, item.Note.Note, state.PendingNote.PendingNote}
+use Rattle.model.specs.declared.state.State.{State}
+use Rattle.model.specs.declared.command.Command.the-variants.{Begin, Load, Force, Write, Release, StartCarry, Restamp, FinishCarry}
+use Rattle.model.specs.declared.state.PendingNote.the-variants.{Absent, Present}
+use Rattle.model.specs.declared.command.Command.the-variants.{Change, Backup, Note as NoteCall}
 use Rattle.model.specs.Carry.{carries}
 use Rattle.model.specs.AbstractLog.{Logged}
-use Rattle.model.specs.declared.geometry.Geometry.{Geometry}
-use Rattle.model.specs.declared.item.Note.{Note}
-use Rattle.model.specs.declared.state.PendingNote.{PendingNote}
-use Rattle.model.specs.declared.state.PendingNote.the-variants.{Absent, Present}
-use Rattle.model.specs.declared.state.State.{State}
 use Rattle.history.proofs.Images.{sealed-size}
 use Rattle.history.proofs.Keeps.{writes, backs}
 use Rattle.history.proofs.Context.{Ctx, geo}

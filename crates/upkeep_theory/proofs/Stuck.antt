@@ -21,13 +21,11 @@ use Rattle.model.specs.State.{recordNeeded}
 use Rattle.model.specs.Refusals.{pageDirty, loadRows}
 use Rattle.model.specs.Outcome.{StoredItem, refusalOf}
 use Rattle.model.specs.Calls.{Call, loadOf, noPayload}
-use Rattle.model.specs.declared.command.Command.the-variants.{Load, Force, Write, Backup, Note as NoteCall}
+use Rattle.model.specs.declared.{geometry.Geometry.Geometry, item.Note.Note, state.Entry.Entry, state.State.State}
+use Rattle.model.specs.declared.command.Command.the-variants.{Load, Force, Write}
+use Rattle.model.specs.declared.command.Command.the-variants.{Backup, Note as NoteCall}
 use Rattle.model.specs.AbstractLog.{Logged}
 use Rattle.model.specs.Carry.{countOf}
-use Rattle.model.specs.declared.geometry.Geometry.{Geometry}
-use Rattle.model.specs.declared.item.Note.{Note}
-use Rattle.model.specs.declared.state.Entry.{Entry}
-use Rattle.model.specs.declared.state.State.{State}
 use Rattle.history.proofs.Entries.{note as note′, markAt}
 use Rattle.history.proofs.Context.{Ctx, sized, geo, entry-is}
 use Rattle.history.proofs.Refusals.{call-refusal}

@@ -21,13 +21,12 @@ use Rattle.model.specs.State.{frameBytes, holder}
 use Rattle.model.specs.Refusals.{changeRows}
 use Rattle.model.specs.Outcome.{StoredItem}
 use Rattle.model.specs.Calls.{Call, noPayload}
-use Rattle.model.specs.declared.command.Command.the-variants.{Load, Force, Write, Backup, Note}
+use Rattle.model.specs.declared.{change.Change.the-variants.Put, geometry.Geometry.Geometry, state.State.State}
+use Rattle.model.specs.declared.command.Command.the-variants.{Load, Force, Write}
+use Rattle.model.specs.declared.command.Command.the-variants.{Backup, Note}
 use Rattle.model.specs.AbstractLog.{Logged, AbstractLog, loggedChange, moveFirst, stepCall}
 use Rattle.model.specs.History.{on, Machine, Event, perform, step, run, logAfter, stepLog, refusedIn}
 use Rattle.model.specs.Claim.{History, fresh, reached, logOf}
-use Rattle.model.specs.declared.change.Change.the-variants.{Put}
-use Rattle.model.specs.declared.geometry.Geometry.{Geometry}
-use Rattle.model.specs.declared.state.State.{State}
 use Rattle.history.proofs.Logs.{lastOf, bodyOf, number-hit, number-miss, body-hit, body-miss, replay-is, last-is}
 use Rattle.history.proofs.Context.{Ctx, passed, in-range, body-size, Found, found-frame}
 use Rattle.history.proofs.Reached.{live}

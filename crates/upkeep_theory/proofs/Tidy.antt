@@ -13,10 +13,8 @@ use Rattle.model.specs.Scan.{noteRecord}
 use Rattle.model.specs.State.{noteNeeded, notePending, held}
 use Rattle.model.specs.Refusals.{pageDirty}
 use Rattle.model.specs.Carry.{countOf}
-use Rattle.model.specs.declared.geometry.Geometry.{Geometry}
+use Rattle.model.specs.declared.{geometry.Geometry.Geometry, item.Note.Note, state.State.State}
 use Rattle.model.specs.declared.state.PendingNote.the-variants.{Absent, Present}
-use Rattle.model.specs.declared.item.Note.{Note}
-use Rattle.model.specs.declared.state.State.{State}
 use Rattle.upkeep_policy.specs.Upkeep.{reserve, noteAhead, logAhead}
 use Rattle.upkeep_theory.proofs.NotesTidy.{NotesTidy, idle-tidy, no-present}
 use Rattle.upkeep_theory.proofs.LogTidy.{Place0, LogTidy, log-idle}

@@ -17,11 +17,9 @@ use Rattle.model.specs.Index.{entryOf}
 use Rattle.model.specs.Scan.{noteRecord}
 use Rattle.model.specs.State.{notePending}
 use Rattle.model.specs.Carry.{countOf}
-use Rattle.model.specs.declared.geometry.Geometry.{Geometry}
-use Rattle.model.specs.declared.item.Note.{Note}
-use Rattle.model.specs.declared.state.PendingNote.{PendingNote}
-use Rattle.model.specs.declared.state.PendingNote.the-variants.{Absent, Present}
+use Rattle.model.specs.declared.{geometry.Geometry.Geometry, item.Note.Note, state.PendingNote.PendingNote}
 use Rattle.model.specs.declared.state.State.{State}
+use Rattle.model.specs.declared.state.PendingNote.the-variants.{Absent, Present}
 use Rattle.history.proofs.Sections.{Volume}
 use Rattle.upkeep_theory.proofs.Shift.{note-same, MoreMarks, log-notes, note-logs, note-read-new, note-read-old}
 use Rattle.upkeep_theory.proofs.NotesTidy.{NotesTidy, alike-parts, tidy-lost, tidy-same, tidy-torn, tidy-note}

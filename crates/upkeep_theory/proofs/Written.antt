@@ -12,14 +12,10 @@ use Rattle.laws.proofs.Tables.{byCases, or-left, or-right}
 use Rattle.model.specs.Item.{isWritten}
 use Rattle.model.specs.Index.{entryRow}
 use Rattle.model.specs.Outcome.{StoredItem}
-use Rattle.model.specs.declared.command.Command.the-variants.{Note as NoteCall}
 use Rattle.model.specs.Carry.{countOf}
 use Rattle.model.specs.AbstractLog.{Logged}
-use Rattle.model.specs.declared.geometry.Geometry.{Geometry}
-use Rattle.model.specs.declared.item.Note.{Note}
-use Rattle.model.specs.declared.state.Entry.{Entry}
-use Rattle.model.specs.declared.state.PendingNote.the-variants.{Present}
-use Rattle.model.specs.declared.state.State.{State}
+use Rattle.model.specs.declared.{geometry.Geometry.Geometry, item.Note.Note, state.Entry.Entry}
+use Rattle.model.specs.declared.{state.PendingNote.the-variants.Present, state.State.State}
 use Rattle.history.proofs.Entries.{markAt, Mark, mark-hit, mark-miss, mark-append, noteN, lenN}
 use Rattle.history.proofs.Context.{Ctx}
 use Rattle.upkeep_policy.specs.Upkeep.{everWritten, pendingWritten}

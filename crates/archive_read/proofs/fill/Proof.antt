@@ -5,10 +5,6 @@ use Rattle.archive_read.proofs.Outcomes.{none-area, none-archive, refus
 use borrow.Author.Needs.{needs}
 use Rattle.archive_read.proofs.fill.Statement.{statement}
 use Rattle.archive_read.proofs.fill.Tie as tie
-use Rattle.archive_read.proofs.fill.Reads as reads
-use Rattle.archive_read.proofs.fill.Lts as lts
-use Rattle.archive_read.proofs.refusal.Reads as refusal-reads
-use Rattle.archive_read.proofs.whole.rebuild.Reads as rebuild-reads
 
 -- no row holds
 zero : (c : tie.Else1) → c .before .refusal .result ≡ 0

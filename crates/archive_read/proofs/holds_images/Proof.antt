@@ -3,8 +3,6 @@ use mathlib.Core.Path.{refl}
 use borrow.Author.Needs.{needs}
 use Rattle.archive_read.proofs.holds_images.Statement.{statement}
 use Rattle.archive_read.proofs.holds_images.Tie as tie
-use Rattle.archive_read.proofs.holds_images.Reads as reads
-use Rattle.archive_read.proofs.holds_images.Lts as lts
 
 mul-result : tie.Need-mul-result
 mul-result c = search needs

@@ -5,10 +5,6 @@ use lib.ListN.{length}
 use Rattle.archive_read.proofs.Cuts.{Counted, counted-none, counted-stops, counted-fits, counted-on, counted-all}
 use Rattle.archive_read.proofs.pages.Statement.{statement}
 use Rattle.archive_read.proofs.pages.Tie as tie
-use Rattle.archive_read.proofs.pages.Reads as reads
-use Rattle.archive_read.proofs.pages.Lts as lts
-use Rattle.archive_read.proofs.cut.fits.Reads as fits-reads
-use Rattle.archive_read.proofs.cut.past.Reads as past-reads
 
 abbrev Inv-loop : tie.InvT-loop
 Inv-loop archive at₀ k₀ at k = Counted archive at k

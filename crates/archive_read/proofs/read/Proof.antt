@@ -4,9 +4,6 @@ use Rattle.archive_read.proofs.Outcomes.{refused-answer, done-answer}
 use borrow.Author.Needs.{needs}
 use Rattle.archive_read.proofs.read.Statement.{statement}
 use Rattle.archive_read.proofs.read.Tie as tie
-use Rattle.archive_read.proofs.read.Reads as reads
-use Rattle.archive_read.proofs.read.Lts as lts
-use Rattle.archive_read.proofs.fill.Reads as fill-reads
 
 fill-requires : tie.Need-fill-requires
 fill-requires c κs = search needs

@@ -4,9 +4,6 @@ use Rattle.archive_read.proofs.Outcomes.{number-is}
 use borrow.Author.Needs.{needs}
 use Rattle.archive_read.proofs.read_number.Statement.{statement}
 use Rattle.archive_read.proofs.read_number.Tie as tie
-use Rattle.archive_read.proofs.read_number.Reads as reads
-use Rattle.archive_read.proofs.read_number.Lts as lts
-use Rattle.archive_read.proofs.fill.Reads as fill-reads
 
 fill-requires : tie.Need-fill-requires
 fill-requires c κs = search needs

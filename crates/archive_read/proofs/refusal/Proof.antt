@@ -7,10 +7,6 @@ use Rattle.archive_read.proofs.Outcomes.{area-images, row-area, row-arc
 use borrow.Author.Needs.{needs}
 use Rattle.archive_read.proofs.refusal.Statement.{statement}
 use Rattle.archive_read.proofs.refusal.Tie as tie
-use Rattle.archive_read.proofs.refusal.Reads as reads
-use Rattle.archive_read.proofs.refusal.Lts as lts
-use Rattle.archive_read.proofs.holds_images.Reads as holds-images-reads
-use Rattle.archive_read.proofs.whole.valid.Reads as valid-reads
 
 -- the area has room for images
 images : (c : tie.Else1) → validArea (c .before .before .before .args .size) ≡ true

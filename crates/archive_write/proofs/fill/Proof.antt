@@ -8,12 +8,6 @@ use borrow.Author.Needs.{needs}
 use Rattle.archive_write.proofs.Outcomes.{write-refused, write-ready, write-done}
 use Rattle.archive_write.proofs.fill.Statement.{statement}
 use Rattle.archive_write.proofs.fill.Tie as tie
-use Rattle.archive_write.proofs.fill.Reads as reads
-use Rattle.archive_write.proofs.fill.Lts as lts
-use Rattle.archive_write.proofs.measure.Reads as measure-reads
-use Rattle.archive_write.proofs.section.sections.Reads as sections-reads
-use Rattle.volume.proofs.heading.geometry.Reads as geometry-reads
-use Rattle.volume.proofs.rows.first.Reads as first-reads
 
 -- the call's number, of what was measured
 number : (c : tie.After-first2)

@@ -7,11 +7,6 @@ use Rattle.archive_write.proofs.Outcomes.{refusal-is, Known, known, ext
 use Rattle.archive_write.specs.Extent.{wholeRefusal}
 use Rattle.archive_write.proofs.measure.Statement.{statement}
 use Rattle.archive_write.proofs.measure.Tie as tie
-use Rattle.archive_write.proofs.measure.Reads as reads
-use Rattle.archive_write.proofs.measure.Lts as lts
-use Rattle.archive_write.proofs.refusal.Reads as refusal-reads
-use Rattle.index.proofs.count.Reads as count-reads
-use Rattle.volume.proofs.heading.geometry.Reads as geometry-reads
 
 -- the refusal's number is the table's
 number : (c : tie.After-refusal) → c .refusal .result ≡ wholeRefusal (now (c .before .before .before .before .args .volume))

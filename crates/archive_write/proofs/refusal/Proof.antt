@@ -1,5 +1,5 @@
 -- `archive_write::refusal` tests in the table's order.
-use mathlib.Core.Path.{_≡_, _∙_}
+use mathlib.Core.Path.{_∙_}
 use borrow.Author.Needs.{needs}
 use Rattle.archive_write.proofs.refusal.Statement.{statement}
 use Rattle.archive_write.proofs.refusal.Tie as tie

@@ -4,9 +4,6 @@ use borrow.Author.Needs.{needs}
 use Rattle.archive_write.proofs.Outcomes.{answer-refused, answer-done}
 use Rattle.archive_write.proofs.write.Statement.{statement}
 use Rattle.archive_write.proofs.write.Tie as tie
-use Rattle.archive_write.proofs.write.Reads as reads
-use Rattle.archive_write.proofs.write.Lts as lts
-use Rattle.archive_write.proofs.fill.Reads as fill-reads
 
 fill-requires : tie.Need-fill-requires
 fill-requires c κs = search needs

@@ -1,5 +1,5 @@
 -- `bench_calls::measure_restart` meets its contract.
-use mathlib.Core.Path.{_≡_, ap}
+use mathlib.Core.Path.{ap}
 use Rattle.bench_calls.specs.Cycles.{Run}
 use Rattle.bench_calls.proofs.Runs.{restart-is}
 use borrow.Author.Needs.{needs}

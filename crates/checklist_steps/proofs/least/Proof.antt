@@ -3,8 +3,6 @@ use native.Mathlib.Omega.{arith}
 use Rattle.checklist_steps.proofs.Damage.{lower-first, lower-second}
 use Rattle.checklist_steps.proofs.least.Statement.{statement}
 use Rattle.checklist_steps.proofs.least.Tie as tie
-use Rattle.checklist_steps.proofs.least.Reads as reads
-use Rattle.checklist_steps.proofs.least.Lts as lts
 
 returns : tie.Need-returns
 returns c = let t = c .if1 .taken in (lower-first _ _ t, omega arith, omega (arith, t))

@@ -3,8 +3,6 @@ use Rattle.compare.proofs.Outcomes.{agree, first-lacks, second-lacks, d
 use borrow.Author.Needs.{needs}
 use Rattle.compare.proofs.answer.Statement.{statement}
 use Rattle.compare.proofs.answer.Tie as tie
-use Rattle.compare.proofs.answer.Reads as reads
-use Rattle.compare.proofs.answer.Lts as lts
 
 -- src/lib.rt:53:13
 returns : tie.Need-returns

@@ -1,15 +1,10 @@
 -- `compare::compare` is its definition: an unknown heading is row 1, all else is `judged`.
-use Prim.Native.Nat.{ℕ}
 use native.Mathlib.Omega.{arith}
 use denote.Ref.{now}
 use Rattle.compare.proofs.Outcomes.{unknown, refused}
 use borrow.Author.Needs.{needs}
 use Rattle.compare.proofs.compare.Statement.{statement}
 use Rattle.compare.proofs.compare.Tie as tie
-use Rattle.compare.proofs.compare.Reads as reads
-use Rattle.compare.proofs.compare.Lts as lts
-use Rattle.compare.proofs.judged.Reads as judged-reads
-use Rattle.volume.proofs.heading.known.Reads as known-reads
 
 -- src/lib.rt:97:9
 known-requires : tie.Need-known-requires

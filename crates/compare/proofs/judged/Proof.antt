@@ -1,7 +1,7 @@
 -- `judged` is the definition of the comparison: the laws of Outcomes.antt say what each case is.
-use mathlib.Core.Path.{_≡_, sym, ap, _∙_}
+use mathlib.Core.Path.{_≡_, sym, _∙_}
 use mathlib.Core.Bool.{Bool, false}
-use lib.ListN.{length, length-replicate}
+use lib.ListN.{length-replicate}
 use denote.Ref.{now}
 use Rattle.model.specs.Tables.{firstOf}
 use Rattle.reports.specs.Mirror.{mirrorRows}
@@ -10,15 +10,6 @@ use Rattle.compare.proofs.Outcomes.{refusal-is, Open, opened, few, done
 use borrow.Author.Needs.{needs}
 use Rattle.compare.proofs.judged.Statement.{statement}
 use Rattle.compare.proofs.judged.Tie as tie
-use Rattle.compare.proofs.judged.Reads as reads
-use Rattle.compare.proofs.judged.Lts as lts
-use Rattle.compare.proofs.answer.Reads as answer-reads
-use Rattle.compare.proofs.changes.common.Reads as common-reads
-use Rattle.compare.proofs.pages.mark_behind.Reads as mark-behind-reads
-use Rattle.compare.proofs.refusal.Reads as refusal-reads
-use Rattle.compare.proofs.smaller.Reads as smaller-reads
-use Rattle.index.proofs.count.Reads as count-reads
-use Rattle.volume.proofs.heading.geometry.Reads as geometry-reads
 
 -- the refusal's number is that of the table
 number : (c : tie.After-refusal)

@@ -7,10 +7,6 @@ use Rattle.compare.proofs.Outcomes.{chained}
 use borrow.Author.Needs.{needs}
 use Rattle.compare.proofs.refusal.Statement.{statement}
 use Rattle.compare.proofs.refusal.Tie as tie
-use Rattle.compare.proofs.refusal.Reads as reads
-use Rattle.compare.proofs.refusal.Lts as lts
-use Rattle.index.proofs.gone.Reads as gone-reads
-use Rattle.volume.proofs.rows.first.Reads as first-reads
 
 -- src/lib.rt:33:28
 gone-requires : tie.Need-gone-requires

@@ -4,8 +4,6 @@ use borrow.Author.Tests.{le-leb, lt-leb}
 use Rattle.laws.proofs.Tables.{when-true, when-false}
 use Rattle.compare.proofs.smaller.Statement.{statement}
 use Rattle.compare.proofs.smaller.Tie as tie
-use Rattle.compare.proofs.smaller.Reads as reads
-use Rattle.compare.proofs.smaller.Lts as lts
 
 -- src/lib.rt:40:1
 returns : tie.Need-returns

@@ -1,13 +1,8 @@
 -- `forecast::figure` meets its contract.
 use mathlib.Core.Path.{sym, _∙_}
-use mathlib.Core.Bool.{true, false}
 use borrow.Author.Needs.{needs}
-use Rattle.model.specs.Repair.{isBelow}
 use Rattle.forecast.proofs.figure.Statement.{statement}
 use Rattle.forecast.proofs.figure.Tie as tie
-use Rattle.forecast.proofs.figure.Reads as reads
-use Rattle.forecast.proofs.figure.Lts as lts
-use Rattle.repair.proofs.walk.below.Reads as below-reads
 
 below-requires : tie.Need-below-requires
 below-requires c κs = search needs

@@ -1,23 +1,18 @@
 -- `forecast::rows` meets its contract: the loop fills the table row by row.
-use Prim.Native.Nat.{ℕ, suc, _+_, _-_, _≤_}
-use mathlib.Core.Path.{_≡_, sym, ap, _∙_, subst}
+use Prim.Native.Nat.{ℕ, suc, _-_, _≤_}
+use mathlib.Core.Path.{_≡_, ap, _∙_}
 use mathlib.Core.Bool.{cond}
 use native.Mathlib.Omega.{arith}
 use lib.Dec.{ltb}
 use borrow.Author.Needs.{needs}
 use denote.Ref.{now}
-use Rattle.model.specs.Index.{entryRow, entryOf}
-use Rattle.model.specs.Repair.{viewOf, walkOf}
 use Rattle.model.specs.Tables.{tabulate}
-use Rattle.reports.specs.Forecast.{counted, figureOf}
-use Rattle.repair.specs.Walked.{Ready}
+use Rattle.reports.specs.Forecast.{counted}
 use Rattle.forecast.specs.Figures.{figureFor}
 use Rattle.forecast.proofs.Fills.{Filling, none-filled, one-filled, all-filled}
 use Rattle.forecast.proofs.Outcomes.{few, page-ready, page-whole, page-figured}
 use Rattle.forecast.proofs.rows.Statement.{statement}
 use Rattle.forecast.proofs.rows.Tie as tie
-use Rattle.forecast.proofs.rows.Reads as reads
-use Rattle.forecast.proofs.rows.Lts as lts
 
 abbrev Inv-loop : tie.InvT-loop
 Inv-loop volume g first index pages₀ count i₀ pages i =

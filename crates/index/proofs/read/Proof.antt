@@ -6,12 +6,6 @@ use Rattle.volume.proofs.Readings.{unknown-read}
 use Rattle.index.proofs.Whole.{volume-refused, refuses}
 use Rattle.index.proofs.read.Statement.{statement}
 use Rattle.index.proofs.read.Tie as tie
-use Rattle.index.proofs.read.Reads as reads
-use Rattle.index.proofs.read.Lts as lts
-use Rattle.index.proofs.fill.Reads as fill-reads
-use Rattle.index.proofs.refused.Reads as refused-reads
-use Rattle.volume.proofs.heading.geometry.Reads as geometry-reads
-use Rattle.volume.proofs.heading.known.Reads as known-reads
 
 known-requires : tie.Need-known-requires
 known-requires c κs = search needs

@@ -1,6 +1,5 @@
 -- `inspect::inspect` is its definition: the laws of Outcomes.antt say what each case is.
-use mathlib.Core.Path.{_≡_, refl, sym, _∙_}
-use native.Mathlib.Omega.{arith}
+use mathlib.Core.Path.{_≡_, sym, _∙_}
 use borrow.Author.Needs.{needs}
 use borrow.Author.Tests.{not-true, not-false}
 use denote.Ref.{now}
@@ -9,7 +8,6 @@ use Rattle.repair.proofs.Replays.{answered}
 use Rattle.inspect.proofs.Outcomes.{invalid, early, refusal-is, refused, Open, opened, below, done}
 use Rattle.inspect.proofs.inspect.Statement.{statement}
 use Rattle.inspect.proofs.inspect.Tie as tie
-use Rattle.item.proofs.image.seal.Reads as seal-reads
 
 -- the refusal's number is that of the rows before the walk
 number : (c : tie.After-refusal) → let s = c .before .before .before .before .before .before .before .before in

@@ -3,11 +3,6 @@ use Rattle.load.proofs.Rows.{tail-is}
 use borrow.Author.Needs.{needs}
 use Rattle.load.proofs.walk_refusal.Statement.{statement}
 use Rattle.load.proofs.walk_refusal.Tie as tie
-use Rattle.load.proofs.walk_refusal.Reads as reads
-use Rattle.load.proofs.walk_refusal.Lts as lts
-use Rattle.repair.proofs.walk.below.Reads as below-reads
-use Rattle.repair.proofs.walk.broken.Reads as broken-reads
-use Rattle.volume.proofs.rows.first.Reads as first-reads
 
 broken-requires : tie.Need-broken-requires
 broken-requires c κs = search needs

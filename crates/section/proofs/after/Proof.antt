@@ -1,12 +1,8 @@
 -- `section::after` meets its contract.
-use mathlib.Core.Path.{sym}
-use native.Mathlib.Omega.{arith}
 use borrow.Author.Needs.{needs}
 use Rattle.section.proofs.SectionLaws.{after-last, after-other}
 use Rattle.section.proofs.after.Statement.{statement}
 use Rattle.section.proofs.after.Tie as tie
-use Rattle.section.proofs.after.Reads as reads
-use Rattle.section.proofs.after.Lts as lts
 
 add-next : tie.Need-add-next
 add-next c = search needs

@@ -4,9 +4,6 @@ use denote.Ref.{now}
 use Rattle.section.proofs.SectionLaws.{count-ring, count-run, front-slots, front-top, front-most}
 use Rattle.section.proofs.count.Statement.{statement}
 use Rattle.section.proofs.count.Tie as tie
-use Rattle.section.proofs.count.Reads as reads
-use Rattle.section.proofs.count.Lts as lts
-use Rattle.section.proofs.highest.Reads as highest-reads
 
 cast-highest : tie.Need-cast-highest
 cast-highest c = search needs

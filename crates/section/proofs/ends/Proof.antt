@@ -4,10 +4,6 @@ use Rattle.section.proofs.SectionLaws.{ends-past, ends-here}
 use borrow.Author.Needs.{needs}
 use Rattle.section.proofs.ends.Statement.{statement}
 use Rattle.section.proofs.ends.Tie as tie
-use Rattle.section.proofs.ends.Reads as reads
-use Rattle.section.proofs.ends.Lts as lts
-use Rattle.section.proofs.rest.Reads as rest-reads
-use Rattle.section.proofs.next.Reads as next-reads
 
 returns : tie.Need-returns
 returns c = ends-past _ _ _ _ (c .if1 .taken)

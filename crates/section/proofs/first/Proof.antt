@@ -4,10 +4,6 @@ use Rattle.section.proofs.SectionLaws.{first-one, first-whole, first-to
 use borrow.Author.Needs.{needs}
 use Rattle.section.proofs.first.Statement.{statement}
 use Rattle.section.proofs.first.Tie as tie
-use Rattle.section.proofs.first.Reads as reads
-use Rattle.section.proofs.first.Lts as lts
-use Rattle.section.proofs.above.Reads as above-reads
-use Rattle.section.proofs.next.Reads as next-reads
 
 returns : tie.Need-returns
 returns c = first-one _ _ _ (not-true _ (c .if1 .taken))

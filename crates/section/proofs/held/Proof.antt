@@ -6,11 +6,6 @@ use Rattle.section.specs.declared.Front.{Front}
 use Rattle.section.proofs.SectionLaws.{held-is, front-low}
 use Rattle.section.proofs.held.Statement.{statement}
 use Rattle.section.proofs.held.Tie as tie
-use Rattle.section.proofs.held.Reads as reads
-use Rattle.section.proofs.held.Lts as lts
-use Rattle.section.proofs.count.Reads as count-reads
-use Rattle.section.proofs.first.Reads as first-reads
-use Rattle.section.proofs.sealed.Reads as sealed-reads
 
 cast-sealed : tie.Need-cast-sealed
 cast-sealed c = search needs

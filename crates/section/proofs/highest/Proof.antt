@@ -1,6 +1,6 @@
 -- `section::highest` meets its contract. The loop keeps: the highest number of the slots passed.
-use mathlib.Core.Path.{_≡_, refl, sym, ap, _∙_}
-use Prim.Native.Nat.{ℕ, _+_, _*_, _-_, _≤_, _<_}
+use mathlib.Core.Path.{_≡_, refl, ap, _∙_}
+use Prim.Native.Nat.{ℕ, _+_, _*_, _-_, _≤_}
 use mathlib.Core.Bool.{cond}
 use mathlib.Core.List.{List}
 use native.Mathlib.Omega.{arith}
@@ -8,16 +8,12 @@ use borrow.Author.Needs.{needs}
 use lib.ListN.{length}
 use denote.Ref.{now}
 use Rattle.laws.proofs.Parts.{part-lent}
-use Rattle.model.specs.Bytes.{le, field, part}
+use Rattle.model.specs.Bytes.{field}
 use Rattle.model.specs.Checksum.{sealed}
 use Rattle.section.specs.Section.{highestAt}
 use Rattle.section.proofs.SectionLaws.{front-in, front-room, one-more, step-on, turn}
 use Rattle.section.proofs.highest.Statement.{statement}
 use Rattle.section.proofs.highest.Tie as tie
-use Rattle.section.proofs.highest.Reads as reads
-use Rattle.section.proofs.highest.Lts as lts
-use Rattle.section.proofs.larger.Reads as larger-reads
-use Rattle.section.proofs.number.Reads as number-reads
 
 abbrev Inv-loop : tie.InvT-loop
 Inv-loop v at n most front below k₀ from₀ top₀ k from top =

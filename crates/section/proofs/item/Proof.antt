@@ -8,8 +8,6 @@ use Rattle.laws.proofs.Parts.{part-lent}
 use Rattle.section.proofs.SectionLaws.{seat-room}
 use Rattle.section.proofs.item.Statement.{statement}
 use Rattle.section.proofs.item.Tie as tie
-use Rattle.section.proofs.item.Reads as reads
-use Rattle.section.proofs.item.Lts as lts
 
 -- the slot is in the section
 seat : (c : tie.After-struct-known) → let a = c .before .args in

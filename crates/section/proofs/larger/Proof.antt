@@ -2,8 +2,6 @@
 use Rattle.section.proofs.SectionLaws.{pick-right, pick-left}
 use Rattle.section.proofs.larger.Statement.{statement}
 use Rattle.section.proofs.larger.Tie as tie
-use Rattle.section.proofs.larger.Reads as reads
-use Rattle.section.proofs.larger.Lts as lts
 
 returns : tie.Need-returns
 returns c = pick-right _ _ (c .if1 .taken)

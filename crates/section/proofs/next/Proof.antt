@@ -10,11 +10,6 @@ use Rattle.section.specs.Section.{slotBytes}
 use Rattle.section.proofs.SectionLaws.{none-whole}
 use Rattle.section.proofs.next.Statement.{statement}
 use Rattle.section.proofs.next.Tie as tie
-use Rattle.section.proofs.next.Reads as reads
-use Rattle.section.proofs.next.Lts as lts
-use Rattle.section.proofs.item.Reads as item-reads
-use Rattle.section.proofs.whole.Reads as whole-reads
-use Rattle.volume.proofs.ring.turned.Reads as turned-reads
 
 returns : tie.Need-returns
 returns c = none-whole _ _ _ _ (c .before .before .before .pre .0 .none (c .if1 .taken))

@@ -4,10 +4,6 @@ use mathlib.Core.Path.{sym, _∙_}
 use Rattle.laws.proofs.Tables.{when-true, when-false}
 use Rattle.section.proofs.number.Statement.{statement}
 use Rattle.section.proofs.number.Tie as tie
-use Rattle.section.proofs.number.Reads as reads
-use Rattle.section.proofs.number.Lts as lts
-use Rattle.sums.proofs.checksum.holds.Reads as holds-reads
-use Rattle.codec.proofs.field.u32_at.Reads as u32-at-reads
 
 holds-requires : tie.Need-holds-requires
 holds-requires c κs = search needs

@@ -9,17 +9,12 @@ use borrow.Author.Tests.{not-true, not-false}
 use denote.Ref.{now}
 use Rattle.laws.proofs.Parts.{part-lent}
 use Rattle.laws.proofs.Tables.{when-true}
-use Rattle.model.specs.Bytes.{le, field, part}
+use Rattle.model.specs.Bytes.{field, part}
 use Rattle.model.specs.Checksum.{sealed}
 use Rattle.section.specs.Section.{highestAt}
 use Rattle.section.proofs.SectionLaws.{Whole, whole-none, whole-room, whole-all, whole-stops, whole-on, none, one-more, step-on, front-is}
 use Rattle.section.proofs.sealed.Statement.{statement}
 use Rattle.section.proofs.sealed.Tie as tie
-use Rattle.section.proofs.sealed.Reads as reads
-use Rattle.section.proofs.sealed.Lts as lts
-use Rattle.sums.proofs.checksum.holds.Reads as holds-reads
-use Rattle.codec.proofs.field.u32_at.Reads as u32-at-reads
-use Rattle.section.proofs.larger.Reads as larger-reads
 
 abbrev Inv-loop : tie.InvT-loop
 Inv-loop v at n most k₀ from₀ top₀ k from top = Whole n v at most k from × (from ≡ at + (n + 4) * k) × (top ≡ highestAt n v at k)

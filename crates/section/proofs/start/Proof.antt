@@ -6,8 +6,6 @@ use native.Mathlib.Omega.{arith}
 use borrow.Author.Needs.{needs}
 use Rattle.section.proofs.start.Statement.{statement}
 use Rattle.section.proofs.start.Tie as tie
-use Rattle.section.proofs.start.Reads as reads
-use Rattle.section.proofs.start.Lts as lts
 
 returns : tie.Need-returns
 returns c = λ h. absurd (omega (arith, c .if1 .taken))

@@ -3,9 +3,6 @@ use borrow.Author.Needs.{needs}
 use mathlib.Core.Path.{sym}
 use Rattle.section.proofs.whole.Statement.{statement}
 use Rattle.section.proofs.whole.Tie as tie
-use Rattle.section.proofs.whole.Reads as reads
-use Rattle.section.proofs.whole.Lts as lts
-use Rattle.sums.proofs.checksum.holds.Reads as holds-reads
 
 returns : tie.Need-returns
 returns c = sym (c .before .before .pre (c .if1 .taken))

@@ -4,11 +4,6 @@ use Rattle.upkeep.proofs.Advice.{refusal-is}
 use borrow.Author.Needs.{needs}
 use Rattle.upkeep.proofs.refusal.Statement.{statement}
 use Rattle.upkeep.proofs.refusal.Tie as tie
-use Rattle.upkeep.proofs.refusal.Reads as reads
-use Rattle.upkeep.proofs.refusal.Lts as lts
-use Rattle.state.proofs.refusal.refusal.Reads as refusal-reads
-use Rattle.volume.proofs.memory.frames.Reads as frames-reads
-use Rattle.volume.proofs.rows.first.Reads as first-reads
 
 -- src/lib.rt:27:9
 refusal-requires : tie.Need-refusal-requires

@@ -6,9 +6,6 @@ use borrow.Author.Needs.{needs}
 use denote.Ref.{now}
 use Rattle.archive_read.proofs.cut.fits.Statement.{statement}
 use Rattle.archive_read.proofs.cut.fits.Tie as tie
-use Rattle.archive_read.proofs.cut.fits.Reads as reads
-use Rattle.archive_read.proofs.cut.fits.Lts as lts
-use Rattle.codec.proofs.field.u32_at.Reads as u32-at-reads
 
 sub-left : tie.Need-sub-left
 sub-left c = search needs

@@ -3,11 +3,6 @@ use Rattle.archive_read.proofs.Records.{follows-is}
 use borrow.Author.Needs.{needs}
 use Rattle.archive_read.proofs.section.follows.Statement.{statement}
 use Rattle.archive_read.proofs.section.follows.Tie as tie
-use Rattle.archive_read.proofs.section.follows.Reads as reads
-use Rattle.archive_read.proofs.section.follows.Lts as lts
-use Rattle.sums.proofs.checksum.holds.Reads as holds-reads
-use Rattle.item.proofs.record.layout.Reads as layout-reads
-use Rattle.item.proofs.record.read.Reads as read-reads
 
 read-requires : tie.Need-read-requires
 read-requires c κs = search needs

@@ -8,12 +8,6 @@ use Rattle.archive_read.proofs.Images.{judged-front, image-blank, image
 use borrow.Author.Needs.{needs}
 use Rattle.archive_read.proofs.section.rebuild.Statement.{statement}
 use Rattle.archive_read.proofs.section.rebuild.Tie as tie
-use Rattle.archive_read.proofs.section.rebuild.Reads as reads
-use Rattle.archive_read.proofs.section.rebuild.Lts as lts
-use Rattle.codec.proofs.field.u32_at.Reads as u32-at-reads
-use Rattle.codec.proofs.part.fill.Reads as fill-reads
-use Rattle.archive_read.proofs.section.replay.Reads as replay-reads
-use Rattle.item.proofs.image.build.Reads as build-reads
 
 fill-requires : tie.Need-fill-requires
 fill-requires c κs = search needs

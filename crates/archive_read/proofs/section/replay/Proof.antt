@@ -8,11 +8,6 @@ use Rattle.archive_read.proofs.Records.{part-long}
 use Rattle.archive_read.proofs.Images.{Replaying, replaying-all, replaying-room, replaying-layout, replaying-on, replaying-end}
 use Rattle.archive_read.proofs.section.replay.Statement.{statement}
 use Rattle.archive_read.proofs.section.replay.Tie as tie
-use Rattle.archive_read.proofs.section.replay.Reads as reads
-use Rattle.archive_read.proofs.section.replay.Lts as lts
-use Rattle.codec.proofs.field.u32_at.Reads as u32-at-reads
-use Rattle.item.proofs.record.replay.Reads as replay-reads
-use Rattle.volume.proofs.place.part.Reads as part-reads
 
 abbrev Inv-loop : tie.InvT-loop
 Inv-loop archive at count body₀ left₀ from₀ last₀ body left from last =

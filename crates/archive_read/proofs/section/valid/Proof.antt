@@ -8,11 +8,6 @@ use Rattle.reports.specs.Archive.{frontSection}
 use Rattle.archive_read.proofs.Records.{Judging, judging-all, judging-room, judging-not, judging-on, judging-end, part-long}
 use Rattle.archive_read.proofs.section.valid.Statement.{statement}
 use Rattle.archive_read.proofs.section.valid.Tie as tie
-use Rattle.archive_read.proofs.section.valid.Reads as reads
-use Rattle.archive_read.proofs.section.valid.Lts as lts
-use Rattle.codec.proofs.field.u32_at.Reads as u32-at-reads
-use Rattle.archive_read.proofs.section.follows.Reads as follows-reads
-use Rattle.volume.proofs.place.part.Reads as part-reads
 
 abbrev Inv-loop : tie.InvT-loop
 Inv-loop archive at page left₀ from₀ last₀ left from last = Judging archive page (frontSection (drop at archive)) left from last

@@ -8,10 +8,6 @@ use Rattle.archive_read.proofs.Wholes.{Rebuilding, rebuilding-all, rebu
 use Rattle.archive_read.proofs.Wholes.{rebuilding-valid, rebuilding-on, rebuilding-end, part-size}
 use Rattle.archive_read.proofs.whole.rebuild.Statement.{statement}
 use Rattle.archive_read.proofs.whole.rebuild.Tie as tie
-use Rattle.archive_read.proofs.whole.rebuild.Reads as reads
-use Rattle.archive_read.proofs.whole.rebuild.Lts as lts
-use Rattle.archive_read.proofs.cut.past.Reads as past-reads
-use Rattle.archive_read.proofs.section.rebuild.Reads as rebuild-reads
 
 abbrev Inv-loop : tie.InvT-loop
 Inv-loop archive pages area₀ at₀ i₀ area at i = Rebuilding archive pages area at i

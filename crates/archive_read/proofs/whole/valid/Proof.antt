@@ -11,11 +11,6 @@ use borrow.Author.Tests.{not-true, not-false}
 use Rattle.archive_read.proofs.Wholes.{Checking, checking-all, checking-short, checking-not, checking-on, checking-end}
 use Rattle.archive_read.proofs.whole.valid.Statement.{statement}
 use Rattle.archive_read.proofs.whole.valid.Tie as tie
-use Rattle.archive_read.proofs.whole.valid.Reads as reads
-use Rattle.archive_read.proofs.whole.valid.Lts as lts
-use Rattle.archive_read.proofs.cut.fits.Reads as fits-reads
-use Rattle.archive_read.proofs.cut.past.Reads as past-reads
-use Rattle.archive_read.proofs.section.valid.Reads as valid-reads
 
 abbrev Inv-loop : tie.InvT-loop
 Inv-loop archive pages at₀ i₀ at i = Checking archive pages at i

@@ -1,9 +1,8 @@
 -- `capi::slots::pagestore_note_at` meets its contract.
-use mathlib.Core.Path.{_≡_, sym, ap, _∙_}
-use Prim.Native.Nat.{_+_, _≤_}
+use mathlib.Core.Path.{sym, ap, _∙_}
 use native.Mathlib.Omega.{arith}
 use lib.ListN.{length}
-use Rattle.model.specs.Geometry.{noteAt, start}
+use Rattle.model.specs.Geometry.{noteAt}
 use Rattle.face.specs.Slots.{storedNoteNumbers}
 use Rattle.capi.proofs.SlotLaws.{slot-refused, slot-long, slot-fits, slot-done}
 use borrow.Author.Needs.{needs}

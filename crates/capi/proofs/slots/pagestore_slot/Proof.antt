@@ -1,9 +1,8 @@
 -- `capi::slots::pagestore_slot` meets its contract.
-use mathlib.Core.Path.{_≡_, sym, ap, _∙_}
-use Prim.Native.Nat.{_+_, _≤_}
+use mathlib.Core.Path.{sym, ap, _∙_}
 use native.Mathlib.Omega.{arith}
 use lib.ListN.{length}
-use Rattle.model.specs.Geometry.{slotAt, start, geometryOf}
+use Rattle.model.specs.Geometry.{slotAt, geometryOf}
 use Rattle.face.specs.Slots.{backupNumbers}
 use Rattle.capi.proofs.SlotLaws.{slot-refused, slot-long, slot-fits, slot-done, told-under}
 use borrow.Author.Needs.{needs}

@@ -3,9 +3,6 @@ use Rattle.model.specs.Bytes.{part}
 use borrow.Author.Needs.{needs}
 use Rattle.checklist_steps.proofs.disk.copy.Statement.{statement}
 use Rattle.checklist_steps.proofs.disk.copy.Tie as tie
-use Rattle.checklist_steps.proofs.disk.copy.Reads as reads
-use Rattle.checklist_steps.proofs.disk.copy.Lts as lts
-use Rattle.codec.proofs.part.put.Reads as put-reads
 
 sub-put : tie.Need-sub-put
 sub-put c = search needs

@@ -4,10 +4,6 @@ use Rattle.checklist_steps.proofs.Damage.{given-some, given-none}
 use borrow.Author.Needs.{needs}
 use Rattle.checklist_steps.proofs.disk.give_back.Statement.{statement}
 use Rattle.checklist_steps.proofs.disk.give_back.Tie as tie
-use Rattle.checklist_steps.proofs.disk.give_back.Reads as reads
-use Rattle.checklist_steps.proofs.disk.give_back.Lts as lts
-use Rattle.checklist_steps.proofs.disk.copy.Reads as copy-reads
-use Rattle.checklist_steps.proofs.least.Reads as least-reads
 
 least-requires : tie.Need-least-requires
 least-requires c κs = search needs

@@ -2,9 +2,6 @@
 use borrow.Author.Needs.{needs}
 use Rattle.checklist_steps.proofs.disk.spoil.Statement.{statement}
 use Rattle.checklist_steps.proofs.disk.spoil.Tie as tie
-use Rattle.checklist_steps.proofs.disk.spoil.Reads as reads
-use Rattle.checklist_steps.proofs.disk.spoil.Lts as lts
-use Rattle.checklist_steps.proofs.disk.give_back.Reads as give-back-reads
 
 give-back-requires : tie.Need-give-back-requires
 give-back-requires c κs = search needs

@@ -5,11 +5,6 @@ use Rattle.model.specs.Restart.{inspectOf}
 use Rattle.checklist_steps.proofs.Verdicts.{rebuilt-not, rebuilt-is}
 use Rattle.checklist_steps.proofs.verdict.after.Statement.{statement}
 use Rattle.checklist_steps.proofs.verdict.after.Tie as tie
-use Rattle.checklist_steps.proofs.verdict.after.Reads as reads
-use Rattle.checklist_steps.proofs.verdict.after.Lts as lts
-use Rattle.checklist_steps.proofs.verdict.inspect.Reads as inspect-reads
-use Rattle.checklist_steps.proofs.text.whole.Reads as whole-reads
-use Rattle.print.proofs.say.Reads as say-reads
 
 say-requires : tie.Need-say-requires
 say-requires c κs = search needs

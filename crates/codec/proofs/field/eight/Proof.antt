@@ -5,10 +5,6 @@ use native.Mathlib.Omega.{arith}
 use Rattle.laws.proofs.Fields.{field-add}
 use Rattle.codec.proofs.field.eight.Statement.{statement}
 use Rattle.codec.proofs.field.eight.Tie as tie
-use Rattle.codec.proofs.field.eight.Reads as reads
-use Rattle.codec.proofs.field.eight.Lts as lts
-use Rattle.codec.proofs.field.four.Reads as four-reads
-use Rattle.codec.proofs.field.wide32.Reads as wide32-reads
 
 four-requires : tie.Need-four-requires
 four-requires c κs = search needs

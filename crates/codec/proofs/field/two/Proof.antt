@@ -5,9 +5,6 @@ use native.Mathlib.Omega.{arith}
 use Rattle.codec.proofs.Stores.{field-two}
 use Rattle.codec.proofs.field.two.Statement.{statement}
 use Rattle.codec.proofs.field.two.Tie as tie
-use Rattle.codec.proofs.field.two.Reads as reads
-use Rattle.codec.proofs.field.two.Lts as lts
-use Rattle.codec.proofs.field.wide8.Reads as wide8-reads
 
 shared-slice-read-wide8 : tie.Need-shared-slice-read-wide8
 shared-slice-read-wide8 c = search needs

@@ -8,10 +8,6 @@ use lib.ListN.{getD, List·getD-eq-default}
 use Rattle.codec.proofs.Stores.{field-past, field-two}
 use Rattle.codec.proofs.field.u16_at.Statement.{statement}
 use Rattle.codec.proofs.field.u16_at.Tie as tie
-use Rattle.codec.proofs.field.u16_at.Reads as reads
-use Rattle.codec.proofs.field.u16_at.Lts as lts
-use Rattle.codec.proofs.field.two.Reads as two-reads
-use Rattle.codec.proofs.field.wide8.Reads as wide8-reads
 
 returns : tie.Need-returns
 returns c = sym (field-past 2 _ (now (c .before .before .args .s)) (c .if1 .taken))

@@ -7,11 +7,6 @@ use Rattle.laws.proofs.Fields.{field-add}
 use Rattle.codec.proofs.Stores.{field-past}
 use Rattle.codec.proofs.field.u32_at.Statement.{statement}
 use Rattle.codec.proofs.field.u32_at.Tie as tie
-use Rattle.codec.proofs.field.u32_at.Reads as reads
-use Rattle.codec.proofs.field.u32_at.Lts as lts
-use Rattle.codec.proofs.field.four.Reads as four-reads
-use Rattle.codec.proofs.field.u16_at.Reads as u16-at-reads
-use Rattle.codec.proofs.field.wide16.Reads as wide16-reads
 
 returns : tie.Need-returns
 returns c = sym (field-past 4 _ (now (c .before .before .args .s)) (c .if1 .taken))

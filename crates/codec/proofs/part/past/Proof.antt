@@ -6,9 +6,6 @@ use borrow.Author.Needs.{needs}
 use Rattle.codec.proofs.Runs.{zero-field}
 use Rattle.codec.proofs.part.past.Statement.{statement}
 use Rattle.codec.proofs.part.past.Tie as tie
-use Rattle.codec.proofs.part.past.Reads as reads
-use Rattle.codec.proofs.part.past.Lts as lts
-use Rattle.codec.proofs.field.eight.Reads as eight-reads
 
 sub-if1 : tie.Need-sub-if1
 sub-if1 c = search needs

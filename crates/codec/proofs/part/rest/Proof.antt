@@ -8,8 +8,6 @@ use Rattle.model.specs.Bytes.{allZero}
 use Rattle.codec.proofs.Runs.{zero-on, zero-not, zero-end}
 use Rattle.codec.proofs.part.rest.Statement.{statement}
 use Rattle.codec.proofs.part.rest.Tie as tie
-use Rattle.codec.proofs.part.rest.Reads as reads
-use Rattle.codec.proofs.part.rest.Lts as lts
 
 abbrev Inv-loop : tie.InvT-loop
 Inv-loop s from i₀ i = (i ≤ length s) × (allZero (drop i s) ≡ allZero (drop from s))

@@ -11,10 +11,6 @@ use Rattle.index.proofs.Located.{record-fits, record-length}
 use Rattle.compare.proofs.Beginnings.{headed-sized, passes, stops, common-none}
 use Rattle.compare.proofs.changes.common.Statement.{statement}
 use Rattle.compare.proofs.changes.common.Tie as tie
-use Rattle.compare.proofs.changes.common.Reads as reads
-use Rattle.compare.proofs.changes.common.Lts as lts
-use Rattle.compare.proofs.changes.same.Reads as same-reads
-use Rattle.volume.proofs.place.record.Reads as record-reads
 
 abbrev Inv-loop : tie.InvT-loop
 Inv-loop v g w h most k₀ k = (k ≤ most) × (commonFrom (most - k) v w k ≡ commonFrom most v w 0)

@@ -6,9 +6,6 @@ use Rattle.compare.proofs.Beginnings.{same-change}
 use borrow.Author.Needs.{needs}
 use Rattle.compare.proofs.changes.same.Statement.{statement}
 use Rattle.compare.proofs.changes.same.Tie as tie
-use Rattle.compare.proofs.changes.same.Reads as reads
-use Rattle.compare.proofs.changes.same.Lts as lts
-use Rattle.codec.proofs.part.starts.Reads as starts-reads
 
 -- src/changes.rt:15:18
 sub-starts : tie.Need-sub-starts

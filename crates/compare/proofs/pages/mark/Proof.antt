@@ -1,15 +1,11 @@
 -- `compare::pages::mark` meets its contract.
 use mathlib.Core.Path.{sym}
-use mathlib.Core.Bool.{true}
 use Prim.Native.Nat.{_-_}
-use lib.ListN.{set}
 use native.Mathlib.Omega.{arith}
 use Rattle.laws.proofs.Tables.{within-bounds, when-true, when-false}
 use borrow.Author.Needs.{needs}
 use Rattle.compare.proofs.pages.mark.Statement.{statement}
 use Rattle.compare.proofs.pages.mark.Tie as tie
-use Rattle.compare.proofs.pages.mark.Reads as reads
-use Rattle.compare.proofs.pages.mark.Lts as lts
 
 -- src/pages.rt:16:18
 sub-i : tie.Need-sub-i

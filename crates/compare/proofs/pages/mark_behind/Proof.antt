@@ -1,6 +1,6 @@
 -- `compare::pages::mark_behind` meets its contract. The loop keeps: the pages of the records passed are marked.
 use mathlib.Core.Path.{_≡_, sym, ap, _∙_}
-use Prim.Native.Nat.{_+_, _-_, _≤_}
+use Prim.Native.Nat.{_-_, _≤_}
 use native.Mathlib.Omega.{arith}
 use lib.ListN.{length}
 use denote.Ref.{now}
@@ -11,11 +11,6 @@ use Rattle.compare.proofs.Beginnings.{headed-sized}
 use Rattle.compare.proofs.Marks.{behind-length, behind-none, behind-same, behind-read}
 use Rattle.compare.proofs.pages.mark_behind.Statement.{statement}
 use Rattle.compare.proofs.pages.mark_behind.Tie as tie
-use Rattle.compare.proofs.pages.mark_behind.Reads as reads
-use Rattle.compare.proofs.pages.mark_behind.Lts as lts
-use Rattle.codec.proofs.field.u16_at.Reads as u16-at-reads
-use Rattle.compare.proofs.pages.mark.Reads as mark-reads
-use Rattle.volume.proofs.place.record.Reads as record-reads
 
 abbrev Inv-loop : tie.InvT-loop
 Inv-loop v g k n touched₀ i₀ touched i = (k ≤ i) × (i - k ≤ n - k) × (touched ≡ markedBehind g v k i touched₀)

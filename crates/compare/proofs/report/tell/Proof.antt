@@ -8,11 +8,6 @@ use borrow.Author.Needs.{needs}
 use Rattle.compare.proofs.Reports.{Flagged, flagged-none, flagged-more, flagged-all, told}
 use Rattle.compare.proofs.report.tell.Statement.{statement}
 use Rattle.compare.proofs.report.tell.Tie as tie
-use Rattle.compare.proofs.report.tell.Reads as reads
-use Rattle.compare.proofs.report.tell.Lts as lts
-use Rattle.compare.proofs.report.count.Reads as count-reads
-use Rattle.compare.proofs.report.flag.Reads as flag-reads
-use Rattle.compare.proofs.report.kind.Reads as kind-reads
 
 abbrev Inv-loop : tie.InvT-loop
 Inv-loop report₀ touched i₀ report i = (i ≤ 64) × Flagged report₀ touched report i

@@ -7,13 +7,6 @@ use Rattle.compare.proofs.Reports.{unlike, left, filled}
 use borrow.Author.Needs.{needs}
 use Rattle.compare.proofs.report.tell_comparison.Statement.{statement}
 use Rattle.compare.proofs.report.tell_comparison.Tie as tie
-use Rattle.compare.proofs.report.tell_comparison.Reads as reads
-use Rattle.compare.proofs.report.tell_comparison.Lts as lts
-use Rattle.compare.proofs.compare.Reads as compare-reads
-use Rattle.compare.proofs.report.number.Reads as number-reads
-use Rattle.compare.proofs.report.tell.Reads as tell-reads
-use Rattle.volume.proofs.heading.valid.Reads as valid-reads
-use Rattle.volume.proofs.rows.first.Reads as first-reads
 
 -- src/report.rt:79:21
 valid-requires : tie.Need-valid-requires

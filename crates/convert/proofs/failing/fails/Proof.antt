@@ -1,7 +1,6 @@
 -- `failing::fails` makes the test of `failsAt`.
 use native.Mathlib.Omega.{arith}
 use Rattle.convert.proofs.Places.{few, image-fits, fails-is}
-use borrow.Author.Needs.{needs}
 use Rattle.convert.proofs.failing.fails.Statement.{statement}
 use Rattle.convert.proofs.failing.fails.Tie as tie
 

@@ -2,9 +2,6 @@
 use borrow.Author.Needs.{needs}
 use Rattle.convert.proofs.heading.put.Statement.{statement}
 use Rattle.convert.proofs.heading.put.Tie as tie
-use Rattle.convert.proofs.heading.put.Reads as reads
-use Rattle.convert.proofs.heading.put.Lts as lts
-use Rattle.codec.proofs.part.put.Reads as put-reads
 
 slice-aggregate-put : tie.Need-slice-aggregate-put
 slice-aggregate-put c = search needs

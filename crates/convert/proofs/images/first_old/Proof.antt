@@ -1,6 +1,6 @@
 -- `images::first_old`: the search from image i on gives what the whole does.
 use mathlib.Core.Path.{_≡_, sym, _∙_}
-use Prim.Native.Nat.{ℕ, _+_, _-_, _≤_}
+use Prim.Native.Nat.{_+_, _-_, _≤_}
 use native.Mathlib.Omega.{arith}
 use denote.Ref.{now}
 use Rattle.model.specs.Passes.{oldAt, firstFrom, firstOld}

@@ -6,10 +6,6 @@ use Rattle.convert.proofs.Places.{page-place, slot-place}
 use borrow.Author.Needs.{needs}
 use Rattle.convert.proofs.images.image_at.Statement.{statement}
 use Rattle.convert.proofs.images.image_at.Tie as tie
-use Rattle.convert.proofs.images.image_at.Reads as reads
-use Rattle.convert.proofs.images.image_at.Lts as lts
-use Rattle.volume.proofs.place.page_at.Reads as page-at-reads
-use Rattle.volume.proofs.place.slot_at.Reads as slot-at-reads
 
 -- src/images.rt:21:34
 add-page-at : tie.Need-add-page-at

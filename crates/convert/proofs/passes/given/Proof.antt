@@ -3,9 +3,6 @@ use Rattle.convert.proofs.Places.{given-not, given-is}
 use borrow.Author.Needs.{needs}
 use Rattle.convert.proofs.passes.given.Statement.{statement}
 use Rattle.convert.proofs.passes.given.Tie as tie
-use Rattle.convert.proofs.passes.given.Reads as reads
-use Rattle.convert.proofs.passes.given.Lts as lts
-use Rattle.item.proofs.image.valid.Reads as valid-reads
 
 -- src/passes.rt:33:9
 returns : tie.Need-returns

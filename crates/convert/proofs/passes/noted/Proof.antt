@@ -1,6 +1,6 @@
 -- `passes::noted` goes through the index.
 use mathlib.Core.Path.{_≡_, sym, _∙_}
-use Prim.Native.Nat.{ℕ, _-_, _≤_}
+use Prim.Native.Nat.{_-_, _≤_}
 use lib.ListN.{drop}
 use denote.Ref.{now}
 use borrow.Author.Needs.{needs}
@@ -8,9 +8,6 @@ use Rattle.model.specs.Passes.{validAsNoted}
 use Rattle.convert.proofs.Places.{noted-here, noted-on, noted-end}
 use Rattle.convert.proofs.passes.noted.Statement.{statement}
 use Rattle.convert.proofs.passes.noted.Tie as tie
-use Rattle.convert.proofs.passes.noted.Reads as reads
-use Rattle.convert.proofs.passes.noted.Lts as lts
-use Rattle.convert.proofs.passes.given.Reads as given-reads
 
 abbrev Inv-loop : tie.InvT-loop
 Inv-loop g slot x index i₀ i = (i ≤ 64) × (validAsNoted g slot x i (drop i index) ≡ validAsNoted g slot x 0 index)

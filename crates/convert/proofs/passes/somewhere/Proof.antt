@@ -3,10 +3,6 @@ use Rattle.model.specs.Item.{validSomewhere}
 use borrow.Author.Needs.{needs}
 use Rattle.convert.proofs.passes.somewhere.Statement.{statement}
 use Rattle.convert.proofs.passes.somewhere.Tie as tie
-use Rattle.convert.proofs.passes.somewhere.Reads as reads
-use Rattle.convert.proofs.passes.somewhere.Lts as lts
-use Rattle.codec.proofs.field.u16_at.Reads as u16-at-reads
-use Rattle.item.proofs.image.valid.Reads as valid-reads
 
 -- src/passes.rt:57:16
 u16-at-requires : tie.Need-u16-at-requires

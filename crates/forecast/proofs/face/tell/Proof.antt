@@ -8,8 +8,6 @@ use borrow.Author.Needs.{needs}
 use Rattle.forecast.proofs.Fills.{Telling, none-told, one-told, all-told}
 use Rattle.forecast.proofs.face.tell.Statement.{statement}
 use Rattle.forecast.proofs.face.tell.Tie as tie
-use Rattle.forecast.proofs.face.tell.Reads as reads
-use Rattle.forecast.proofs.face.tell.Lts as lts
 
 abbrev Inv-loop : tie.InvT-loop
 Inv-loop figures₀ pages i₀ figures i = (i ≤ 64) × Telling pages figures i

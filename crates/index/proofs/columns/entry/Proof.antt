@@ -9,10 +9,6 @@ use Rattle.index.proofs.ColumnLaws.{row-past}
 use borrow.Author.Needs.{needs}
 use Rattle.index.proofs.columns.entry.Statement.{statement}
 use Rattle.index.proofs.columns.entry.Tie as tie
-use Rattle.index.proofs.columns.entry.Reads as reads
-use Rattle.index.proofs.columns.entry.Lts as lts
-use Rattle.index.proofs.columns.row.Reads as columns-row-reads
-use Rattle.index.proofs.entries.row.Reads as rows-row-reads
 
 row-requires : tie.Need-row-requires
 row-requires c κs = search needs

@@ -1,7 +1,7 @@
 -- `index::columns::gather` meets its contract. The loop keeps: the rows made so far are those of the index whose columns these are.
-use mathlib.Core.Path.{_≡_, refl, sym, ap, _∙_}
+use mathlib.Core.Path.{_≡_, refl, _∙_}
 use mathlib.Core.List.{List, map}
-use Prim.Native.Nat.{ℕ, _-_, _≤_}
+use Prim.Native.Nat.{_-_, _≤_}
 use native.Mathlib.Omega.{arith}
 use borrow.Author.Needs.{needs}
 use lib.ListN.{length, take, length-set, length-replicate}
@@ -11,9 +11,6 @@ use Rattle.index.specs.Columns.{Columns}
 use Rattle.index.proofs.ColumnLaws.{index-length, gathered-more, gathered-all}
 use Rattle.index.proofs.columns.gather.Statement.{statement}
 use Rattle.index.proofs.columns.gather.Tie as tie
-use Rattle.index.proofs.columns.gather.Reads as reads
-use Rattle.index.proofs.columns.gather.Lts as lts
-use Rattle.index.proofs.columns.row.Reads as row-reads
 
 abbrev Inv-loop : tie.InvT-loop
 Inv-loop last written slots backup index₀ i₀ index i =

@@ -11,9 +11,6 @@ use Rattle.index.specs.Columns.{columnRow}
 use Rattle.index.proofs.ColumnLaws.{ordered-next, ordered-all}
 use Rattle.index.proofs.columns.ordered.Statement.{statement}
 use Rattle.index.proofs.columns.ordered.Tie as tie
-use Rattle.index.proofs.columns.ordered.Reads as reads
-use Rattle.index.proofs.columns.ordered.Lts as lts
-use Rattle.index.proofs.columns.row.Reads as row-reads
 
 abbrev Inv-loop : tie.InvT-loop
 Inv-loop last written slots backup pages kept₀ i₀ kept i =

@@ -2,9 +2,6 @@
 use borrow.Author.Needs.{needs}
 use Rattle.index.proofs.columns.row.Statement.{statement}
 use Rattle.index.proofs.columns.row.Tie as tie
-use Rattle.index.proofs.columns.row.Reads as reads
-use Rattle.index.proofs.columns.row.Lts as lts
-use Rattle.index.proofs.columns.standing.Reads as standing-reads
 
 mul-standing : tie.Need-mul-standing
 mul-standing c = search needs

@@ -2,8 +2,6 @@
 use borrow.Author.Tests.{eq-eqb, ne-eqb}
 use Rattle.index.proofs.columns.standing.Statement.{statement}
 use Rattle.index.proofs.columns.standing.Tie as tie
-use Rattle.index.proofs.columns.standing.Reads as reads
-use Rattle.index.proofs.columns.standing.Lts as lts
 
 returns : tie.Need-returns
 returns c = rw (eq-eqb _ _ (c .if1 .taken))

@@ -6,9 +6,6 @@ use native.Mathlib.Omega.{arith}
 use borrow.Author.Tests.{le-leb}
 use Rattle.index.proofs.columns.taken.Statement.{statement}
 use Rattle.index.proofs.columns.taken.Tie as tie
-use Rattle.index.proofs.columns.taken.Reads as reads
-use Rattle.index.proofs.columns.taken.Lts as lts
-use Rattle.index.proofs.columns.used.Reads as used-reads
 
 lower : (n : ℕ) → n ≢ 0 → 1 ≤ n
 lower n h = omega arith

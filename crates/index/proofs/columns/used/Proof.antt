@@ -2,7 +2,6 @@
 use mathlib.Core.Path.{_≡_, refl, sym, _∙_}
 use mathlib.Core.Bool.{Bool, true, false, _||_}
 use Prim.Native.Nat.{_-_, _≤_}
-use native.Mathlib.Omega.{arith}
 use borrow.Author.Needs.{needs}
 use denote.Ref.{now}
 use lib.ListN.{length, drop}
@@ -10,9 +9,6 @@ use Rattle.index.specs.Columns.{slotIn}
 use Rattle.index.proofs.ColumnLaws.{in-next, in-end}
 use Rattle.index.proofs.columns.used.Statement.{statement}
 use Rattle.index.proofs.columns.used.Tie as tie
-use Rattle.index.proofs.columns.used.Reads as reads
-use Rattle.index.proofs.columns.used.Lts as lts
-use Rattle.index.proofs.columns.wide.Reads as wide-reads
 
 -- nothing is left that could decide
 or-none : (found rest : Bool) → rest ≡ false → found ≡ (found || rest)

@@ -1,4 +1,3 @@
-use mathlib.Core.Path.{_≡_, refl, sym, ap, _∙_}
 use native.Mathlib.Omega.{arith}
 use Rattle.index.proofs.EntryLaws.{row-below, entered}
 use borrow.Author.Needs.{needs}

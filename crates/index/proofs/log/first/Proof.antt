@@ -5,10 +5,6 @@ use Rattle.index.proofs.Located.{log-placed, log-first}
 use borrow.Author.Needs.{needs}
 use Rattle.index.proofs.log.first.Statement.{statement}
 use Rattle.index.proofs.log.first.Tie as tie
-use Rattle.index.proofs.log.first.Reads as reads
-use Rattle.index.proofs.log.first.Lts as lts
-use Rattle.index.proofs.log.locate.Reads as locate-reads
-use Rattle.section.proofs.first.Reads as first-reads
 
 locate-requires : tie.Need-locate-requires
 locate-requires c κs = search needs

@@ -4,10 +4,6 @@ use denote.Ref.{now}
 use Rattle.index.proofs.Located.{log-placed, log-run}
 use Rattle.index.proofs.log.run.Statement.{statement}
 use Rattle.index.proofs.log.run.Tie as tie
-use Rattle.index.proofs.log.run.Reads as reads
-use Rattle.index.proofs.log.run.Lts as lts
-use Rattle.index.proofs.log.locate.Reads as locate-reads
-use Rattle.section.proofs.held.Reads as held-reads
 
 locate-requires : tie.Need-locate-requires
 locate-requires c κs = search needs

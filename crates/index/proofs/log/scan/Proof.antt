@@ -18,20 +18,6 @@ use Rattle.index.proofs.LogPass.{log-known, Judged, judged-none, judged
 use Rattle.section.proofs.SectionLaws.{slot-starts, slot-low, slot-next, slot-of}
 use Rattle.index.proofs.log.scan.Statement.{statement}
 use Rattle.index.proofs.log.scan.Tie as tie
-use Rattle.index.proofs.log.scan.Reads as reads
-use Rattle.index.proofs.log.scan.Lts as lts
-use Rattle.section.proofs.whole.Reads as whole-reads
-use Rattle.index.proofs.log.fits.Reads as fits-reads
-use Rattle.index.proofs.log.locate.Reads as locate-reads
-use Rattle.index.proofs.entries.row.Reads as row-reads
-use Rattle.section.proofs.ends.Reads as ends-reads
-use Rattle.section.proofs.nth.Reads as nth-reads
-use Rattle.section.proofs.span.Reads as span-reads
-use Rattle.item.proofs.record.layout.Reads as layout-reads
-use Rattle.item.proofs.record.read.Reads as read-reads
-use Rattle.section.proofs.item.Reads as item-reads
-use Rattle.section.proofs.start.Reads as start-reads
-use Rattle.section.proofs.after.Reads as after-reads
 
 abbrev Inv-loop : tie.InvT-loop
 Inv-loop volume g run last₀ first front below span s slot₀ i₀ last slot i =

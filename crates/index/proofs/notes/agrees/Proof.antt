@@ -2,9 +2,6 @@
 use borrow.Author.Needs.{needs}
 use Rattle.index.proofs.notes.agrees.Statement.{statement}
 use Rattle.index.proofs.notes.agrees.Tie as tie
-use Rattle.index.proofs.notes.agrees.Reads as reads
-use Rattle.index.proofs.notes.agrees.Lts as lts
-use Rattle.index.proofs.notes.page.Reads as page-reads
 
 cast-result : tie.Need-cast-result
 cast-result c = search needs

@@ -2,10 +2,6 @@
 use borrow.Author.Needs.{needs}
 use Rattle.index.proofs.notes.locate.Statement.{statement}
 use Rattle.index.proofs.notes.locate.Tie as tie
-use Rattle.index.proofs.notes.locate.Reads as reads
-use Rattle.index.proofs.notes.locate.Lts as lts
-use Rattle.volume.proofs.place.note_at.Reads as note-at-reads
-use Rattle.volume.proofs.ring.ring.Reads as ring-reads
 
 ring-requires : tie.Need-ring-requires
 ring-requires c κs = search needs

@@ -4,10 +4,6 @@ use denote.Ref.{now}
 use Rattle.index.proofs.Located.{note-placed, note-run}
 use Rattle.index.proofs.notes.run.Statement.{statement}
 use Rattle.index.proofs.notes.run.Tie as tie
-use Rattle.index.proofs.notes.run.Reads as reads
-use Rattle.index.proofs.notes.run.Lts as lts
-use Rattle.index.proofs.notes.locate.Reads as locate-reads
-use Rattle.section.proofs.held.Reads as held-reads
 
 locate-requires : tie.Need-locate-requires
 locate-requires c κs = search needs

@@ -19,24 +19,6 @@ use Rattle.index.proofs.NotePass.{note-whole, Entered, entered-none, en
 use Rattle.section.proofs.SectionLaws.{slot-starts, slot-low, slot-next, slot-of}
 use Rattle.index.proofs.notes.scan.Statement.{statement}
 use Rattle.index.proofs.notes.scan.Tie as tie
-use Rattle.index.proofs.notes.scan.Reads as reads
-use Rattle.index.proofs.notes.scan.Lts as lts
-use Rattle.section.proofs.whole.Reads as whole-reads
-use Rattle.index.proofs.columns.taken.Reads as taken-reads
-use Rattle.index.proofs.notes.agrees.Reads as agrees-reads
-use Rattle.index.proofs.notes.earlier.Reads as earlier-reads
-use Rattle.index.proofs.notes.fits.Reads as fits-reads
-use Rattle.index.proofs.notes.follows.Reads as follows-reads
-use Rattle.index.proofs.notes.locate.Reads as locate-reads
-use Rattle.index.proofs.entries.noted.Reads as noted-reads
-use Rattle.index.proofs.entries.row.Reads as row-reads
-use Rattle.section.proofs.ends.Reads as ends-reads
-use Rattle.section.proofs.nth.Reads as nth-reads
-use Rattle.section.proofs.span.Reads as span-reads
-use Rattle.item.proofs.note.read.Reads as read-reads
-use Rattle.section.proofs.item.Reads as item-reads
-use Rattle.section.proofs.start.Reads as start-reads
-use Rattle.section.proofs.after.Reads as after-reads
 
 abbrev Inv-loop : tie.InvT-loop
 Inv-loop volume g log run written₀ slots₀ backup₀ span s slot₀ i₀ written slots backup slot i =

@@ -1,18 +1,11 @@
 -- `inspect_report::examine::examine` meets its contract.
-use mathlib.Core.Path.{_≡_, _∙_}
+use mathlib.Core.Path.{_∙_}
 use lib.ListN.{length}
-use borrow.Author.Tests.{ne-eqb, eqb-true}
+use borrow.Author.Tests.{ne-eqb}
 use borrow.Author.Needs.{needs}
 use Rattle.inspect_report.proofs.Reports.{unlike, alike}
 use Rattle.inspect_report.proofs.examine.examine.Statement.{statement}
 use Rattle.inspect_report.proofs.examine.examine.Tie as tie
-use Rattle.inspect_report.proofs.examine.examine.Reads as reads
-use Rattle.inspect_report.proofs.examine.examine.Lts as lts
-use Rattle.inspect_report.proofs.examine.tell.Reads as tell-reads
-use Rattle.inspect.proofs.inspect.Reads as inspect-reads
-use Rattle.inspect.proofs.number.Reads as number-reads
-use Rattle.volume.proofs.heading.valid.Reads as valid-reads
-use Rattle.volume.proofs.rows.first.Reads as first-reads
 
 -- src/examine.rt:100:13
 valid-requires : tie.Need-valid-requires

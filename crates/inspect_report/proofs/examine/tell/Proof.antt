@@ -3,11 +3,6 @@ use borrow.Author.Needs.{needs}
 use Rattle.inspect_report.proofs.Reports.{told}
 use Rattle.inspect_report.proofs.examine.tell.Statement.{statement}
 use Rattle.inspect_report.proofs.examine.tell.Tie as tie
-use Rattle.inspect_report.proofs.examine.tell.Reads as reads
-use Rattle.inspect_report.proofs.examine.tell.Lts as lts
-use Rattle.inspect_report.proofs.examine.class_after.Reads as class-after-reads
-use Rattle.inspect_report.proofs.examine.count_after.Reads as count-after-reads
-use Rattle.inspect_report.proofs.examine.start_after.Reads as start-after-reads
 
 -- src/examine.rt:78:32
 slice-read-class-after : tie.Need-slice-read-class-after

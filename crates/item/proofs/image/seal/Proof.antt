@@ -5,10 +5,6 @@ use denote.Ref.{now}
 use Rattle.laws.proofs.Items.{words-set, bytes-set}
 use Rattle.item.proofs.image.seal.Statement.{statement}
 use Rattle.item.proofs.image.seal.Tie as tie
-use Rattle.item.proofs.image.seal.Reads as reads
-use Rattle.item.proofs.image.seal.Lts as lts
-use Rattle.sums.proofs.byte_sum.set.Reads as byte-sum-set-reads
-use Rattle.sums.proofs.checksum.set.Reads as checksum-set-reads
 
 -- src/image.rt:62:9
 set-requires : tie.Need-set-requires

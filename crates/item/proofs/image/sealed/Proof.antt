@@ -4,10 +4,6 @@ use mathlib.Core.Path.{sym, _∙_}
 use Rattle.laws.proofs.Items.{by-words, by-bytes, by-either}
 use Rattle.item.proofs.image.sealed.Statement.{statement}
 use Rattle.item.proofs.image.sealed.Tie as tie
-use Rattle.item.proofs.image.sealed.Reads as reads
-use Rattle.item.proofs.image.sealed.Lts as lts
-use Rattle.sums.proofs.byte_sum.holds.Reads as byte-sum-holds-reads
-use Rattle.sums.proofs.checksum.holds.Reads as checksum-holds-reads
 
 -- src/image.rt:28:9
 holds-requires : tie.Need-holds-requires

@@ -10,37 +10,16 @@ Inv-loop page l₀ counter₀ l counter = counter ≤ 20
 abbrev μ-loop : tie.MeasureT-loop
 μ-loop page l₀ counter₀ l counter = 20 - counter
 
-loop-holds : tie.Need-loop-holds Inv-loop μ-loop
-loop-holds c = search needs
-
-change-requires : tie.Need-change-requires Inv-loop μ-loop
-change-requires c κs = search needs
-
-read-requires : tie.Need-read-requires Inv-loop μ-loop
-read-requires c κs = search needs
-
-add-counter : tie.Need-add-counter Inv-loop μ-loop
-add-counter c = search needs
-
-loop-less : tie.Need-loop-less Inv-loop μ-loop
-loop-less c = search needs
-
-loop-again : tie.Need-loop-again Inv-loop μ-loop
-loop-again c = search needs
-
-returns : tie.Need-returns Inv-loop μ-loop
-returns c = search needs
-
 pub stay-spec : {M : Type 1} → statement M
 stay-spec =
     tie.close
     (tie.spec
     Inv-loop
     μ-loop
-    loop-holds
-    change-requires
-    read-requires
-    add-counter
-    loop-less
-    loop-again
-    returns)
+    (λ c. search needs)
+    (λ c κs. search needs)
+    (λ c κs. search needs)
+    (λ c. search needs)
+    (λ c. search needs)
+    (λ c. search needs)
+    (λ c. search needs))

@@ -10,37 +10,16 @@ Inv-loop n mark each step at₀ counter₀ at counter = (counter ≤ 64) × (at 
 abbrev μ-loop : tie.MeasureT-loop
 μ-loop n mark each step at₀ counter₀ at counter = 64 - counter
 
-loop-holds : tie.Need-loop-holds Inv-loop μ-loop
-loop-holds c = search needs
-
-say-requires : tie.Need-say-requires Inv-loop μ-loop
-say-requires c κs = search needs
-
-add-at : tie.Need-add-at Inv-loop μ-loop
-add-at c = search needs
-
-add-counter : tie.Need-add-counter Inv-loop μ-loop
-add-counter c = search needs
-
-loop-less : tie.Need-loop-less Inv-loop μ-loop
-loop-less c = search needs
-
-loop-again : tie.Need-loop-again Inv-loop μ-loop
-loop-again c = search needs
-
-returns : tie.Need-returns Inv-loop μ-loop
-returns c = search needs
-
 pub bar-spec : {M : Type 1} → statement M
 bar-spec =
     tie.close
     (tie.spec
     Inv-loop
     μ-loop
-    loop-holds
-    say-requires
-    add-at
-    add-counter
-    loop-less
-    loop-again
-    returns)
+    (λ c. search needs)
+    (λ c κs. search needs)
+    (λ c. search needs)
+    (λ c. search needs)
+    (λ c. search needs)
+    (λ c. search needs)
+    (λ c. search needs))

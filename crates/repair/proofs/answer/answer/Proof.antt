@@ -1,13 +1,9 @@
 -- `repair::answer::answer` meets its contract, by what start ensures.
 use mathlib.Core.Path.{ap}
 use borrow.Author.Needs.{needs}
-use Rattle.model.specs.declared.answer.Start.{Start}
-use Rattle.model.specs.declared.answer.Repair.{Repair}
+use Rattle.model.specs.declared.{answer.Start.Start, answer.Repair.Repair}
 use Rattle.repair.proofs.answer.answer.Statement.{statement}
 use Rattle.repair.proofs.answer.answer.Tie as tie
-use Rattle.repair.proofs.answer.answer.Reads as reads
-use Rattle.repair.proofs.answer.answer.Lts as lts
-use Rattle.repair.proofs.answer.start.Reads as start-reads
 
 start-requires : tie.Need-start-requires
 start-requires c κs = search needs

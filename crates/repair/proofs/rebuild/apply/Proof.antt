@@ -5,18 +5,13 @@ use mathlib.Core.List.{List}
 use native.Mathlib.Omega.{arith}
 use borrow.Author.Needs.{needs}
 use Rattle.model.specs.Repair.{viewOf, walkOf}
-use Rattle.model.specs.declared.geometry.Geometry.{Geometry}
-use Rattle.model.specs.declared.state.Entry.{Entry}
+use Rattle.model.specs.declared.{geometry.Geometry.Geometry, state.Entry.Entry}
 use Rattle.repair.specs.Walked.{logOf}
 use Rattle.repair.proofs.Links.{Linked}
 use Rattle.repair.proofs.Replays.{Replaying, replaying-start, replaying-on, replayed, in-array, chain-linked}
 use Rattle.repair.proofs.Starts.{sized, record-fits, record-length}
 use Rattle.repair.proofs.rebuild.apply.Statement.{statement}
 use Rattle.repair.proofs.rebuild.apply.Tie as tie
-use Rattle.repair.proofs.rebuild.apply.Reads as reads
-use Rattle.repair.proofs.rebuild.apply.Lts as lts
-use Rattle.item.proofs.record.replay.Reads as replay-reads
-use Rattle.volume.proofs.place.record.Reads as record-reads
 
 abbrev Inv-loop : tie.InvT-loop
 Inv-loop volume lsns count body₀ g i₀ body i = Replaying (logOf g volume) count lsns body₀ body i

@@ -6,12 +6,6 @@ use Rattle.repair.proofs.Starts.{page-fits, page-length, slot-fits, slo
 use Rattle.repair.proofs.Replays.{stop-backup, begun-own, begun-backup, begun-format, begun-broken, begun-below}
 use Rattle.repair.proofs.rebuild.begin.Statement.{statement}
 use Rattle.repair.proofs.rebuild.begin.Tie as tie
-use Rattle.repair.proofs.rebuild.begin.Reads as reads
-use Rattle.repair.proofs.rebuild.begin.Lts as lts
-use Rattle.codec.proofs.part.fill.Reads as fill-reads
-use Rattle.repair.proofs.rebuild.copy_body.Reads as copy-body-reads
-use Rattle.volume.proofs.place.page.Reads as page-reads
-use Rattle.volume.proofs.place.slot.Reads as slot-reads
 
 enum-told : tie.Need-enum-told
 enum-told c = search needs

@@ -9,9 +9,6 @@ use Rattle.repair.specs.Walked.{logOf}
 use Rattle.repair.proofs.Walks.{Collected, collected-none, collected-on, collected-all}
 use Rattle.repair.proofs.rebuild.collect.Statement.{statement}
 use Rattle.repair.proofs.rebuild.collect.Tie as tie
-use Rattle.repair.proofs.rebuild.collect.Reads as reads
-use Rattle.repair.proofs.rebuild.collect.Lts as lts
-use Rattle.repair.proofs.rebuild.previous.Reads as previous-reads
 
 abbrev Inv-loop : tie.InvT-loop
 Inv-loop volume g top count lsns₀ end n₀ i₀ lsns n i = Collected (logOf g volume) top count lsns n i × (length lsns ≡ length lsns₀)

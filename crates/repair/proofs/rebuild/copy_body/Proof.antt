@@ -3,9 +3,6 @@ use borrow.Author.Needs.{needs}
 use Rattle.model.specs.Bytes.{part}
 use Rattle.repair.proofs.rebuild.copy_body.Statement.{statement}
 use Rattle.repair.proofs.rebuild.copy_body.Tie as tie
-use Rattle.repair.proofs.rebuild.copy_body.Reads as reads
-use Rattle.repair.proofs.rebuild.copy_body.Lts as lts
-use Rattle.codec.proofs.part.copy.Reads as copy-reads
 
 sub-copy : tie.Need-sub-copy
 sub-copy c = search needs

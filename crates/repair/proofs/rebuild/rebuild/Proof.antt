@@ -7,11 +7,6 @@ use Rattle.repair.proofs.Replays.{stop-is, count-is, body-length, aroun
 use Rattle.repair.proofs.Starts.{ready-sized}
 use Rattle.repair.proofs.rebuild.rebuild.Statement.{statement}
 use Rattle.repair.proofs.rebuild.rebuild.Tie as tie
-use Rattle.repair.proofs.rebuild.rebuild.Reads as reads
-use Rattle.repair.proofs.rebuild.rebuild.Lts as lts
-use Rattle.item.proofs.image.build.Reads as build-reads
-use Rattle.repair.proofs.rebuild.begin.Reads as begin-reads
-use Rattle.repair.proofs.rebuild.replay.Reads as replay-reads
 
 sub-body : tie.Need-sub-body
 sub-body c = search needs

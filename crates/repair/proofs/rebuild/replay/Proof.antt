@@ -5,17 +5,13 @@ use mathlib.Core.List.{List}
 use native.Mathlib.Omega.{arith}
 use lib.ListN.{length}
 use Rattle.model.specs.Repair.{viewOf, walkOf}
-use Rattle.model.specs.declared.geometry.Geometry.{Geometry}
-use Rattle.model.specs.declared.state.Entry.{Entry}
+use Rattle.model.specs.declared.{geometry.Geometry.Geometry, state.Entry.Entry}
 use Rattle.repair.specs.Walked.{Ready}
 use Rattle.repair.proofs.Replays.{chain-most}
 use Rattle.repair.proofs.Starts.{ready-sized}
 use borrow.Author.Needs.{needs}
 use Rattle.repair.proofs.rebuild.replay.Statement.{statement}
 use Rattle.repair.proofs.rebuild.replay.Tie as tie
-use Rattle.repair.proofs.rebuild.replay.Reads as reads
-use Rattle.repair.proofs.rebuild.replay.Lts as lts
-use Rattle.repair.proofs.rebuild.replay_in.Reads as replay-in-reads
 
 most : (v : List ℕ) (g : Geometry) (f : ℕ) (e : Entry) (page count : ℕ) → Ready v g f e page
     → count ≡ length (walkOf g page (viewOf g v f e page) .chain) → count ≤ 1024

@@ -5,17 +5,12 @@ use mathlib.Core.List.{List}
 use denote.Ref.{now}
 use lib.ListN.{length, take}
 use Rattle.model.specs.Repair.{viewOf, walkOf, replayChain}
-use Rattle.model.specs.declared.geometry.Geometry.{Geometry}
-use Rattle.model.specs.declared.state.Entry.{Entry}
+use Rattle.model.specs.declared.{geometry.Geometry.Geometry, state.Entry.Entry}
 use Rattle.repair.specs.Walked.{Ready, logOf, chainFrom}
 use Rattle.repair.proofs.Replays.{chain-is}
 use borrow.Author.Needs.{needs}
 use Rattle.repair.proofs.rebuild.replay_in.Statement.{statement}
 use Rattle.repair.proofs.rebuild.replay_in.Tie as tie
-use Rattle.repair.proofs.rebuild.replay_in.Reads as reads
-use Rattle.repair.proofs.rebuild.replay_in.Lts as lts
-use Rattle.repair.proofs.rebuild.apply.Reads as apply-reads
-use Rattle.repair.proofs.rebuild.collect.Reads as collect-reads
 
 module _ (v : List ℕ) (g : Geometry) (f : ℕ) (e : Entry) (page count : ℕ) (h : Ready v g f e page)
     (k : count ≡ length (walkOf g page (viewOf g v f e page) .chain)) where

@@ -3,10 +3,6 @@ use borrow.Author.Needs.{needs}
 use Rattle.repair.proofs.Starts.{slot-none, slot-fits, backup-valid, backup-none}
 use Rattle.repair.proofs.walk.backup_number.Statement.{statement}
 use Rattle.repair.proofs.walk.backup_number.Tie as tie
-use Rattle.repair.proofs.walk.backup_number.Reads as reads
-use Rattle.repair.proofs.walk.backup_number.Lts as lts
-use Rattle.repair.proofs.walk.numbered.Reads as numbered-reads
-use Rattle.volume.proofs.place.slot.Reads as slot-reads
 
 cast-slot : tie.Need-cast-slot
 cast-slot c = search needs

@@ -8,11 +8,6 @@ use Rattle.repair.proofs.Links.{step-none, step-own, step-copy, step-be
 use Rattle.repair.proofs.Starts.{sized, record-fits, record-length}
 use Rattle.repair.proofs.walk.look.Statement.{statement}
 use Rattle.repair.proofs.walk.look.Tie as tie
-use Rattle.repair.proofs.walk.look.Reads as reads
-use Rattle.repair.proofs.walk.look.Lts as lts
-use Rattle.item.proofs.record.read.Reads as read-reads
-use Rattle.repair.proofs.walk.passes.Reads as passes-reads
-use Rattle.volume.proofs.place.record.Reads as record-reads
 
 returns : tie.Need-returns
 returns c = step-none _ _ _ _ _ _ (c .if1 .taken)

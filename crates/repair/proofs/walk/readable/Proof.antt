@@ -3,11 +3,6 @@ use borrow.Author.Needs.{needs}
 use Rattle.model.specs.Repair.{chainRecord}
 use Rattle.repair.proofs.walk.readable.Statement.{statement}
 use Rattle.repair.proofs.walk.readable.Tie as tie
-use Rattle.repair.proofs.walk.readable.Reads as reads
-use Rattle.repair.proofs.walk.readable.Lts as lts
-use Rattle.sums.proofs.checksum.holds.Reads as holds-reads
-use Rattle.item.proofs.record.layout.Reads as layout-reads
-use Rattle.item.proofs.record.read.Reads as read-reads
 
 read-requires : tie.Need-read-requires
 read-requires c κs = search needs

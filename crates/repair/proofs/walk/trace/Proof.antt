@@ -1,5 +1,5 @@
 -- `repair::walk::trace` meets its contract. The loop keeps `Down`: the records passed and the walk of the rest are the whole walk.
-use mathlib.Core.Path.{_≡_, refl, sym, _∙_}
+use mathlib.Core.Path.{_≡_, sym, _∙_}
 use native.Mathlib.Omega.{arith}
 use borrow.Author.Needs.{needs}
 use denote.Ref.{now}
@@ -9,9 +9,6 @@ use Rattle.repair.proofs.Links.{step-falls}
 use Rattle.repair.proofs.Walks.{Down, down-start, down-sound, down-on, down-format, down-halt}
 use Rattle.repair.proofs.walk.trace.Statement.{statement}
 use Rattle.repair.proofs.walk.trace.Tie as tie
-use Rattle.repair.proofs.walk.trace.Reads as reads
-use Rattle.repair.proofs.walk.trace.Lts as lts
-use Rattle.repair.proofs.walk.look.Reads as look-reads
 
 abbrev Inv-loop : tie.InvT-loop
 Inv-loop volume g c from n₀ count₀ n count = Down (logOf g volume) (c .first) (c .page) (c .own) (c .backup) n₀ n count

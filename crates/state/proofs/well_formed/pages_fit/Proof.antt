@@ -1,5 +1,5 @@
 -- `state::well_formed::pages_fit` meets its contract. The loop keeps: the entries passed fit.
-use Prim.Native.Nat.{ℕ, _≤_, _-_}
+use Prim.Native.Nat.{_≤_, _-_}
 use mathlib.Core.Path.{_≡_, sym, _∙_}
 use mathlib.Core.Bool.{true}
 use native.Mathlib.Omega.{arith}

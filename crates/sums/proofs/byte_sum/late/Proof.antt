@@ -9,9 +9,6 @@ use Rattle.model.specs.Checksum.{byteSumFrom, byteSum}
 use Rattle.laws.proofs.Checksums.{byteSum-byte-late, byteSum-end}
 use Rattle.sums.proofs.byte_sum.late.Statement.{statement}
 use Rattle.sums.proofs.byte_sum.late.Tie as tie
-use Rattle.sums.proofs.byte_sum.late.Reads as reads
-use Rattle.sums.proofs.byte_sum.late.Lts as lts
-use Rattle.sums.proofs.checksum.wide.Reads as wide-reads
 
 abbrev Inv-loop : tie.InvT-loop
 Inv-loop s a₀ b₀ i₀ a b i =

@@ -8,10 +8,6 @@ use Rattle.model.specs.Checksum.{byteSum}
 use Rattle.laws.proofs.Checksums.{sum-splice}
 use Rattle.sums.proofs.byte_sum.set.Statement.{statement}
 use Rattle.sums.proofs.byte_sum.set.Tie as tie
-use Rattle.sums.proofs.byte_sum.set.Reads as reads
-use Rattle.sums.proofs.byte_sum.set.Lts as lts
-use Rattle.sums.proofs.byte_sum.sum.Reads as sum-reads
-use Rattle.codec.proofs.field.put_u32.Reads as put-u32-reads
 
 sub-sum : tie.Need-sub-sum
 sub-sum c = search needs

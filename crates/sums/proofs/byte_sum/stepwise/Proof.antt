@@ -1,6 +1,6 @@
 -- `sums::byte_sum::stepwise` meets its contract. The loop keeps: the byte sum of what is left, from the sums so far, is that of the whole.
 use mathlib.Core.Path.{_≡_, sym, _∙_}
-use Prim.Native.Nat.{_+_, _*_, _-_, _≤_, _<_}
+use Prim.Native.Nat.{_-_, _≤_, _<_}
 use native.Mathlib.Omega.{arith}
 use borrow.Author.Needs.{needs}
 use lib.ListN.{length, drop}
@@ -9,9 +9,6 @@ use Rattle.model.specs.Checksum.{byteSumFrom, byteSum}
 use Rattle.laws.proofs.Checksums.{byteSum-byte, byteSum-end}
 use Rattle.sums.proofs.byte_sum.stepwise.Statement.{statement}
 use Rattle.sums.proofs.byte_sum.stepwise.Tie as tie
-use Rattle.sums.proofs.byte_sum.stepwise.Reads as reads
-use Rattle.sums.proofs.byte_sum.stepwise.Lts as lts
-use Rattle.sums.proofs.checksum.wide.Reads as wide-reads
 
 abbrev Inv-loop : tie.InvT-loop
 Inv-loop v a₀ b₀ i₀ a b i = (i ≤ length v) × (a < 65535) × (b < 65535) × (byteSumFrom a b (drop i v) ≡ byteSum v)

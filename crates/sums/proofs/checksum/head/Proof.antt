@@ -4,11 +4,11 @@ use mathlib.Core.Path.{_≡_, refl, sym, _∙_}
 use Prim.Native.Nat.{_+_, _*_, _-_, _%_, _≤_}
 use native.Mathlib.Omega.{arith}
 use borrow.Author.Needs.{needs}
-use lib.ListN.{length, drop}
+use lib.ListN.{drop}
 use denote.Ref.{now}
 use Rattle.model.specs.Bytes.{field}
 use Rattle.model.specs.Checksum.{checksumFrom, checksum}
-use Rattle.laws.proofs.Checksums.{checksum-word-late, checksum-end}
+use Rattle.laws.proofs.Checksums.{checksum-word-late}
 use Rattle.codec.proofs.Stores.{field-two}
 use Rattle.sums.proofs.checksum.head.Statement.{statement}
 use Rattle.sums.proofs.checksum.head.Tie as tie

@@ -11,9 +11,6 @@ use Rattle.laws.proofs.Checksums.{checksum-word-late, checksum-end}
 use Rattle.codec.proofs.Stores.{field-two}
 use Rattle.sums.proofs.checksum.late.Statement.{statement}
 use Rattle.sums.proofs.checksum.late.Tie as tie
-use Rattle.sums.proofs.checksum.late.Reads as reads
-use Rattle.sums.proofs.checksum.late.Lts as lts
-use Rattle.sums.proofs.checksum.wide.Reads as wide-reads
 
 abbrev Inv-loop : tie.InvT-loop
 Inv-loop s a₀ b₀ i₀ a b i =

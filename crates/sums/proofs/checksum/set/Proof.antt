@@ -8,10 +8,6 @@ use Rattle.model.specs.Checksum.{checksum}
 use Rattle.laws.proofs.Checksums.{sum-splice}
 use Rattle.sums.proofs.checksum.set.Statement.{statement}
 use Rattle.sums.proofs.checksum.set.Tie as tie
-use Rattle.sums.proofs.checksum.set.Reads as reads
-use Rattle.sums.proofs.checksum.set.Lts as lts
-use Rattle.sums.proofs.checksum.sum.Reads as sum-reads
-use Rattle.codec.proofs.field.put_u32.Reads as put-u32-reads
 
 sub-sum : tie.Need-sub-sum
 sub-sum c = search needs

@@ -11,9 +11,6 @@ use Rattle.laws.proofs.Checksums.{checksum-word, checksum-end}
 use Rattle.codec.proofs.Stores.{field-two}
 use Rattle.sums.proofs.checksum.stepwise.Statement.{statement}
 use Rattle.sums.proofs.checksum.stepwise.Tie as tie
-use Rattle.sums.proofs.checksum.stepwise.Reads as reads
-use Rattle.sums.proofs.checksum.stepwise.Lts as lts
-use Rattle.sums.proofs.checksum.wide.Reads as wide-reads
 
 abbrev Inv-loop : tie.InvT-loop
 Inv-loop v a₀ b₀ i₀ a b i = (i ≤ length v) × (a < 65535) × (b < 65535) × (checksumFrom a b (drop i v) ≡ checksum v)

@@ -3,9 +3,6 @@ use Rattle.upkeep.proofs.LogPositions.{log-new, log-turned}
 use borrow.Author.Needs.{needs}
 use Rattle.upkeep.proofs.log.ahead.Statement.{statement}
 use Rattle.upkeep.proofs.log.ahead.Tie as tie
-use Rattle.upkeep.proofs.log.ahead.Reads as reads
-use Rattle.upkeep.proofs.log.ahead.Lts as lts
-use Rattle.room.proofs.log.needed.Reads as needed-reads
 
 -- src/log.rt:18:17
 cast-slots : tie.Need-cast-slots

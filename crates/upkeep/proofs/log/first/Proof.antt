@@ -1,4 +1,4 @@
-use mathlib.Core.Path.{_≡_, refl, sym, ap, _∙_}
+use mathlib.Core.Path.{_≡_, refl, sym, _∙_}
 use Prim.Native.Nat.{_+_, _-_, _/_, _≤_}
 use native.Mathlib.Omega.{arith}
 use denote.Ref.{now}
@@ -10,9 +10,6 @@ use Rattle.upkeep.proofs.LogPositions.{log-start}
 use borrow.Author.Needs.{needs}
 use Rattle.upkeep.proofs.log.first.Statement.{statement}
 use Rattle.upkeep.proofs.log.first.Tie as tie
-use Rattle.upkeep.proofs.log.first.Reads as reads
-use Rattle.upkeep.proofs.log.first.Lts as lts
-use Rattle.upkeep.proofs.log.ahead.Reads as ahead-reads
 
 abbrev Inv-loop : tie.InvT-loop
 Inv-loop s volume g half i₀ i =

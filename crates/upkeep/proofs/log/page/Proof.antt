@@ -5,10 +5,6 @@ use Rattle.upkeep.proofs.LogPositions.{log-number, log-page}
 use borrow.Author.Needs.{needs}
 use Rattle.upkeep.proofs.log.page.Statement.{statement}
 use Rattle.upkeep.proofs.log.page.Tie as tie
-use Rattle.upkeep.proofs.log.page.Reads as reads
-use Rattle.upkeep.proofs.log.page.Lts as lts
-use Rattle.item.proofs.record.read.Reads as read-reads
-use Rattle.volume.proofs.place.record.Reads as record-reads
 
 -- src/log.rt:48:17
 cast-slots : tie.Need-cast-slots

@@ -8,11 +8,6 @@ use Rattle.upkeep.proofs.NotePositions.{note-number, note-at}
 use borrow.Author.Needs.{needs}
 use Rattle.upkeep.proofs.notes.at.Statement.{statement}
 use Rattle.upkeep.proofs.notes.at.Tie as tie
-use Rattle.upkeep.proofs.notes.at.Reads as reads
-use Rattle.upkeep.proofs.notes.at.Lts as lts
-use Rattle.item.proofs.note.read.Reads as read-reads
-use Rattle.volume.proofs.place.note_at.Reads as note-at-reads
-use Rattle.volume.proofs.place.part.Reads as part-reads
 
 -- src/notes.rt:63:17
 cast-slots : tie.Need-cast-slots

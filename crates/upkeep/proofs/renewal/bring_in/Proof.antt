@@ -3,11 +3,6 @@ use Rattle.upkeep.proofs.Advice.{bring-stuck, bring-load}
 use borrow.Author.Needs.{needs}
 use Rattle.upkeep.proofs.renewal.bring_in.Statement.{statement}
 use Rattle.upkeep.proofs.renewal.bring_in.Tie as tie
-use Rattle.upkeep.proofs.renewal.bring_in.Reads as reads
-use Rattle.upkeep.proofs.renewal.bring_in.Lts as lts
-use Rattle.load.proofs.probe.refusal.Reads as refusal-reads
-use Rattle.upkeep.proofs.answer.make.Reads as make-reads
-use Rattle.upkeep.proofs.answer.stuck.Reads as stuck-reads
 
 -- src/renewal.rt:38:9
 refusal-requires : tie.Need-refusal-requires

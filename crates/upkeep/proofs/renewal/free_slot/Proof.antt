@@ -1,8 +1,7 @@
-use mathlib.Core.Path.{_≡_, refl, sym, ap, _∙_}
+use mathlib.Core.Path.{_≡_, sym, ap, _∙_}
 use mathlib.Core.Bool.{not}
 use Prim.Native.Nat.{_+_, _-_, _≤_}
 use native.Mathlib.Omega.{arith}
-use denote.Ref.{now}
 use Rattle.model.specs.Index.{slotUsed}
 use Rattle.model.specs.Passes.{firstFrom}
 use Rattle.laws.proofs.Search.{first-here, first-on, first-end}
@@ -11,9 +10,6 @@ use Rattle.upkeep.proofs.Slots.{slots-few, free-is}
 use borrow.Author.Needs.{needs}
 use Rattle.upkeep.proofs.renewal.free_slot.Statement.{statement}
 use Rattle.upkeep.proofs.renewal.free_slot.Tie as tie
-use Rattle.upkeep.proofs.renewal.free_slot.Reads as reads
-use Rattle.upkeep.proofs.renewal.free_slot.Lts as lts
-use Rattle.index.proofs.entries.used.Reads as used-reads
 
 abbrev Inv-loop : tie.InvT-loop
 Inv-loop volume index slots b₀ b =

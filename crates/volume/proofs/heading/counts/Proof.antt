@@ -3,8 +3,6 @@ use mathlib.Core.Path.{refl}
 use Rattle.model.specs.Geometry.{validCounts}
 use Rattle.volume.proofs.heading.counts.Statement.{statement}
 use Rattle.volume.proofs.heading.counts.Tie as tie
-use Rattle.volume.proofs.heading.counts.Reads as reads
-use Rattle.volume.proofs.heading.counts.Lts as lts
 
 returns : tie.Need-returns
 unfolding validCounts

@@ -3,10 +3,6 @@ use borrow.Author.Needs.{needs}
 use Rattle.volume.proofs.Readings.{geometry-read}
 use Rattle.volume.proofs.heading.geometry.Statement.{statement}
 use Rattle.volume.proofs.heading.geometry.Tie as tie
-use Rattle.volume.proofs.heading.geometry.Reads as reads
-use Rattle.volume.proofs.heading.geometry.Lts as lts
-use Rattle.codec.proofs.field.byte.Reads as byte-reads
-use Rattle.codec.proofs.field.u32_at.Reads as u32-at-reads
 
 byte-requires : tie.Need-byte-requires
 byte-requires c κs = search needs

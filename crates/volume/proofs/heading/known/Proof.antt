@@ -2,9 +2,6 @@
 use borrow.Author.Needs.{needs}
 use Rattle.volume.proofs.heading.known.Statement.{statement}
 use Rattle.volume.proofs.heading.known.Tie as tie
-use Rattle.volume.proofs.heading.known.Reads as reads
-use Rattle.volume.proofs.heading.known.Lts as lts
-use Rattle.volume.proofs.heading.headed.Reads as headed-reads
 
 headed-requires : tie.Need-headed-requires
 headed-requires c κs = search needs

@@ -4,8 +4,6 @@ use mathlib.Core.Path.{sym, ap}
 use Rattle.model.specs.Geometry.{magic}
 use Rattle.volume.proofs.heading.magic_bytes.Statement.{statement}
 use Rattle.volume.proofs.heading.magic_bytes.Tie as tie
-use Rattle.volume.proofs.heading.magic_bytes.Reads as reads
-use Rattle.volume.proofs.heading.magic_bytes.Lts as lts
 
 -- src/heading.rt:18:27
 enum-told : tie.Need-enum-told

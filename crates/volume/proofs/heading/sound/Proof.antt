@@ -4,10 +4,6 @@ use denote.Ref.{now}
 use Rattle.volume.proofs.Readings.{known-read}
 use Rattle.volume.proofs.heading.sound.Statement.{statement}
 use Rattle.volume.proofs.heading.sound.Tie as tie
-use Rattle.volume.proofs.heading.sound.Reads as reads
-use Rattle.volume.proofs.heading.sound.Lts as lts
-use Rattle.volume.proofs.heading.size.Reads as size-reads
-use Rattle.volume.proofs.heading.counts.Reads as counts-reads
 
 size-requires : tie.Need-size-requires
 size-requires c κs = search needs

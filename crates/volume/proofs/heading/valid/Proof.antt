@@ -5,11 +5,6 @@ use borrow.Author.Tests.{not-true, not-false}
 use Rattle.volume.proofs.Readings.{unknown-read}
 use Rattle.volume.proofs.heading.valid.Statement.{statement}
 use Rattle.volume.proofs.heading.valid.Tie as tie
-use Rattle.volume.proofs.heading.valid.Reads as reads
-use Rattle.volume.proofs.heading.valid.Lts as lts
-use Rattle.volume.proofs.heading.geometry.Reads as geometry-reads
-use Rattle.volume.proofs.heading.known.Reads as known-reads
-use Rattle.volume.proofs.heading.sound.Reads as sound-reads
 
 known-requires : tie.Need-known-requires
 known-requires c κs = search needs

@@ -5,11 +5,6 @@ use denote.Ref.{now}
 use Rattle.volume.proofs.Fresh.{make-refused, make-fits, make-done}
 use Rattle.volume.proofs.make.make_under.Statement.{statement}
 use Rattle.volume.proofs.make.make_under.Tie as tie
-use Rattle.volume.proofs.make.make_under.Reads as reads
-use Rattle.volume.proofs.make.make_under.Lts as lts
-use Rattle.volume.proofs.heading.counts.Reads as counts-reads
-use Rattle.volume.proofs.heading.size.Reads as size-reads
-use Rattle.volume.proofs.make.write.Reads as write-reads
 
 counts-requires : tie.Need-counts-requires
 counts-requires c κs = search needs

@@ -5,12 +5,6 @@ use Rattle.model.specs.Bytes.{splice}
 use Rattle.volume.proofs.Fresh.{fresh}
 use Rattle.volume.proofs.make.write.Statement.{statement}
 use Rattle.volume.proofs.make.write.Tie as tie
-use Rattle.volume.proofs.make.write.Reads as reads
-use Rattle.volume.proofs.make.write.Lts as lts
-use Rattle.codec.proofs.field.put_u32.Reads as put-u32-reads
-use Rattle.codec.proofs.part.fill.Reads as fill-reads
-use Rattle.codec.proofs.part.put.Reads as put-reads
-use Rattle.volume.proofs.heading.magic_bytes.Reads as magic-bytes-reads
 
 mul-slots : tie.Need-mul-slots
 mul-slots c = search needs

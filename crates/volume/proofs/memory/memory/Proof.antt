@@ -3,9 +3,6 @@ use borrow.Author.Needs.{needs}
 use Rattle.model.specs.State.{validMemory}
 use Rattle.volume.proofs.memory.memory.Statement.{statement}
 use Rattle.volume.proofs.memory.memory.Tie as tie
-use Rattle.volume.proofs.memory.memory.Reads as reads
-use Rattle.volume.proofs.memory.memory.Lts as lts
-use Rattle.volume.proofs.memory.frames.Reads as frames-reads
 
 frames-requires : tie.Need-frames-requires
 frames-requires c κs = search needs

@@ -3,10 +3,6 @@ use borrow.Author.Needs.{needs}
 use Rattle.model.specs.Geometry.{item}
 use Rattle.volume.proofs.place.note.Statement.{statement}
 use Rattle.volume.proofs.place.note.Tie as tie
-use Rattle.volume.proofs.place.note.Reads as reads
-use Rattle.volume.proofs.place.note.Lts as lts
-use Rattle.volume.proofs.place.note_slot.Reads as note-slot-reads
-use Rattle.volume.proofs.place.part.Reads as part-reads
 
 note-slot-requires : tie.Need-note-slot-requires
 note-slot-requires c κs = search needs

@@ -3,10 +3,6 @@ use borrow.Author.Needs.{needs}
 use Rattle.model.specs.Geometry.{item}
 use Rattle.volume.proofs.place.page.Statement.{statement}
 use Rattle.volume.proofs.place.page.Tie as tie
-use Rattle.volume.proofs.place.page.Reads as reads
-use Rattle.volume.proofs.place.page.Lts as lts
-use Rattle.volume.proofs.place.page_at.Reads as page-at-reads
-use Rattle.volume.proofs.place.part.Reads as part-reads
 
 page-at-requires : tie.Need-page-at-requires
 page-at-requires c κs = search needs

@@ -4,8 +4,6 @@ use mathlib.Core.Path.{refl}
 use Rattle.laws.proofs.Parts.{part-lent}
 use Rattle.volume.proofs.place.part.Statement.{statement}
 use Rattle.volume.proofs.place.part.Tie as tie
-use Rattle.volume.proofs.place.part.Reads as reads
-use Rattle.volume.proofs.place.part.Lts as lts
 
 add-end : tie.Need-add-end
 add-end c = search needs

@@ -3,10 +3,6 @@ use borrow.Author.Needs.{needs}
 use Rattle.model.specs.Geometry.{item}
 use Rattle.volume.proofs.place.record.Statement.{statement}
 use Rattle.volume.proofs.place.record.Tie as tie
-use Rattle.volume.proofs.place.record.Reads as reads
-use Rattle.volume.proofs.place.record.Lts as lts
-use Rattle.volume.proofs.place.part.Reads as part-reads
-use Rattle.volume.proofs.place.log_slot.Reads as log-slot-reads
 
 log-slot-requires : tie.Need-log-slot-requires
 log-slot-requires c κs = search needs

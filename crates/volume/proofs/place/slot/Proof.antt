@@ -3,10 +3,6 @@ use borrow.Author.Needs.{needs}
 use Rattle.model.specs.Geometry.{item}
 use Rattle.volume.proofs.place.slot.Statement.{statement}
 use Rattle.volume.proofs.place.slot.Tie as tie
-use Rattle.volume.proofs.place.slot.Reads as reads
-use Rattle.volume.proofs.place.slot.Lts as lts
-use Rattle.volume.proofs.place.part.Reads as part-reads
-use Rattle.volume.proofs.place.slot_at.Reads as slot-at-reads
 
 slot-at-requires : tie.Need-slot-at-requires
 slot-at-requires c κs = search needs

@@ -4,10 +4,6 @@ use native.Mathlib.Omega.{arith}
 use borrow.Author.Needs.{needs}
 use Rattle.volume.proofs.ring.slot_of.Statement.{statement}
 use Rattle.volume.proofs.ring.slot_of.Tie as tie
-use Rattle.volume.proofs.ring.slot_of.Reads as reads
-use Rattle.volume.proofs.ring.slot_of.Lts as lts
-use Rattle.volume.proofs.ring.before.Reads as before-reads
-use Rattle.volume.proofs.ring.turned.Reads as turned-reads
 
 before-requires : tie.Need-before-requires
 before-requires c κs = search needs

@@ -4,8 +4,6 @@ use native.Mathlib.Nat.{mod-lt, mod-eq-of-lt}
 use borrow.Author.Needs.{needs}
 use Rattle.volume.proofs.ring.turned.Statement.{statement}
 use Rattle.volume.proofs.ring.turned.Tie as tie
-use Rattle.volume.proofs.ring.turned.Reads as reads
-use Rattle.volume.proofs.ring.turned.Lts as lts
 
 rem-result : tie.Need-rem-result
 rem-result c = search needs
