@@ -263,6 +263,14 @@ docs-check:
 	@python3 tools/documents.py
 	@python3 tools/mutants.py --texts
 
+# make vectors-check      the sums by products are vectors in the library: another shape of theirs costs half the speed
+.PHONY: vectors-check
+# a record, a note and an image's four parts of 64 bytes, each with two weights, 16 bytes a product
+PRODUCTS = $$(( 2 * (64 + 16 + 4 * 64) / 16 ))
+vectors-check: library
+	@found=$$(objdump -d $(LIBRARY) | grep -c pmaddwd); test $$found -ge $(PRODUCTS) || \
+	    { echo "of $(PRODUCTS) products by pmaddwd the library has $$found: see docs/PERFORMANCE.md"; exit 1; }
+
 # make reference-test     the second implementation: its tests, and its own histories against its own abstract log
 .PHONY: reference-test
 reference-test:

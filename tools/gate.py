@@ -35,6 +35,7 @@ AFTER = [
     ("the lesson and the bundle: built twice, unpacked and used by itself", make("dist-check")),
     ("the second implementation: tests and abstract log", make("reference-test")),
     ("the C functions against the second implementation", make("against")),
+    ("the sums by products are vectors in the library", make("vectors-check")),
     ("inspection and cycles of calls against the peers in C", make("bench-check")),
     ("scripts through both implementations, 20 seconds", make("fuzz", "FUZZ_SECONDS=20", "FUZZ_SEED=1")),
 ]

@@ -202,7 +202,8 @@ def try_proofs(crate, to):
     if status == 0:
         return [], ""
     for path, text in errors:
-        if BROKEN.search(path) and not NOT_READ.search(text):
+        # what follows the first line is advice, which may say of a name that it is not in scope there
+        if BROKEN.search(path) and not NOT_READ.search(text.split("\n")[0]):
             proof = Path(path)
             return [f"{proof.parts[proof.parts.index('proofs') - 1]}: {proof.stem} {text.split(':')[0]}"], ""
         return None, f"{path}: {text}"

@@ -1,13 +1,13 @@
 // Begin: the first format of a blank page.
 ghost use mathlib.Core.Path.{_≡_};
 ghost use mathlib.Core.Bool.{true};
-ghost use mathlib.Core.List.{List};
+ghost use mathlib.Core.List.{List, []};
 ghost use Prim.Native.Nat.{ℕ, _<_};
 ghost use lib.ListN.{length, replicate};
 ghost use Rattle.model.specs.Tables.{firstOf};
 ghost use Rattle.model.specs.Geometry.{geometryOf, validVolume};
 ghost use Rattle.model.specs.Item.{frameImage};
-ghost use Rattle.model.specs.Refusals.{beginRows, beginTail};
+ghost use Rattle.model.specs.Refusals.{stateRows, beginRows, beginTail};
 ghost use Rattle.model.specs.Outcome.{replyOf};
 ghost use Rattle.model.specs.Calls.{beginOf};
 use crate::limits;
@@ -40,11 +40,11 @@ fn own(s: State, volume: &[u8], g: Geometry, count: usize, page: u32, frame: u32
     rows::first(outside, 3, rows::first(no_frame, 4, table))
 }
 
-// The refusal, the lowest that holds; size is the memory's.
-fn refusal(s: State, volume: &[u8], size: usize, page: u32, frame: u32) -> u32
+// The refusal, the lowest that holds; no is that of the rows 1 and 2, size is the memory's.
+fn refusal(s: State, no: u32, volume: &[u8], size: usize, page: u32, frame: u32) -> u32
+    requires { ⌜ ((m : List ℕ) → length m ≡ size → no ≡ firstOf (stateRows (now volume) m s [])) ⌝ }
     ensures { λ r. ⌜ ((m : List ℕ) → length m ≡ size → r ≡ firstOf (beginRows (now (volume .entry)) m s page frame)) ⌝ }
 {
-    let no = state::refusal::refusal(s, volume, size);
     if no != 0 {
         return no;
     }
@@ -65,12 +65,21 @@ fn format(x: &mut [u8], page: u32, lsn: u32, fill: u8)
 // Begins a blank page in a frame: its format is pending, the frame is dirty, and a page in it whose changes are durable
 // leaves the frame. Ruled out: 12 while the log has room; a page with a pending change that leaves its frame; a refusal
 // that clears the frame.
-pub fn begin(s: State, volume: &[u8], memory: &mut [u8], page: u32, frame: u32, fill: u8) -> Reply
+pub fn begin(
+    s: State,
+    no: u32,
+    volume: &[u8],
+    memory: &mut [u8],
+    page: u32,
+    frame: u32,
+    fill: u8,
+) -> Reply
+    requires { ⌜ no ≡ firstOf (stateRows (now volume) (now memory) s []) ⌝ }
     ensures reply { λ r. ⌜ r ≡ replyOf (beginOf (now (volume .entry)) (now (memory .entry)) s page frame fill) ⌝ }
     ensures memory { λ _.
         ⌜ now (memory .exit) ≡ beginOf (now (volume .entry)) (now (memory .entry)) s page frame fill .memory ⌝ }
 {
-    let no = refusal(s, volume, memory.len(), page, frame);
+    let no = refusal(s, no, volume, memory.len(), page, frame);
     if no != 0 {
         return Reply {
             answer: Answer::Refused(no),

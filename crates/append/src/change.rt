@@ -1,14 +1,14 @@
 // Change: alters a page that a frame holds.
 ghost use mathlib.Core.Path.{_≡_};
 ghost use mathlib.Core.Bool.{true};
-ghost use mathlib.Core.List.{List};
+ghost use mathlib.Core.List.{List, []};
 ghost use Prim.Native.Nat.{ℕ};
 ghost use lib.ListN.{length};
 ghost use Rattle.model.specs.Tables.{firstOf};
 ghost use Rattle.model.specs.Change.{fits, applyChange};
 ghost use Rattle.model.specs.Geometry.{geometryOf, validVolume};
 ghost use Rattle.model.specs.Item.{imageBody};
-ghost use Rattle.model.specs.Refusals.{changeRows, changeTail};
+ghost use Rattle.model.specs.Refusals.{stateRows, changeRows, changeTail};
 ghost use Rattle.model.specs.Outcome.{replyOf};
 ghost use Rattle.model.specs.Effects.{changedImage};
 ghost use Rattle.model.specs.Calls.{changeCall};
@@ -42,11 +42,11 @@ fn own(s: State, volume: &[u8], g: Geometry, page: u32, c: Change) -> u32
     )
 }
 
-// The refusal, the lowest that holds; size is the memory's.
-fn refusal(s: State, volume: &[u8], size: usize, page: u32, c: Change) -> u32
+// The refusal, the lowest that holds; no is that of the rows 1 and 2, size is the memory's.
+fn refusal(s: State, no: u32, volume: &[u8], size: usize, page: u32, c: Change) -> u32
+    requires { ⌜ ((m : List ℕ) → length m ≡ size → no ≡ firstOf (stateRows (now volume) m s [])) ⌝ }
     ensures { λ r. ⌜ ((m : List ℕ) → length m ≡ size → r ≡ firstOf (changeRows (now (volume .entry)) m s page c)) ⌝ }
 {
-    let no = state::refusal::refusal(s, volume, size);
     if no != 0 {
         return no;
     }
@@ -68,18 +68,20 @@ fn alter(x: &mut [u8], lsn: u32, c: Change, payload: [u8; 44])
 // Ruled out: a page changed that no frame holds; a record that skips the page's pending ones.
 pub fn change(
     s: State,
+    no: u32,
     volume: &[u8],
     memory: &mut [u8],
     page: u32,
     change: Change,
     payload: [u8; 44],
 ) -> Reply
+    requires { ⌜ no ≡ firstOf (stateRows (now volume) (now memory) s []) ⌝ }
     ensures reply { λ r.
         ⌜ r ≡ replyOf (changeCall (now (volume .entry)) (now (memory .entry)) s page change payload) ⌝ }
     ensures memory { λ _.
         ⌜ now (memory .exit) ≡ changeCall (now (volume .entry)) (now (memory .entry)) s page change payload .memory ⌝ }
 {
-    let no = refusal(s, volume, memory.len(), page, change);
+    let no = refusal(s, no, volume, memory.len(), page, change);
     if no != 0 {
         return Reply {
             answer: Answer::Refused(no),

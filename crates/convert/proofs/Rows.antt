@@ -5,7 +5,7 @@ use mathlib.Core.List.{List, [], _∷_}
 use Prim.Native.Nat.{ℕ, _+_, _≤_}
 use native.Mathlib.Omega.{arith}
 use lib.Dec.{eqb, ltb}
-use lib.ListN.{length, replicate, length-replicate}
+use lib.ListN.{length}
 use borrow.Author.Tests.{eqb-false}
 use Rattle.laws.proofs.Places.{valid-facts}
 use Rattle.laws.proofs.Search.{found-some}
@@ -22,19 +22,14 @@ use Rattle.model.specs.declared.state.State.{State}
 abbrev pub headRows : ℕ → List ℕ → List ℕ → State → List Row → List Row
 headRows tag v m s rows = (not (headed tag v), 1) ∷ stateRows v m s rows
 
--- the heading is another
-pub other : (t h : Bool) (n : ℕ) → t ≡ h → not t ≡ true → 1 ≡ cond (not h) 1 n
-other t h n e f = rw (sym e ∙ refl) (rw f refl)
-
--- the heading is the call's own
-pub own : (t h : Bool) (n k : ℕ) → t ≡ h → not t ≡ false → k ≡ n → k ≡ cond (not h) 1 n
-own t h n k e f ek = ek ∙ rw (sym e) (rw f refl)
+-- the rows 1 and 2 behind the heading's
+pub head-rows : (tag : ℕ) (v m : List ℕ) (s : State) (n k : ℕ) → n ≡ firstOf (stateRows v m s []) → k ≡ cond (not (headed tag v)) 1 n
+    → k ≡ firstOf (headRows tag v m s [])
+head-rows tag v m s n k e ek = ek ∙ rw e
 
 -- where the rows that all three have refuse nothing the volume is valid
-pub valid-volume : (tag : ℕ) (v : List ℕ) (s : State) (size n : ℕ) → ((m : List ℕ) → length m ≡ size → n ≡ firstOf (headRows tag v m s []))
-    → n ≡ 0 → validVolume v ≡ true
-valid-volume tag v s size n h z =
-    ready-behind (not (headed tag v)) v (replicate size 0) s [] (sym (h (replicate size 0) (length-replicate size 0)) ∙ z) .1 .volume
+pub valid-volume : (tag : ℕ) (v m : List ℕ) (s : State) (n : ℕ) → n ≡ firstOf (headRows tag v m s []) → n ≡ 0 → validVolume v ≡ true
+valid-volume tag v m s n h z = ready-behind (not (headed tag v)) v m s [] (sym h ∙ z) .1 .volume
 
 pub heading-fits : (v : List ℕ) → validVolume v ≡ true → 4 ≤ length v
 heading-fits v ok = omega (arith, valid-facts v ok .size)

@@ -1,5 +1,8 @@
 // Force: stores the oldest pending record, as its 64 bytes lie in memory, in the slot of its number.
 ghost use mathlib.Core.Path.{_≡_};
+ghost use mathlib.Core.List.{[]};
+ghost use Rattle.model.specs.Tables.{firstOf};
+ghost use Rattle.model.specs.Refusals.{stateRows};
 ghost use Rattle.model.specs.Outcome.{replyOf, volumeAfter};
 ghost use Rattle.model.specs.Calls.{forceOf};
 use codec::field;
@@ -15,13 +18,13 @@ use volume::place;
 // Stores the oldest pending record and lowers the pending count; Nothing where none is pending.
 // Ruled out: Nothing with records pending; a later record stored, or only the count lowered; an entry left with its old
 // durable number.
-pub fn force(s: State, volume: &mut [u8], memory: &[u8]) -> Reply
+pub fn force(s: State, no: u32, volume: &mut [u8], memory: &[u8]) -> Reply
+    requires { ⌜ no ≡ firstOf (stateRows (now volume) (now memory) s []) ⌝ }
     ensures reply { λ r. ⌜ r ≡ replyOf (forceOf (now (volume .entry)) (now (memory .entry)) s) ⌝ }
     ensures volume { λ _.
         ⌜ now (volume .exit)
         ≡ volumeAfter (now (volume .entry)) (forceOf (now (volume .entry)) (now (memory .entry)) s .stored) ⌝ }
 {
-    let no = state::refusal::refusal(s, volume, memory.len());
     if no != 0 {
         return Reply {
             answer: Answer::Refused(no),

@@ -1,21 +1,23 @@
 -- Laws of the index by columns: a column is read and set where the index is, and what records and notes leave of each column.
 use Prim.Native.Nat.{ℕ, zero, suc, _+_, _-_, _≤_, _<_}
 use mathlib.Core.Path.{_≡_, refl, sym, ap, _∙_}
-use mathlib.Core.Bool.{Bool, true, false, cond, _&&_, _||_}
+use mathlib.Core.Bool.{Bool, true, false, cond, not, _&&_, _||_}
 use mathlib.Core.List.{List, [], _∷_, map}
 use native.Mathlib.Numerals.{add-one}
 use native.Mathlib.Omega.{arith}
 use lib.Dec.{eqb, leb}
 use lib.ListN.{length, drop, getD, set, take, replicate, length-map, length-set, length-replicate, drop-of-length-le, List·getD-map, List·getD-eq-default}
 use lib.Seq.{drop-cons, map-set-same, take-suc-set, take-suc, take-all}
-use borrow.Author.Tests.{le-leb}
-use Rattle.laws.proofs.Tables.{byCases, every-same}
+use borrow.Author.Tests.{eq-eqb, ne-eqb, le-leb}
+use Rattle.laws.proofs.Tables.{byCases, every-same, or-right}
 use Rattle.model.specs.Tables.{every}
 use Rattle.model.specs.Item.{isWritten}
 use Rattle.model.specs.Index.{emptyEntry, emptyIndex, entryRow, withNote, settled, enterNote, slotUsed}
 use Rattle.model.specs.Scan.{logRecord, noteRecord, logIndex, runIndex, noteIndex}
-use Rattle.model.specs.declared.{geometry.Geometry.Geometry, item.Note.Note, state.Entry.Entry}
-use Rattle.index.specs.Columns.{lasts, durables, writtens, slotsIn, backups, Columns, Blank, columnRow, columnsOrdered, slotIn, Wide, Unwritten}
+use Rattle.model.specs.declared.geometry.Geometry.{Geometry}
+use Rattle.model.specs.declared.item.Note.{Note}
+use Rattle.model.specs.declared.state.Entry.{Entry}
+use Rattle.index.specs.Columns.{lasts, durables, writtens, slotsIn, backups, Noted, Columns, Blank, columnRow, columnsOrdered, slotIn, Wide, Unwritten}
 
 -- ---- a column
 
@@ -32,6 +34,22 @@ unfolding slotIn slotUsed
 slot-in b [] = refl
 slot-in b (e ∷ l) = ap (λ (t : Bool). eqb (e .slot) b || t) (slot-in b l)
 
+-- nothing is left that could decide
+pub or-none : (found rest : Bool) → rest ≡ false → found ≡ (found || rest)
+or-none true rest e = refl
+or-none false rest e = sym e
+
+-- a count is not 0 where something was counted
+counts : (n d : ℕ) (t : Bool) → d ≡ cond t 1 0 → not (eqb (n + d) 0) ≡ (not (eqb n 0) || t)
+counts n d true e =
+    let k : d ≡ 1 = e in
+    let z : eqb (n + d) 0 ≡ false = ne-eqb (n + d) 0 (λ q. omega arith) in
+    rw z (sym (or-right (not (eqb n 0)) refl))
+counts n d false e =
+    let k : d ≡ 0 = e in
+    let z : n + d ≡ n = omega arith in
+    rw z (or-none (not (eqb n 0)) false refl)
+
 module _ (b : ℕ) (l : List ℕ) (i : ℕ) where
   -- of what is left of the column behind a row that was looked at
   pub in-next : (found : Bool) → i < length l
@@ -43,6 +61,11 @@ module _ (b : ℕ) (l : List ℕ) (i : ℕ) where
   pub in-end : length l ≤ i → slotIn b (drop i l) ≡ false
   unfolding slotIn
   in-end h = rw (drop-of-length-le l h)
+
+  -- a row that is the slot's is counted, and then the count is not 0
+  pub counted-next : (n d : ℕ) → i < length l → d ≡ cond (eqb (getD l i 0) b) 1 0
+      → (not (eqb (n + d) 0) || slotIn b (drop (i + 1) l)) ≡ (not (eqb n 0) || slotIn b (drop i l))
+  counted-next n d h e = rw (counts n d (eqb (getD l i 0) b) e) (sym (in-next (not (eqb n 0)) h))
 
 -- ---- rows
 

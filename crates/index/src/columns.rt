@@ -19,21 +19,30 @@ fn wide(x: u8) -> u32
     x as u32
 }
 
-// The slot is in the column. No turn of the loop waits for a test: the compiler makes vectors of it.
+// 1 where the test holds, to be counted.
+fn one(t: bool) -> u8
+    ensures { λ r. ⌜ (r ≡ cond t 1 0) × (r ≤ 1) ⌝ }
+{
+    if t { 1 } else { 0 }
+}
+
+// The slot is in the column: a count in a byte and 64 rows, so that the compiler makes a few wide compares of it.
 fn used(slots: &[u8], slot: u32) -> bool
+    requires { ⌜ length (now slots) ≡ 64 ⌝ }
     ensures { λ r. ⌜ r ≡ slotIn slot (now (slots .entry)) ⌝ }
 {
-    let mut found = false;
+    let mut n: u8 = 0;
     let mut i: usize = 0;
-    while i < slots.len() {
-        found = found | (wide(slots[i]) == slot);
+    while i < 64 {
+        n = n + one(wide(slots[i]) == slot);
         i += 1;
     }
-    found
+    n != 0
 }
 
 // The slot, if it is one, is in the column: a written note, which names none, takes no search.
 pub fn taken(slots: &[u8], slot: u32) -> bool
+    requires { ⌜ length (now slots) ≡ 64 ⌝ }
     ensures { λ r. ⌜ r ≡ (leb 1 slot && slotIn slot (now (slots .entry))) ⌝ }
 {
     if slot == 0 {

@@ -1,9 +1,11 @@
 // The scan of a volume's log and notes into the page recovery index, for any bytes and without memory or state.
 ghost use mathlib.Core.Path.{_≡_};
 ghost use mathlib.Core.Bool.{true};
-ghost use lib.ListN.{replicate};
-ghost use Rattle.model.specs.Geometry.{knownMagic, geometryOf};
-ghost use Rattle.index.specs.Columns.{Blank, Columns};
+ghost use Prim.Native.Nat.{_≤_};
+ghost use lib.ListN.{length, replicate};
+ghost use Rattle.model.specs.Geometry.{knownMagic, geometryOf, validVolume};
+ghost use Rattle.index.specs.Columns.{Blank, Columns, Wide};
+ghost use Rattle.index.specs.Filled.{Filled, sweptCounts};
 ghost use Rattle.index.specs.Scanned.{scanRefusal, columnIndex, foundOf, countsOf, goneIn, scannedOf};
 
 pub mod columns;
@@ -11,9 +13,13 @@ pub mod entries;
 pub mod log;
 pub mod notes;
 
+use crate::log::Swept;
+use codec::part;
 use model::geometry::Geometry;
 use model::state::Entry;
+use section::guess;
 use volume::heading;
+use volume::ring;
 
 // What a scan counts: 0 or the refusal, the log's run start, and the counts of durable log records and of notes.
 pub struct Counts {
@@ -21,6 +27,12 @@ pub struct Counts {
     pub first: u64,
     pub durable: u32,
     pub notes: u32,
+}
+
+// What one pass gives: whether it tells what the scan is, and what it then counts.
+pub struct Pass {
+    pub known: bool,
+    pub counts: Counts,
 }
 
 // What a scan gives: its counts with the log's run start, and the index.
@@ -57,6 +69,117 @@ fn refused(n: u32) -> Counts
     }
 }
 
+// Sets every number of a column to 0.
+fn clear(column: &mut [u32])
+    ensures { λ _. ⌜ now (column .exit) ≡ replicate (length (now (column .entry))) 0 ⌝ }
+{
+    let mut i: usize = 0;
+    while i < column.len() {
+        column[i] = 0;
+        i += 1;
+    }
+}
+
+// The columns as they are before a scan.
+fn blank(last: &mut [u32], written: &mut [u32], slots: &mut [u8], backup: &mut [u32])
+    requires { ⌜ Wide (now last) (now written) (now slots) (now backup) ⌝ }
+    ensures last { λ _. ⌜ now (last .exit) ≡ replicate 64 0 ⌝ }
+    ensures noted { λ _. ⌜ Blank (now (written .exit)) (now (slots .exit)) (now (backup .exit)) ⌝ }
+{
+    clear(last);
+    clear(written);
+    part::fill(slots, 0);
+    clear(backup);
+}
+
+// What clean sweeps of the log and of the notes count.
+fn total(g: Geometry, records: Swept, numbers: Swept) -> Counts
+    requires { ⌜ (records .first ≤ records .next) × (1 ≤ records .next) × (1 ≤ numbers .next) ⌝ }
+    ensures { λ r. ⌜ r ≡ sweptCounts g (records .first) (records .next) (numbers .next) ⌝ }
+{
+    let held = records.next - records.first;
+    Counts {
+        refusal: 0,
+        first: guess::begun(ring::ring(g), records.first, held),
+        durable: records.next - 1,
+        notes: numbers.next - 1,
+    }
+}
+
+// Scans the log and the notes of a valid volume in one pass each, into columns. What the columns hold where that does
+// not tell means nothing.
+fn fast(
+    volume: &[u8],
+    g: Geometry,
+    last: &mut [u32],
+    written: &mut [u32],
+    slots: &mut [u8],
+    backup: &mut [u32],
+) -> Pass
+    requires { ⌜ (validVolume (now volume) ≡ true) × (g ≡ geometryOf (now volume)) ⌝ }
+    requires { ⌜ now last ≡ replicate 64 0 ⌝ }
+    requires { ⌜ Blank (now written) (now slots) (now backup) ⌝ }
+    ensures known { λ r. ⌜ (r .known ≡ true → Filled (now (volume .entry)) (r .counts) (now (last .exit))
+        (now (written .exit)) (now (slots .exit)) (now (backup .exit))) ⌝ }
+    ensures wide { λ r. ⌜ Wide (now (last .exit)) (now (written .exit)) (now (slots .exit)) (now (backup .exit)) ⌝ }
+{
+    let no = refused(18);
+    let unknown = Pass {
+        known: false,
+        counts: no,
+    };
+    let records = log::sweep(volume, g, last);
+    if !records.clean {
+        return unknown;
+    }
+    let numbers = notes::sweep(volume, g, records, written, slots, backup);
+    if !numbers.clean {
+        return unknown;
+    }
+    if !columns::ordered(last, written, slots, backup, g.pages as usize) {
+        return Pass {
+            known: true,
+            counts: no,
+        };
+    }
+    Pass {
+        known: true,
+        counts: total(g, records, numbers),
+    }
+}
+
+// The same in two passes each: where the runs lie is found first. This tells of every valid volume.
+fn slow(
+    volume: &[u8],
+    g: Geometry,
+    last: &mut [u32],
+    written: &mut [u32],
+    slots: &mut [u8],
+    backup: &mut [u32],
+) -> Counts
+    requires { ⌜ (validVolume (now volume) ≡ true) × (g ≡ geometryOf (now volume)) ⌝ }
+    requires { ⌜ now last ≡ replicate 64 0 ⌝ }
+    requires { ⌜ Blank (now written) (now slots) (now backup) ⌝ }
+    ensures { λ r. ⌜ Filled (now (volume .entry)) r (now (last .exit)) (now (written .exit)) (now (slots .exit))
+        (now (backup .exit)) ⌝ }
+{
+    let records = log::run(volume, g);
+    if !log::scan(volume, g, records, last) {
+        return refused(17);
+    }
+    let numbers = notes::run(volume, g);
+    let kept = notes::scan(volume, g, records, numbers, written, slots, backup);
+    if !(kept & columns::ordered(last, written, slots, backup, g.pages as usize)) {
+        return refused(18);
+    }
+    Counts {
+        refusal: 0,
+        first: records.first,
+        durable: records.count,
+        notes: numbers.count,
+    }
+}
+
 // Scans a volume with a known heading and this geometry into columns: refused 1, 17 or 18, or the counts and the
 // columns that its log and notes give.
 fn fill(
@@ -79,21 +202,13 @@ fn fill(
     if !heading::sound(volume, g) {
         return refused(1);
     }
-    let records = log::run(volume, g);
-    if !log::scan(volume, g, records, last) {
-        return refused(17);
+    let once = fast(volume, g, last, written, slots, backup);
+    if once.known {
+        let counts = once.counts;
+        return counts;
     }
-    let numbers = notes::run(volume, g);
-    let kept = notes::scan(volume, g, records, numbers, written, slots, backup);
-    if !(kept & columns::ordered(last, written, slots, backup, g.pages as usize)) {
-        return refused(18);
-    }
-    Counts {
-        refusal: 0,
-        first: records.first,
-        durable: records.count,
-        notes: numbers.count,
-    }
+    blank(last, written, slots, backup);
+    slow(volume, g, last, written, slots, backup)
 }
 
 // The same of any bytes: the heading is compared before a count is read.

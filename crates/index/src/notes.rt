@@ -2,11 +2,20 @@
 ghost use mathlib.Core.Path.{_≡_};
 ghost use mathlib.Core.Bool.{true, _||_};
 ghost use lib.Dec.{eqb, ltb};
+ghost use lib.ListN.{length};
 ghost use Rattle.model.specs.Scan.{logRecord};
 ghost use Rattle.index.specs.Columns.{Blank, Noted, earlierEntry};
+ghost use Rattle.index.specs.NotesPassed.{NotesPassed};
 ghost use Rattle.index.specs.Sections.{Sized, noteSection, logRun, noteRun, noteAfter, noteAgrees, notedIndex, notesKept};
+ghost use Rattle.index.specs.Swept.{Held, NotesSwept};
+ghost use Rattle.section.specs.Sweep.{Guessed};
+
+mod entering;
+
 use crate::columns;
 use crate::entries;
+use crate::log::Passed;
+use crate::log::Swept;
 use codec::field;
 use item::note;
 use model::geometry::Geometry;
@@ -14,6 +23,9 @@ use model::item::Note;
 use model::state::Entry;
 use section::Run;
 use section::Section;
+use section::guess;
+use section::guess::Guess;
+use sums::products;
 use volume::place;
 use volume::ring;
 
@@ -130,4 +142,99 @@ pub fn scan(
         slot = section::after(slot, s.slots);
     }
     section::ends(volume, s, run)
+}
+
+// Passes over the notes from a guessed start on, after a log that a sweep found, into the columns: as far as they are
+// whole.
+fn pass(
+    volume: &[u8],
+    g: Geometry,
+    log: Swept,
+    u: Guess,
+    written: &mut [u32],
+    slots: &mut [u8],
+    backup: &mut [u32],
+) -> Passed
+    requires { ⌜ Sized g (now volume) ⌝ }
+    requires { ⌜ Held g (now volume) (log .first) (log .next) ⌝ }
+    requires { ⌜ Guessed (noteSection g) u ⌝ }
+    requires { ⌜ Blank (now written) (now slots) (now backup) ⌝ }
+    ensures passed { λ r. ⌜ (r .clean ≡ true
+        → NotesPassed g (now (volume .entry)) (u .first) (r .next) (now (written .exit)) (now (slots .exit))
+        (now (backup .exit))) ⌝ }
+    ensures wide { λ r. ⌜ (length (now (written .exit)) ≡ 64) × (length (now (slots .exit)) ≡ 64)
+        × (length (now (backup .exit)) ≡ 64) ⌝ }
+{
+    let most = g.slots;
+    let l = entering::find_log(g, log);
+    let at = place::note_at(g, 1);
+    let stop = at + 16 * (g.notes as usize);
+    let past = u.first + g.notes;
+    let mut from = at + 16 * (u.slot as usize);
+    let mut n = u.first;
+    while n < past {
+        let end = from + 16;
+        let r = &volume[from..end];
+        if !products::note_holds(r) {
+            return Passed {
+                next: n,
+                clean: true,
+            };
+        }
+        let e = entering::fields(r);
+        if !entering::belongs(volume, g, log, l, e, n, g.pages) {
+            return Passed {
+                next: n,
+                clean: false,
+            };
+        }
+        if !entering::enter(written, slots, backup, most, e) {
+            return Passed {
+                next: n,
+                clean: false,
+            };
+        }
+        from = guess::onward(end, at, stop);
+        n += 1;
+    }
+    Passed {
+        next: n,
+        clean: true,
+    }
+}
+
+// Sweeps the notes after a log that a sweep found, in one pass, into the columns: clean where these are all notes and
+// keep the restart rule, but for what is judged at the end. Where it is not clean, nothing is known of them.
+pub fn sweep(
+    volume: &[u8],
+    g: Geometry,
+    log: Swept,
+    written: &mut [u32],
+    slots: &mut [u8],
+    backup: &mut [u32],
+) -> Swept
+    requires { ⌜ Sized g (now volume) ⌝ }
+    requires { ⌜ Held g (now volume) (log .first) (log .next) ⌝ }
+    requires { ⌜ Blank (now written) (now slots) (now backup) ⌝ }
+    ensures swept { λ r. ⌜ (r .clean ≡ true
+        → NotesSwept g (now (volume .entry)) (r .next) (now (written .exit)) (now (slots .exit)) (now (backup .exit))) ⌝ }
+    ensures wide { λ r. ⌜ (length (now (written .exit)) ≡ 64) × (length (now (slots .exit)) ≡ 64)
+        × (length (now (backup .exit)) ≡ 64) ⌝ }
+{
+    let s = locate(g);
+    let u = guess::guess_start(volume, s);
+    let p = pass(volume, g, log, u, written, slots, backup);
+    let next = p.next;
+    if !p.clean {
+        return Swept {
+            first: u.first,
+            next,
+            clean: false,
+        };
+    }
+    Swept {
+        first: u.first,
+        next,
+        clean: guess::closed(volume, s, u.first, next - u.first),
+    }
 }

@@ -4,3 +4,5 @@ pub mod Changes
 pub mod Records
 pub mod Covers
 pub mod Builds
+pub mod Tails
+pub mod Words

@@ -1,11 +1,12 @@
 // A log record: its fields read, its layout judged, its change made on a body, its bytes built.
 ghost use mathlib.Core.Path.{_≡_};
-ghost use mathlib.Core.Bool.{true};
-ghost use Prim.Native.Nat.{_+_, _-_, _≤_, _<_};
+ghost use mathlib.Core.Bool.{true, _&&_};
+ghost use Prim.Native.Nat.{_+_, _-_, _/_, _%_, _≤_, _<_};
+ghost use lib.Dec.{eqb};
 ghost use lib.ListN.{length};
 ghost use Rattle.item.specs.Record.{headOf};
 ghost use Rattle.model.specs.Bytes.{part, allZero, splice};
-ghost use Rattle.model.specs.Change.{fits};
+ghost use Rattle.model.specs.Change.{fits, changeFits};
 ghost use Rattle.model.specs.Item.{recordOf, recordLayout, changeIn, applyRecord, recordFor, padded, encodeChange};
 use crate::change;
 use codec::field;
@@ -156,4 +157,71 @@ pub fn encode(dst: &mut [u8], lsn: u32, prev: u32, page: u32, c: Change, payload
     fields(dst, e);
     pad(dst, payload, n);
     checksum::set(dst, 60);
+}
+
+// The bytes from a place to 60 are zero, looked at one by one.
+fn short(r: &[u8], from: usize) -> bool
+    requires { ⌜ (length (now r) ≡ 64) × (from ≤ 60) ⌝ }
+    ensures { λ b. ⌜ b ≡ allZero (part (now (r .entry)) from (60 - from)) ⌝ }
+{
+    let mut i = from;
+    while i < 60 {
+        if r[i] != 0 {
+            return false;
+        }
+        i += 1;
+    }
+    true
+}
+
+// The payload past n bytes is zero: eight bytes a turn, and the last eight, some of which may have been read before.
+fn tail(r: &[u8], n: usize) -> bool
+    requires { ⌜ (length (now r) ≡ 64) × (n ≤ 44) ⌝ }
+    ensures { λ b. ⌜ b ≡ allZero (part (now (r .entry)) (16 + n) (44 - n)) ⌝ }
+{
+    let mut i = 16 + n;
+    if 52 < i {
+        return short(r, i);
+    }
+    while i < 52 {
+        if field::eight(r, i) != 0 {
+            return false;
+        }
+        i += 8;
+    }
+    field::eight(r, 52) == 0
+}
+
+// The kind's rule and byte 15, by the number in bytes 12 to 15: offset, fill and byte 15. Of a put and a slide one test
+// does for all three, since a number that is a right offset has no byte above it.
+fn ruled(kind: u32, length: u32, word: u32) -> bool
+    ensures { λ b. ⌜ b ≡ (changeFits kind length (word % 65536) (word / 65536 % 256) && eqb (word / 16777216) 0) ⌝ }
+{
+    if kind == 1 {
+        return (length == 0) & ((word % 65536 == 0) & (word / 16777216 == 0));
+    }
+    if (kind != 2) & (kind != 3) {
+        return false;
+    }
+    if (length == 0) | (44 < length) {
+        return false;
+    }
+    word <= 244 - length
+}
+
+// The layout by words, for the one pass over a log: a function of its own, so that the compiler expands it there.
+pub fn laid_out(r: &[u8]) -> bool
+    requires { ⌜ length (now r) ≡ 64 ⌝ }
+    ensures { λ b. ⌜ b ≡ recordLayout (now (r .entry)) ⌝ }
+{
+    let v = field::four(r, 8);
+    let word = field::four(r, 12);
+    let length = v / 16777216;
+    if !ruled(v / 65536 % 256, length, word) {
+        return false;
+    }
+    if length == 44 {
+        return true;
+    }
+    tail(r, length as usize)
 }

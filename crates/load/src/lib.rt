@@ -4,11 +4,11 @@ pub mod probe;
 pub mod release;
 
 ghost use mathlib.Core.Path.{_≡_};
-ghost use mathlib.Core.List.{List};
+ghost use mathlib.Core.List.{List, []};
 ghost use Prim.Native.Nat.{ℕ, _+_, _≤_};
 ghost use lib.ListN.{length};
 ghost use Rattle.load.specs.Rows.{earlyRows};
-ghost use Rattle.model.specs.Refusals.{loadTail, walkTail};
+ghost use Rattle.model.specs.Refusals.{stateRows, loadTail, walkTail};
 ghost use Rattle.model.specs.Tables.{firstOf};
 ghost use Rattle.model.specs.Bytes.{splice};
 ghost use Rattle.model.specs.Repair.{repairOf, rebuilt};
@@ -50,11 +50,11 @@ fn own(g: Geometry, count: usize, s: State, page: u32, frame: u32) -> u32
     rows::first(outside, 3, rows::first(no_frame, 4, table))
 }
 
-// The refusal without the walk, the lowest that holds; size is the memory's.
-fn refusal(s: State, volume: &[u8], size: usize, page: u32, frame: u32) -> u32
+// The refusal without the walk, the lowest that holds; no is that of the rows 1 and 2, size is the memory's.
+fn refusal(s: State, no: u32, volume: &[u8], size: usize, page: u32, frame: u32) -> u32
+    requires { ⌜ ((m : List ℕ) → length m ≡ size → no ≡ firstOf (stateRows (now volume) m s [])) ⌝ }
     ensures { λ r. ⌜ ((m : List ℕ) → length m ≡ size → r ≡ firstOf (earlyRows (now (volume .entry)) m s page frame)) ⌝ }
 {
-    let no = state::refusal::refusal(s, volume, size);
     let g = heading::geometry(volume);
     let count = memory::frames(size);
     let rest = own(g, count, s, page, frame);
@@ -104,12 +104,13 @@ fn restore(volume: &[u8], memory: &mut [u8], t: Target, frame: u32, w: Walked) -
 // Loads a page; a page in the frame whose changes are durable makes way.
 // Ruled out: a page that was repaired and is left clean (tried); the page put into another frame than the one named
 // (tried); every page blank (tried); every call refused (tried); 19 or 23 where the walk finds a start.
-pub fn load(s: State, volume: &[u8], memory: &mut [u8], page: u32, frame: u32) -> Reply
+pub fn load(s: State, no: u32, volume: &[u8], memory: &mut [u8], page: u32, frame: u32) -> Reply
+    requires { ⌜ no ≡ firstOf (stateRows (now volume) (now memory) s []) ⌝ }
     ensures reply { λ r. ⌜ r ≡ replyOf (loadOf (now (volume .entry)) (now (memory .entry)) s page frame) ⌝ }
     ensures memory { λ _. ⌜ now (memory .exit)
         ≡ loadOf (now (volume .entry)) (now (memory .entry)) s page frame .memory ⌝ }
 {
-    let no = refusal(s, volume, memory.len(), page, frame);
+    let no = refusal(s, no, volume, memory.len(), page, frame);
     if no != 0 {
         return Reply {
             answer: Answer::Refused(no),

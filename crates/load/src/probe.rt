@@ -13,7 +13,9 @@ use volume::heading;
 pub fn refusal(s: State, volume: &[u8], memory: &[u8], page: u32, frame: u32) -> u32
     ensures { λ r. ⌜ r ≡ firstOf (loadRows (now (volume .entry)) (now (memory .entry)) s page frame) ⌝ }
 {
-    let no = crate::refusal(s, volume, memory.len(), page, frame);
+    let size = memory.len();
+    let no = state::refusal::refusal(s, volume, size);
+    let no = crate::refusal(s, no, volume, size, page, frame);
     if no != 0 {
         return no;
     }

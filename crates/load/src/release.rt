@@ -1,7 +1,8 @@
 // Release: a page leaves its frame without being written; its image on disk stays old, and a later Load repairs it.
 ghost use mathlib.Core.Path.{_≡_};
+ghost use mathlib.Core.List.{[]};
 ghost use Rattle.model.specs.Tables.{firstOf};
-ghost use Rattle.model.specs.Refusals.{releaseRows, releaseTail};
+ghost use Rattle.model.specs.Refusals.{stateRows, releaseRows, releaseTail};
 ghost use Rattle.model.specs.Outcome.{replyOf};
 ghost use Rattle.model.specs.Calls.{releaseOf};
 use model::answer::Answer;
@@ -23,11 +24,11 @@ fn own(s: State, g: Geometry, page: u32, f: u32) -> u32
     rows::first(outside, 3, table)
 }
 
-// The refusal, the lowest that holds.
-fn refusal(s: State, volume: &[u8], memory: &[u8], page: u32) -> u32
+// The refusal, the lowest that holds; no is that of the rows 1 and 2.
+fn refusal(s: State, no: u32, volume: &[u8], memory: &[u8], page: u32) -> u32
+    requires { ⌜ no ≡ firstOf (stateRows (now volume) (now memory) s []) ⌝ }
     ensures { λ r. ⌜ r ≡ firstOf (releaseRows (now (volume .entry)) (now (memory .entry)) s page) ⌝ }
 {
-    let no = state::refusal::refusal(s, volume, memory.len());
     let g = heading::geometry(volume);
     let f = frames::holder(s, page);
     let rest = own(s, g, page, f);
@@ -36,10 +37,11 @@ fn refusal(s: State, volume: &[u8], memory: &[u8], page: u32) -> u32
 
 // Empties the page's frame; its bytes stay, which the memory, lent for reading alone, shows.
 // Ruled out: a page with a pending change let go (tried); a row left dirty (tried); the page left in the frame (tried).
-pub fn release(s: State, volume: &[u8], memory: &[u8], page: u32) -> Reply
+pub fn release(s: State, no: u32, volume: &[u8], memory: &[u8], page: u32) -> Reply
+    requires { ⌜ no ≡ firstOf (stateRows (now volume) (now memory) s []) ⌝ }
     ensures { λ r. ⌜ r ≡ replyOf (releaseOf (now (volume .entry)) (now (memory .entry)) s page) ⌝ }
 {
-    let no = refusal(s, volume, memory, page);
+    let no = refusal(s, no, volume, memory, page);
     if no != 0 {
         return Reply {
             answer: Answer::Refused(no),

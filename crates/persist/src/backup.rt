@@ -1,9 +1,10 @@
 // Backup: stores a page's image in a backup slot and leaves a note of it pending.
 ghost use mathlib.Core.Path.{_≡_};
 ghost use mathlib.Core.Bool.{true};
+ghost use mathlib.Core.List.{[]};
 ghost use Rattle.model.specs.Tables.{firstOf};
 ghost use Rattle.model.specs.Geometry.{geometryOf, validVolume};
-ghost use Rattle.model.specs.Refusals.{backupRows, backupTail};
+ghost use Rattle.model.specs.Refusals.{stateRows, backupRows, backupTail};
 ghost use Rattle.model.specs.Outcome.{replyOf, volumeAfter};
 ghost use Rattle.model.specs.Calls.{backupOf};
 use crate::image;
@@ -35,11 +36,11 @@ fn own(s: State, volume: &[u8], g: Geometry, page: u32, slot: u32, f: u32, lsn: 
     )
 }
 
-// The refusal, the lowest that holds.
-fn refusal(s: State, volume: &[u8], memory: &[u8], page: u32, slot: u32) -> u32
+// The refusal, the lowest that holds; no is that of the rows 1 and 2.
+fn refusal(s: State, no: u32, volume: &[u8], memory: &[u8], page: u32, slot: u32) -> u32
+    requires { ⌜ no ≡ firstOf (stateRows (now volume) (now memory) s []) ⌝ }
     ensures { λ r. ⌜ r ≡ firstOf (backupRows (now (volume .entry)) (now (memory .entry)) s page slot) ⌝ }
 {
-    let no = state::refusal::refusal(s, volume, memory.len());
     if no != 0 {
         return no;
     }
@@ -51,14 +52,15 @@ fn refusal(s: State, volume: &[u8], memory: &[u8], page: u32, slot: u32) -> u32
 
 // Stores the image of a page that a frame holds in the slot; a note of it is pending.
 // Ruled out: a slot overwritten that the index names; a note of another slot than the image's.
-pub fn backup(s: State, volume: &mut [u8], memory: &[u8], page: u32, slot: u32) -> Reply
+pub fn backup(s: State, no: u32, volume: &mut [u8], memory: &[u8], page: u32, slot: u32) -> Reply
+    requires { ⌜ no ≡ firstOf (stateRows (now volume) (now memory) s []) ⌝ }
     ensures reply { λ r. ⌜ r ≡ replyOf (backupOf (now (volume .entry)) (now (memory .entry)) s page slot) ⌝ }
     ensures volume { λ _.
         ⌜ now (volume .exit)
         ≡ volumeAfter (now (volume .entry)) (backupOf (now (volume .entry))
         (now (memory .entry)) s page slot .stored) ⌝ }
 {
-    let no = refusal(s, volume, memory, page, slot);
+    let no = refusal(s, no, volume, memory, page, slot);
     if no != 0 {
         return Reply {
             answer: Answer::Refused(no),

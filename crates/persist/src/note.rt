@@ -1,5 +1,8 @@
 // Note: stores the pending note; only then does the index change.
 ghost use mathlib.Core.Path.{_≡_};
+ghost use mathlib.Core.List.{[]};
+ghost use Rattle.model.specs.Tables.{firstOf};
+ghost use Rattle.model.specs.Refusals.{stateRows};
 ghost use Rattle.model.specs.Outcome.{replyOf, volumeAfter};
 ghost use Rattle.model.specs.Calls.{noteCall};
 use model::answer::Answer;
@@ -12,13 +15,13 @@ use volume::place;
 
 // Stores the pending note in its number's slot and enters it in the index. Nothing where none is pending. Ruled out: a
 // note stored in another number's slot; Nothing while a note is pending; an index with another number than the note's.
-pub fn note(s: State, volume: &mut [u8], memory: &[u8]) -> Reply
+pub fn note(s: State, no: u32, volume: &mut [u8], memory: &[u8]) -> Reply
+    requires { ⌜ no ≡ firstOf (stateRows (now volume) (now memory) s []) ⌝ }
     ensures reply { λ r. ⌜ r ≡ replyOf (noteCall (now (volume .entry)) (now (memory .entry)) s) ⌝ }
     ensures volume { λ _.
         ⌜ now (volume .exit)
         ≡ volumeAfter (now (volume .entry)) (noteCall (now (volume .entry)) (now (memory .entry)) s .stored) ⌝ }
 {
-    let no = state::refusal::refusal(s, volume, memory.len());
     if no != 0 {
         return Reply {
             answer: Answer::Refused(no),

@@ -1,9 +1,10 @@
 // Write: stores a dirty page's image and leaves a note of it pending.
 ghost use mathlib.Core.Path.{_≡_};
 ghost use mathlib.Core.Bool.{true};
+ghost use mathlib.Core.List.{[]};
 ghost use Rattle.model.specs.Tables.{firstOf};
 ghost use Rattle.model.specs.Geometry.{geometryOf, validVolume};
-ghost use Rattle.model.specs.Refusals.{writeRows, writeTail};
+ghost use Rattle.model.specs.Refusals.{stateRows, writeRows, writeTail};
 ghost use Rattle.model.specs.Outcome.{replyOf, volumeAfter};
 ghost use Rattle.model.specs.Calls.{writeOf};
 use crate::image;
@@ -29,11 +30,11 @@ fn own(s: State, volume: &[u8], g: Geometry, page: u32, f: u32, lsn: u32) -> u32
     rows::first(outside, 3, rows::first(!(0 < f), 8, rest))
 }
 
-// The refusal, the lowest that holds.
-fn refusal(s: State, volume: &[u8], memory: &[u8], page: u32) -> u32
+// The refusal, the lowest that holds; no is that of the rows 1 and 2.
+fn refusal(s: State, no: u32, volume: &[u8], memory: &[u8], page: u32) -> u32
+    requires { ⌜ no ≡ firstOf (stateRows (now volume) (now memory) s []) ⌝ }
     ensures { λ r. ⌜ r ≡ firstOf (writeRows (now (volume .entry)) (now (memory .entry)) s page) ⌝ }
 {
-    let no = state::refusal::refusal(s, volume, memory.len());
     if no != 0 {
         return no;
     }
@@ -45,13 +46,14 @@ fn refusal(s: State, volume: &[u8], memory: &[u8], page: u32) -> u32
 
 // Stores a dirty page's image; the page is clean, a note of it is pending. Nothing on a clean page.
 // Ruled out: a note of another page lsn than the image's; 13 to 15 on a clean page.
-pub fn write(s: State, volume: &mut [u8], memory: &[u8], page: u32) -> Reply
+pub fn write(s: State, no: u32, volume: &mut [u8], memory: &[u8], page: u32) -> Reply
+    requires { ⌜ no ≡ firstOf (stateRows (now volume) (now memory) s []) ⌝ }
     ensures reply { λ r. ⌜ r ≡ replyOf (writeOf (now (volume .entry)) (now (memory .entry)) s page) ⌝ }
     ensures volume { λ _.
         ⌜ now (volume .exit)
         ≡ volumeAfter (now (volume .entry)) (writeOf (now (volume .entry)) (now (memory .entry)) s page .stored) ⌝ }
 {
-    let no = refusal(s, volume, memory, page);
+    let no = refusal(s, no, volume, memory, page);
     if no != 0 {
         return Reply {
             answer: Answer::Refused(no),

@@ -24,7 +24,9 @@ use Rattle.model.specs.declared.command.Command.the-variants.{Begin, Load, Forc
 use Rattle.model.specs.declared.answer.Answer.the-variants.{Refused, Nothing, Done, Repaired}
 use Rattle.model.specs.declared.command.Command.the-variants.{Change as ChangeCall, Backup, Note}
 use Rattle.model.specs.History.{Power, off, on, Machine, perform, restart, step, isOn, freshMachine}
-use Rattle.planning.specs.Rehearsal.{accessOf, pageIn, victimWritten, noFigures, pageRow, setRow, withLoad, withRecord, oneImage, oneBackup, oneNote, rehearsalRows, rehearsalOf, totalOf}
+use Rattle.planning.specs.Rehearsal.{accessOf, pageIn, victimWritten, noFigures, pageRow, setRow, withLoad}
+use Rattle.planning.specs.Rehearsal.{withRecord, oneImage, oneBackup, oneNote, rehearsalRows, rehearsalOf}
+use Rattle.planning.specs.Rehearsal.{totalOf}
 use Rattle.planning.specs.declared.rehearsal.Settings.{Settings}
 use Rattle.planning.specs.declared.rehearsal.Access.{Access}
 use Rattle.planning.specs.declared.rehearsal.Access.the-variants.{Read, Change}

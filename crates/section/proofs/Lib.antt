@@ -1,2 +1,4 @@
 -- Laws that belong to no one function.
 pub mod SectionLaws
+pub mod GuessLaws
+pub mod SweepLaws

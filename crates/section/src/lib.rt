@@ -8,6 +8,9 @@ ghost use Rattle.model.specs.Checksum.{sealed};
 ghost use Rattle.model.specs.Scan as scans;
 ghost use Rattle.model.specs.Tables as tables;
 ghost use Rattle.section.specs.Section.{Placed, slotBytes, highestAt, frontAt, frontIn, slotsIn, runIn};
+
+pub mod guess;
+
 use codec::field;
 use codec::part;
 use sums::checksum;
@@ -235,7 +238,7 @@ pub fn nth(first: u64, i: u32) -> u32
 }
 
 // The slots past slot n + 1 are zero, of `count` slots of `size` bytes that start at a place.
-fn rest(volume: &[u8], at: usize, size: usize, count: usize, n: usize) -> bool
+pub fn rest(volume: &[u8], at: usize, size: usize, count: usize, n: usize) -> bool
     requires { ⌜ at + size * count ≤ length (now volume) ⌝ }
     ensures { λ r. ⌜ r ≡ scans.restZero size count (now (volume .entry)) at n ⌝ }
 {

@@ -8,23 +8,20 @@ use lib.ListN.{length, getD, List·getD-eq-default}
 use native.Mathlib.Nat.{mod-eq-of-lt}
 use native.Mathlib.Numerals.{add-one}
 use native.Mathlib.Omega.{arith}
-use borrow.Author.Tests.{ltb-true, ltb-false, eq-eqb, ne-eqb}
-use Rattle.laws.proofs.Tables.{byCases, every-same, when-true, when-false}
+use borrow.Author.Tests.{leb-true, le-leb, ltb-true, ltb-false, eqb-true, eq-eqb, ne-eqb}
+use Rattle.laws.proofs.Tables.{byCases, true-not-false, every-same, when-true, when-false}
 use Rattle.model.specs.Tables.{Row, all, every, firstOf}
 use Rattle.model.specs.Geometry.{geometryOf, validVolume, most, mostNotes}
 use Rattle.model.specs.Index.{emptyEntry, entryRow, entryOf}
 use Rattle.model.specs.State.{emptyFrame, holderFrom, frameCount, validMemory, pendingNoteFits, frameFits, entryFits, pageFits, wellFormed}
 use Rattle.model.specs.Refusals.{stateRows}
-use Rattle.state.specs.Clauses.{firstIn, soleIn, frameClauses, frameIn, pageClauses, pageIn, keptIn, countClauses}
-use Rattle.model.specs.declared.{geometry.Geometry.Geometry, state.Entry.Entry, state.Frame.Frame, state.State.State}
+use Rattle.state.specs.Clauses.{firstIn, soleIn, frameClauses, frameIn, entryClauses, settledClauses, pageIn, countClauses}
+use Rattle.model.specs.declared.geometry.Geometry.{Geometry}
+use Rattle.model.specs.declared.state.Entry.{Entry}
+use Rattle.model.specs.declared.state.Frame.{Frame}
+use Rattle.model.specs.declared.state.State.{State}
 
 -- a test that is made twice counts once
-absorbed : (q h : Bool) → ((q || h) || q) ≡ (h || q)
-absorbed true true = refl
-absorbed true false = refl
-absorbed false true = refl
-absorbed false false = refl
-
 doubled : (q h : Bool) → (q || (q || h)) ≡ (q || h)
 doubled true h = refl
 doubled false h = refl
@@ -35,25 +32,32 @@ or-first a b t = sym (rw t)
 pub or-second : (a b : Bool) → a ≡ false → b ≡ (a || b)
 or-second a b t = sym (rw t)
 
-page-once : (g : Geometry) (durable pending : ℕ) (h : Bool) (i : ℕ) (e : Entry)
-    → pageClauses g durable pending (eqb (e .last) (e .durable) || h) i e ≡ pageClauses g durable pending h i e
-page-once g durable pending h i e = rw (absorbed (eqb (e .last) (e .durable)) h)
-
 frame-once : (g : Geometry) (count i : ℕ) (f : Frame) (h : Bool) (last : ℕ)
     → frameClauses g count i f (eqb (f .page) 0 || h) last ≡ frameClauses g count i f h last
 frame-once g count i f h last = rw (doubled (eqb (f .page) 0) h)
 
--- the search's answer stands for the search
-pub page-is : (g : Geometry) (durable pending : ℕ) (table : List Frame) (index : List Entry) (i : ℕ) (kept r : Bool)
-    → kept ≡ keptIn table (i + 1) (entryRow index i)
-    → r ≡ pageClauses g durable pending kept i (entryRow index i)
-    → r ≡ pageIn g durable pending table index i
-page-is g durable pending table index i kept r ek er =
-    er ∙ ap (λ (b : Bool). pageClauses g durable pending b i (entryRow index i)) ek
-    ∙ page-once g durable pending (ltb 0 (holderFrom 0 (i + 1) table)) i (entryRow index i)
+-- an entry whose last number is durable
+spread : (a b c x y z k : Bool) → (c ≡ true → a ≡ true) → b ≡ true → k ≡ true
+    → all (c ∷ x ∷ y ∷ z ∷ []) ≡ all (a ∷ b ∷ c ∷ x ∷ y ∷ z ∷ k ∷ [])
+spread a b true x y true k h eb ek = sym (rw (h refl, eb, ek))
+spread a b true x y false k h eb ek = sym (rw (h refl, eb))
+spread true b false x y z k h eb ek = sym (rw eb)
+spread false b false x y z k h eb ek = refl
+
+or-last : (a b : Bool) → b ≡ true → (a || b) ≡ true
+or-last true b e = refl
+or-last false b e = e
+
+pub settled-is : (g : Geometry) (durable pending : ℕ) (h : Bool) (e : Entry) → e .last ≡ e .durable
+    → settledClauses g durable e ≡ entryClauses g durable pending h e
+settled-is g durable pending h e q =
+    spread (leb (e .last) (durable + pending)) (leb (e .durable) (e .last)) (leb (e .durable) durable) (leb (e .written) (e .durable))
+    (leb (e .backup) (e .durable)) (leb (e .slot) (g .slots)) (h || eqb (e .last) (e .durable))
+    (λ t. le-leb (e .last) (durable + pending) (omega (arith, q, leb-true (e .durable) durable t)))
+    (le-leb (e .durable) (e .last) (omega (arith, q))) (or-last h _ (eq-eqb _ _ q))
 
 -- the row of a page past the index is read as an empty one
-pub last-is : (index : List Entry) (page k : ℕ) → k ≡ page - 1 → length index ≡ 64
+last-is : (index : List Entry) (page k : ℕ) → k ≡ page - 1 → length index ≡ 64
     → cond (ltb k 64) (getD index (k % 64) emptyEntry .last) 0 ≡ entryOf index page .last
 last-is index page k e l =
     byCases (ltb k 64)
@@ -65,7 +69,7 @@ given : (g : Geometry) (count i : ℕ) (f : Frame) (a b : Bool) (m n : ℕ) → 
     → frameClauses g count i f a m ≡ frameClauses g count i f b n
 given g count i f a b m n e d = rw (e, d)
 
-pub frame-is : (g : Geometry) (count : ℕ) (table : List Frame) (index : List Entry) (i last : ℕ) (only r : Bool)
+frame-is : (g : Geometry) (count : ℕ) (table : List Frame) (index : List Entry) (i last : ℕ) (only r : Bool)
     → only ≡ soleIn table i
     → last ≡ entryOf index (getD table i emptyFrame .page) .last
     → r ≡ frameClauses g count i (getD table i emptyFrame) only last
@@ -74,6 +78,31 @@ frame-is g count table index i last only r eo el er =
     er
     ∙ given g count i (getD table i emptyFrame) only (soleIn table i) last (entryOf index (getD table i emptyFrame .page) .last) eo el
     ∙ frame-once g count i (getD table i emptyFrame) (firstIn table i) (entryOf index (getD table i emptyFrame .page) .last)
+
+-- the same with the page's last number as it is read from the index
+pub frame-read : (g : Geometry) (count : ℕ) (table : List Frame) (index : List Entry) (i page k last : ℕ) (only r : Bool)
+    → length index ≡ 64
+    → only ≡ soleIn table i
+    → page ≡ getD table i emptyFrame .page
+    → k ≡ page - 1
+    → last ≡ cond (ltb k 64) (getD index (k % 64) emptyEntry .last) 0
+    → r ≡ frameClauses g count i (getD table i emptyFrame) only last
+    → r ≡ frameIn g count table index i
+frame-read g count table index i page k last only r long eo ep ek el er =
+    frame-is g count table index i last only r eo (el ∙ last-is index _ k (ek ∙ ap (λ (n : ℕ). n - 1) ep) long) er
+
+-- an empty frame that is clean is passed over
+neither : (a b : Bool) → (not a || b) ≡ false → (a ≡ true) × (b ≡ false)
+neither true b e = (refl, e)
+neither false b e = absurd (true-not-false refl e)
+
+pub frame-passed : (g : Geometry) (count : ℕ) (table : List Frame) (index : List Entry) (i : ℕ)
+    → let f = getD table i emptyFrame in (not (eqb (f .page) 0) || f .dirty) ≡ false → frameIn g count table index i ≡ true
+frame-passed g count table index i e =
+    let f = getD table i emptyFrame in
+    let n = neither (eqb (f .page) 0) (f .dirty) e in
+    let l : leb (f .page) (g .pages) ≡ true = le-leb (f .page) (g .pages) (omega (arith, eqb-true (f .page) 0 (n .0))) in
+    rw (l, n .0, n .1) (or-last (ltb i count) true refl)
 
 module _ (g : Geometry) (s : State) where
   frames-are : (count : ℕ) → every 16 (frameIn g count (s .frames) (s .index)) ≡ every 16 (frameFits g count s)

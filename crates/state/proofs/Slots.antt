@@ -44,7 +44,16 @@ module _ (v : List ℕ) (g : Geometry) (valid : validVolume v ≡ true) (eg : g 
       let m : (n - 1) % g .notes < g .notes = mod-lt (n - 1) some in
       place-fits g v size (noteSlot g n) (omega arith, omega arith)
 
--- where the rows 1 and 2 refuse nothing the volume is valid, whatever the memory holds
+-- where the rows 1 and 2 refuse nothing the volume is valid
+pub valid-with : (v m : List ℕ) (s : State) (n : ℕ) → n ≡ firstOf (stateRows v m s []) → n ≡ 0 → validVolume v ≡ true
+valid-with v m s n e z = ready v m s [] (sym e ∙ z) .volume
+
+-- whatever the memory holds
 pub valid-volume : (v : List ℕ) (s : State) (size n : ℕ) → ((m : List ℕ) → length m ≡ size → n ≡ firstOf (stateRows v m s [])) → n ≡ 0
     → validVolume v ≡ true
-valid-volume v s size n h z = ready v (replicate size 0) s [] (sym (h (replicate size 0) (length-replicate size 0)) ∙ z) .volume
+valid-volume v s size n h = valid-with v (replicate size 0) s n (h (replicate size 0) (length-replicate size 0))
+
+-- of a memory they look at the size alone
+pub any-memory : (v m : List ℕ) (s : State) (n : ℕ) → n ≡ firstOf (stateRows v m s []) → (w : List ℕ) → length w ≡ length m
+    → n ≡ firstOf (stateRows v w s [])
+any-memory v m s n e w l = e ∙ rw l

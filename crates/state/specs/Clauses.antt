@@ -42,6 +42,11 @@ entryClauses g durable pending inFrame e =
     (e .durable)
     ∷ leb (e .backup) (e .durable) ∷ leb (e .slot) (g .slots) ∷ (inFrame || eqb (e .last) (e .durable)) ∷ [])
 
+-- what is left of these where the last number is durable
+abbrev pub settledClauses : Geometry → ℕ → Entry → Bool
+settledClauses g durable e =
+    all (leb (e .durable) durable ∷ leb (e .written) (e .durable) ∷ leb (e .backup) (e .durable) ∷ leb (e .slot) (g .slots) ∷ [])
+
 -- the entry of page i + 1
 abbrev pub pageClauses : Geometry → ℕ → ℕ → Bool → ℕ → Entry → Bool
 pageClauses g durable pending inFrame i e = cond (ltb i (g .pages)) (entryClauses g durable pending inFrame e)
@@ -51,10 +56,6 @@ pageClauses g durable pending inFrame i e = cond (ltb i (g .pages)) (entryClause
 abbrev pub pageIn : Geometry → ℕ → ℕ → List Frame → List Entry → ℕ → Bool
 pageIn g durable pending table index i = pageClauses g durable pending (ltb 0 (holderFrom 0 (i + 1) table)) i
     (entryRow index i)
-
--- the page has no pending record, by its entry, or is in a frame
-abbrev pub keptIn : List Frame → ℕ → Entry → Bool
-keptIn table page e = eqb (e .last) (e .durable) || ltb 0 (holderFrom 0 page table)
 
 -- the counts of durable and pending records and of notes, and the pending note
 abbrev pub countClauses : Geometry → ℕ → ℕ → ℕ → PendingNote → Bool

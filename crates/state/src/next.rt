@@ -51,52 +51,49 @@ pub fn resumed(scan: Scanned) -> State
 }
 
 // One more pending record, of the page, which frame f holds and is dirty.
-pub fn appended(s: State, page: u32, f: u32) -> State
+pub fn appended(mut s: State, page: u32, f: u32) -> State
     requires { ⌜ (1 ≤ page) × (page ≤ 64) × (1 ≤ f) × (f ≤ 16) × (s .durable + s .pending < 4294967295)
         × (s .pending < 4294967295) ⌝ }
     ensures { λ r. ⌜ r ≡ appendedState s page f ⌝ }
 {
-    let mut t = s;
     let n = s.durable + s.pending + 1;
-    t.pending = s.pending + 1;
+    s.pending = s.pending + 1;
     let k = (f - 1) as usize;
-    t.frames[k] = Frame {
+    s.frames[k] = Frame {
         page: page as u16,
         dirty: true,
     };
     let i = (page - 1) as usize;
-    t.index[i].last = n;
-    t
+    s.index[i].last = n;
+    s
 }
 
 // Frame f holds the page.
-pub fn loaded(s: State, page: u32, f: u32, dirty: bool) -> State
+pub fn loaded(mut s: State, page: u32, f: u32, dirty: bool) -> State
     requires { ⌜ (page ≤ 64) × (1 ≤ f) × (f ≤ 16) ⌝ }
     ensures { λ r. ⌜ r ≡ withFrames s (withFrame s f page dirty) (s .note) ⌝ }
 {
-    let mut t = s;
     let k = (f - 1) as usize;
-    t.frames[k] = Frame {
+    s.frames[k] = Frame {
         page: page as u16,
         dirty,
     };
-    t
+    s
 }
 
 // The oldest pending record, of the page given, is durable; a page that is none of the volume's has no entry.
-pub fn forced(s: State, pages: u32, page: u32) -> State
+pub fn forced(mut s: State, pages: u32, page: u32) -> State
     requires { ⌜ (pages ≤ 64) × (0 < s .pending) × (s .durable < 4294967295) ⌝ }
     ensures { λ r. ⌜ r ≡ forcedState s pages page ⌝ }
 {
-    let mut t = s;
     let n = s.durable + 1;
-    t.durable = n;
-    t.pending = s.pending - 1;
+    s.durable = n;
+    s.pending = s.pending - 1;
     if (1 <= page) & (page <= pages) {
         let i = (page - 1) as usize;
-        t.index[i].durable = n;
+        s.index[i].durable = n;
     }
-    t
+    s
 }
 
 // The page is written from frame f: the frame is clean, the note is to be stored.

@@ -2,9 +2,10 @@
 // wraps.
 ghost use mathlib.Core.Path.{_≡_};
 ghost use Prim.Native.Nat.{_+_, _<_};
-ghost use Rattle.model.specs.Tables.{every};
-ghost use Rattle.model.specs.State.{pendingNoteFits, entryZero, wellFormed};
-ghost use Rattle.state.specs.Clauses.{firstIn, soleIn, frameClauses, frameIn, entryClauses, pageClauses, pageIn, keptIn, countClauses};
+ghost use lib.Dec.{ltb};
+ghost use Rattle.model.specs.State.{holderFrom, pendingNoteFits, entryZero, wellFormed};
+ghost use Rattle.state.specs.Clauses.{firstIn, soleIn, frameClauses};
+ghost use Rattle.state.specs.Clauses.{entryClauses, settledClauses, pageClauses, countClauses};
 ghost use Rattle.model.specs.declared.state.PendingNote.the-variants.{Present};
 use crate::frames;
 use item::note;
@@ -97,26 +98,34 @@ fn entry_zero(e: Entry) -> bool
     (e.last == 0) & ((e.durable == 0) & ((e.written == 0) & ((e.slot == 0) & (e.backup == 0))))
 }
 
-// The entry may be that of page i + 1.
-fn page_fits(g: Geometry, durable: u32, pending: u32, in_frame: bool, i: usize, e: Entry) -> bool
-    ensures { λ r. ⌜ r ≡ pageClauses g durable pending in_frame i e ⌝ }
+// An entry whose last number is durable may be so: what is left to test of it.
+fn settled_fits(g: Geometry, durable: u32, e: Entry) -> bool
+    ensures { λ r. ⌜ r ≡ settledClauses g durable e ⌝ }
 {
-    if i < g.pages as usize {
-        entry_fits(g, durable, pending, in_frame, e)
-    } else {
-        entry_zero(e)
-    }
+    (e.durable <= durable)
+        & ((e.written <= e.durable) & ((e.backup <= e.durable) & (e.slot as u32 <= g.slots)))
 }
 
-// The page has no pending record, by its entry, or is in a frame: only a page that has some is searched for.
-fn kept(table: [Frame; 16], page: u32, e: Entry) -> bool
-    ensures { λ r. ⌜ r ≡ keptIn table page e ⌝ }
+// The entry may be that of page i + 1. Only a page that has a pending record is searched for in the frames.
+fn page_fits(
+    g: Geometry,
+    durable: u32,
+    pending: u32,
+    table: [Frame; 16],
+    i: usize,
+    e: Entry,
+) -> bool
+    requires { ⌜ i < 64 ⌝ }
+    ensures { λ r. ⌜ r ≡ pageClauses g durable pending (ltb 0 (holderFrom 0 (i + 1) table)) i e ⌝ }
 {
-    if e.last == e.durable {
-        return true;
+    if g.pages as usize <= i {
+        return entry_zero(e);
     }
-    let f = frames::search(table, page);
-    0 < f
+    if e.last == e.durable {
+        return settled_fits(g, durable, e);
+    }
+    let f = frames::search(table, i as u32 + 1);
+    entry_fits(g, durable, pending, 0 < f, e)
 }
 
 // The counts and the pending note are as they may be.
@@ -130,44 +139,8 @@ fn counts_fit(g: Geometry, durable: u32, pending: u32, notes: u32, p: PendingNot
         & ((pending <= 16) & ((notes <= most_notes) & fits))
 }
 
-// Every frame may be as it is. The entries are read in place: only the table of frames is passed on.
-fn frames_fit(s: State, g: Geometry, count: usize) -> bool
-    ensures { λ r. ⌜ r ≡ every 16 (frameIn g count (s .frames) (s .index)) ⌝ }
-{
-    let table = s.frames;
-    let mut i = 0;
-    while i < 16 {
-        let f = table[i];
-        let only = sole(table, i);
-        let k = crate::row(crate::wide(f.page));
-        let e = s.index[k % 64];
-        let last = rows::first(k < 64, e.last, 0);
-        if !frame_fits(g, count, i, f, only, last) {
-            return false;
-        }
-        i += 1;
-    }
-    true
-}
-
-// Every entry may be as it is.
-fn pages_fit(s: State, g: Geometry) -> bool
-    ensures { λ r. ⌜ r ≡ every 64 (pageIn g (s .durable) (s .pending) (s .frames) (s .index)) ⌝ }
-{
-    let table = s.frames;
-    let mut i = 0;
-    while i < 64 {
-        let e = s.index[i];
-        let kept = kept(table, i as u32 + 1, e);
-        if !page_fits(g, s.durable, s.pending, kept, i, e) {
-            return false;
-        }
-        i += 1;
-    }
-    true
-}
-
-// The state is well formed for the geometry and a number of frames.
+// The state is well formed for the geometry and a number of frames. Both loops stand here, since each function that
+// reads entries by a number has a copy of the state made for it.
 pub fn well_formed(s: State, g: Geometry, count: usize) -> bool
     ensures { λ r. ⌜ r ≡ wellFormed g count s ⌝ }
 {
@@ -175,8 +148,28 @@ pub fn well_formed(s: State, g: Geometry, count: usize) -> bool
     if !counts_fit(g, s.durable, s.pending, s.notes, p) {
         return false;
     }
-    if !frames_fit(s, g, count) {
-        return false;
+    let table = s.frames;
+    let mut i = 0;
+    while i < 16 {
+        let f = table[i];
+        if (f.page != 0) | f.dirty {
+            let only = sole(table, i);
+            let k = crate::row(crate::wide(f.page));
+            let e = s.index[k % 64];
+            let last = rows::first(k < 64, e.last, 0);
+            if !frame_fits(g, count, i, f, only, last) {
+                return false;
+            }
+        }
+        i += 1;
     }
-    pages_fit(s, g)
+    let mut j = 0;
+    while j < 64 {
+        let e = s.index[j];
+        if !page_fits(g, s.durable, s.pending, table, j, e) {
+            return false;
+        }
+        j += 1;
+    }
+    true
 }

@@ -1,20 +1,21 @@
 -- What a call does not touch: Begin, Load, Change and Release leave the volume as it was, Force, Write, Backup, Release, Note and the
 -- three that carry a volume over the memory.
 use Prim.Native.Nat.{ℕ}
-use mathlib.Core.Path.{_≡_, refl, sym}
+use mathlib.Core.Path.{_≡_, refl, sym, _∙_}
 use mathlib.Core.Bool.{Bool, cond}
 use mathlib.Core.List.{List}
 use lib.Dec.{eqb, ltb}
 use Rattle.laws.proofs.Tables.{byCases}
 use Rattle.model.specs.Tables.{Row, firstOf}
-use Rattle.model.specs.Outcome.{nothing, Outcome, volumeAfter, decided}
+use Rattle.model.specs.Outcome.{nothing, Outcome, replyOf, volumeAfter, decided}
 use Rattle.model.specs.Effects.{noteStored, backupDone, beginDone, changeDone, forceDone, loadDone, releaseDone, restampDone, writeDone}
-use Rattle.model.specs.Calls.{beginOf, loadOf, changeCall, forceOf, writeOf, backupOf, releaseOf, noteCall, startCarryOf, restampOf, finishCarryOf}
+use Rattle.model.specs.Calls.{outcomeOf, beginOf, loadOf, changeCall, forceOf, writeOf, backupOf, releaseOf, noteCall, startCarryOf, restampOf, finishCarryOf}
 use Rattle.model.specs.Refusals.{beginRows, loadRows, changeRows, forceRows, writeRows, backupRows, releaseRows, noteRows, startCarryRows, restampRows, finishCarryRows, pageDirty}
 use Rattle.model.specs.Geometry.{geometryOf}
 use Rattle.model.specs.Passes.{imageCount, firstOld}
 use Rattle.model.specs.declared.change.Change.{Change}
-use Rattle.model.specs.declared.answer.Answer.{Answer}
+use Rattle.model.specs.declared.answer.Reply.{Reply}
+use Rattle.model.specs.declared.command.Command.{Command}
 use Rattle.model.specs.declared.state.State.{State}
 use Rattle.model.specs.declared.state.PendingNote.{PendingNote}
 use Rattle.model.specs.declared.state.PendingNote.the-variants.{Absent, Present}
@@ -86,3 +87,19 @@ module _ (v m : List ℕ) (s : State) where
   pub finish-carry-memory : m ≡ finishCarryOf v m s .memory
   unfolding decided
   finish-carry-memory = same-memory (finishCarryRows v m s) _ refl
+
+-- what a command's call gives back and leaves: the reply, the memory and the volume
+module _ (v m : List ℕ) (s : State) (payload : List ℕ) (c : Command) (r : Reply) (w x : List ℕ) where
+  abbrev pub Made : Type 0
+  Made =
+      (r ≡ replyOf (outcomeOf (c, payload) v m s)) × (w ≡ outcomeOf (c, payload) v m s .memory)
+      × (x ≡ volumeAfter v (outcomeOf (c, payload) v m s .stored))
+
+  module _ (d : Command) (ec : c ≡ d) (er : r ≡ replyOf (outcomeOf (d, payload) v m s)) where
+    -- by a call that leaves the volume
+    pub volume-left : w ≡ outcomeOf (d, payload) v m s .memory → x ≡ v → v ≡ volumeAfter v (outcomeOf (d, payload) v m s .stored) → Made
+    volume-left ew ex l = rw ec (er, ew, ex ∙ l)
+
+    -- by one that leaves the memory
+    pub memory-left : w ≡ m → m ≡ outcomeOf (d, payload) v m s .memory → x ≡ volumeAfter v (outcomeOf (d, payload) v m s .stored) → Made
+    memory-left ew l ex = rw ec (er, ew ∙ l, ex)

@@ -17,6 +17,7 @@ use model::answer::Reply;
 use model::change::Change;
 use model::command::Command;
 use model::state::State;
+use persist::backup;
 
 pub struct Store {
     pub state: State,
@@ -86,19 +87,26 @@ impl Store {
             ≡ volumeAfter (now (volume .entry)) (performed self (now (volume .entry))
             (now (memory .entry)) command payload .stored) ⌝ }
     {
-        match command {
-            Command::Begin { page, frame, fill } => self.begin(volume, memory, page, frame, fill),
-            Command::Load { page, frame } => self.load(volume, memory, page, frame),
-            Command::Change { page, change } => self.change(volume, memory, page, change, payload),
-            Command::Force => self.force(volume, memory),
-            Command::Write { page } => self.write(volume, memory, page),
-            Command::Backup { page, slot } => self.backup(volume, memory, page, slot),
-            Command::Release { page } => self.release(volume, memory, page),
-            Command::Note => self.note(volume, memory),
-            Command::StartCarry => self.start_carry(volume, memory),
-            Command::Restamp => self.restamp(volume, memory),
-            Command::FinishCarry => self.finish_carry(volume, memory),
-        }
+        let s = self.state;
+        let no = state::refusal::refusal(s, volume, memory.len());
+        let r = match command {
+            Command::Begin { page, frame, fill } => {
+                append::begin::begin(s, no, volume, memory, page, frame, fill)
+            }
+            Command::Load { page, frame } => load::load(s, no, volume, memory, page, frame),
+            Command::Change { page, change } => {
+                append::change::change(s, no, volume, memory, page, change, payload)
+            }
+            Command::Force => force::force(s, no, volume, memory),
+            Command::Write { page } => persist::write::write(s, no, volume, memory, page),
+            Command::Backup { page, slot } => backup::backup(s, no, volume, memory, page, slot),
+            Command::Release { page } => load::release::release(s, no, volume, memory, page),
+            Command::Note => persist::note::note(s, no, volume, memory),
+            Command::StartCarry => convert::start::start(s, no, volume, memory),
+            Command::Restamp => convert::restamp::restamp(s, no, volume, memory),
+            Command::FinishCarry => convert::finish::finish(s, no, volume, memory),
+        };
+        wrap(r)
     }
 
     // Begins a blank page in a frame. Ruled out: 12 on an empty log; a record given that will displace one that is
@@ -119,7 +127,8 @@ impl Store {
             ≡ beginOf (now (volume .entry)) (now (memory .entry)) (self .state) page frame fill .memory ⌝ }
     {
         let s = self.state;
-        wrap(append::begin::begin(s, volume, memory, page, frame, fill))
+        let no = state::refusal::refusal(s, volume, memory.len());
+        wrap(append::begin::begin(s, no, volume, memory, page, frame, fill))
     }
 
     // Brings a page into a frame, repaired. Ruled out: the disk's image handed over unrepaired; a slide replayed on an
@@ -132,7 +141,8 @@ impl Store {
             ≡ loadOf (now (volume .entry)) (now (memory .entry)) (self .state) page frame .memory ⌝ }
     {
         let s = self.state;
-        wrap(load::load(s, volume, memory, page, frame))
+        let no = state::refusal::refusal(s, volume, memory.len());
+        wrap(load::load(s, no, volume, memory, page, frame))
     }
 
     // Changes a page that a frame holds. Ruled out: a record that names the page's last durable record and skips its
@@ -154,7 +164,8 @@ impl Store {
             ≡ changeCall (now (volume .entry)) (now (memory .entry)) (self .state) page change payload .memory ⌝ }
     {
         let s = self.state;
-        wrap(append::change::change(s, volume, memory, page, change, payload))
+        let no = state::refusal::refusal(s, volume, memory.len());
+        wrap(append::change::change(s, no, volume, memory, page, change, payload))
     }
 
     // Stores the oldest pending record. Ruled out: Nothing with records pending; the count lowered and no record
@@ -168,7 +179,8 @@ impl Store {
             (self .state) .stored) ⌝ }
     {
         let s = self.state;
-        wrap(force::force(s, volume, memory))
+        let no = state::refusal::refusal(s, volume, memory.len());
+        wrap(force::force(s, no, volume, memory))
     }
 
     // Stores a dirty page's image and leaves a note of it pending. Ruled out: an image stored ahead of its record; a
@@ -182,7 +194,8 @@ impl Store {
             (self .state) page .stored) ⌝ }
     {
         let s = self.state;
-        wrap(persist::write::write(s, volume, memory, page))
+        let no = state::refusal::refusal(s, volume, memory.len());
+        wrap(persist::write::write(s, no, volume, memory, page))
     }
 
     // Stores a page's image in a slot and leaves a note of it pending. Ruled out: a slot that the index names
@@ -196,7 +209,8 @@ impl Store {
             (self .state) page slot .stored) ⌝ }
     {
         let s = self.state;
-        wrap(persist::backup::backup(s, volume, memory, page, slot))
+        let no = state::refusal::refusal(s, volume, memory.len());
+        wrap(backup::backup(s, no, volume, memory, page, slot))
     }
 
     // Lets go of a page: its frame is empty, nothing is stored. Ruled out: a page with a pending change let go; a dirty
@@ -206,7 +220,8 @@ impl Store {
             ⌜ r ≡ wrapped (replyOf (releaseOf (now (volume .entry)) (now (memory .entry)) (self .state) page)) ⌝ }
     {
         let s = self.state;
-        wrap(load::release::release(s, volume, memory, page))
+        let no = state::refusal::refusal(s, volume, memory.len());
+        wrap(load::release::release(s, no, volume, memory, page))
     }
 
     // Stores the pending note and enters it in the index. Ruled out: Nothing with a note pending; a note stored in
@@ -220,7 +235,8 @@ impl Store {
             (self .state) .stored) ⌝ }
     {
         let s = self.state;
-        wrap(persist::note::note(s, volume, memory))
+        let no = state::refusal::refusal(s, volume, memory.len());
+        wrap(persist::note::note(s, no, volume, memory))
     }
 
     // Begins to carry a volume over: the first heading becomes the third. Ruled out: the second heading stored at once;
@@ -234,7 +250,8 @@ impl Store {
             (self .state) .stored) ⌝ }
     {
         let s = self.state;
-        wrap(convert::start::start(s, volume, memory))
+        let no = state::refusal::refusal(s, volume, memory.len());
+        wrap(convert::start::start(s, no, volume, memory))
     }
 
     // Gives the first image that passes only the old sum the byte sum. Ruled out: a failing image sealed; Nothing with
@@ -248,7 +265,8 @@ impl Store {
             (self .state) .stored) ⌝ }
     {
         let s = self.state;
-        wrap(convert::restamp::restamp(s, volume, memory))
+        let no = state::refusal::refusal(s, volume, memory.len());
+        wrap(convert::restamp::restamp(s, no, volume, memory))
     }
 
     // Ends it: the second heading. Ruled out: done while an image passes only the old sum; 20 on a volume that has
@@ -262,7 +280,8 @@ impl Store {
             (self .state) .stored) ⌝ }
     {
         let s = self.state;
-        wrap(convert::finish::finish(s, volume, memory))
+        let no = state::refusal::refusal(s, volume, memory.len());
+        wrap(convert::finish::finish(s, no, volume, memory))
     }
 
     // Rebuilds a page from the durable records into a buffer of 256 bytes. Ruled out: the disk's image handed over

@@ -6,6 +6,7 @@ ghost use Rattle.model.specs.Checksum.{checksum, checksumFrom, seal, sealed};
 ghost use Rattle.sums.specs.Sums.{Summed, Headed};
 use crate::partial;
 use crate::partial::Sums;
+use crate::products;
 use crate::word_lanes;
 use codec::field;
 
@@ -50,7 +51,7 @@ fn late(s: &[u8], t: Sums) -> u32
     partial::value(Sums { a, b, at: i })
 }
 
-// The checksum of an item: 12, 60 or 252 bytes, which are 12 and blocks of 48, and whatever else is as long.
+// The checksum of an item: 12 or 60 bytes, which are 12 and blocks of 48, and whatever else is as short.
 fn short(s: &[u8]) -> u32
     requires { ⌜ (12 ≤ length (now s)) × (length (now s) ≤ 256) ⌝ }
     ensures { λ r. ⌜ r ≡ checksum (now (s .entry)) ⌝ }
@@ -83,6 +84,9 @@ pub fn sum(s: &[u8]) -> u32
 {
     if s.len() < 12 {
         return stepwise(s);
+    }
+    if s.len() == 252 {
+        return products::image_sum(s);
     }
     if s.len() <= 256 {
         return short(s);

@@ -3,4 +3,5 @@ mod byte_lanes;
 pub mod byte_sum;
 pub mod checksum;
 mod partial;
+pub mod products;
 mod word_lanes;

@@ -1,5 +1,5 @@
 -- `force::force` is its definition: the laws of Outcomes.antt say what each case is.
-use mathlib.Core.Path.{_≡_, refl, sym, _∙_}
+use mathlib.Core.Path.{_≡_, sym, _∙_}
 use mathlib.Core.List.{[]}
 use native.Mathlib.Omega.{arith}
 use denote.Ref.{now}
@@ -10,37 +10,24 @@ use borrow.Author.Needs.{needs}
 use Rattle.force.proofs.force.Statement.{statement}
 use Rattle.force.proofs.force.Tie as tie
 
-refusal-requires : tie.Need-refusal-requires
-refusal-requires c κs = search needs
-
-same-length : tie.Need-same-length
-same-length c = search needs
-
 returns : tie.Need-returns
-returns c = force-refused _ _ _ _ (c .before .refusal .ensures (now (c .before .before .before .before .before .args .memory)) refl)
-    (c .if1 .taken)
-
-same-length-2 : tie.Need-same-length-2
-same-length-2 c = search needs
+returns c = force-refused _ _ _ _ (c .before .before .before .pre) (c .if1 .taken)
 
 returns-2 : tie.Need-returns-2
 returns-2 c =
     let i = c .before .before in
-    force-idle _ _ _ (sym (i .before .refusal .ensures (now (i .before .before .before .before .before .args .memory)) refl) ∙ i .if1 .left)
-    (c .if2 .taken)
+    force-idle _ _ _ (sym (i .before .before .before .pre) ∙ i .if1 .left) (c .if2 .taken)
 
 geometry-requires : tie.Need-geometry-requires
 geometry-requires c κs = search needs
 
 -- past the tests: the call is not refused, a record is pending
 abbrev entry : tie.After-struct-known2 → tie.Start
-entry c = c .before .before .before .before .before .before .before .before .before .before
+entry c = c .before .before .before .before .before .before .before .before
 
 calm : (c : tie.After-struct-known2) → firstOf
     (stateRows (now (entry c .args .volume)) (now (entry c .args .memory)) (entry c .args .s) []) ≡ 0
-calm c =
-    let i = c .before .before .before .before .before in
-    sym (i .before .refusal .ensures (now (entry c .args .memory)) refl) ∙ i .if1 .left
+calm c = sym (entry c .pre) ∙ c .before .before .before .before .before .if1 .left
 
 -- and the parts are within the volume and the memory
 bounds : (c : tie.After-struct-known2) → Room (now (entry c .args .volume)) (now (entry c .args .memory)) (entry c .args .s)
@@ -84,8 +71,8 @@ forced-requires c κs =
     let b = bounds (c .before .before .before .before .before .before .before .before) in
     (b .pages, b .pending, omega (arith, b .durable))
 
-same-length-3 : tie.Need-same-length-3
-same-length-3 c = search needs
+same-length : tie.Need-same-length
+same-length c = search needs
 
 returns-3 : tie.Need-returns-3
 returns-3 c =
@@ -99,10 +86,7 @@ pub force-spec : {M : Type 1} → statement M
 force-spec =
     tie.close
     (tie.spec
-    refusal-requires
-    same-length
     returns
-    same-length-2
     returns-2
     geometry-requires
     add-n
@@ -116,5 +100,5 @@ force-spec =
     put-requires
     cast-forced
     forced-requires
-    same-length-3
+    same-length
     returns-3)

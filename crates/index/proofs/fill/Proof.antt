@@ -1,39 +1,20 @@
--- `index::fill` meets its contract: the laws of Whole say what each case is.
-use mathlib.Core.Path.{_≡_, refl, sym, ap, _∙_}
-use mathlib.Core.Bool.{true}
-use Prim.Native.Nat.{ℕ}
-use borrow.Author.Tests.{not-true, not-false, eqb-false}
-use denote.Ref.{now}
-use lib.ListN.{length, length-replicate}
-use Rattle.model.specs.Geometry.{validVolume}
-use Rattle.index.specs.Sections.{Sized}
-use Rattle.index.proofs.ColumnLaws.{blank-long}
-use Rattle.index.proofs.Whole.{volume-refused, refuses, sized, log-refused, notes-refused, scan-clean}
+-- `index::fill` meets its contract: the sweeps tell, or the columns are blank again and two passes tell.
+use mathlib.Core.Path.{_≡_, refl, sym, _∙_}
 use borrow.Author.Needs.{needs}
+use borrow.Author.Tests.{not-true, not-false, eqb-false}
+use Rattle.index.proofs.Whole.{volume-refused, refuses}
 use Rattle.index.proofs.fill.Statement.{statement}
 use Rattle.index.proofs.fill.Tie as tie
 use Rattle.index.proofs.fill.Reads as reads
 use Rattle.index.proofs.fill.Lts as lts
-use Rattle.index.proofs.columns.ordered.Reads as ordered-reads
-use Rattle.index.proofs.log.run.Reads as log-run-reads
-use Rattle.index.proofs.log.scan.Reads as log-scan-reads
-use Rattle.index.proofs.notes.run.Reads as notes-run-reads
-use Rattle.index.proofs.notes.scan.Reads as notes-scan-reads
+use Rattle.index.proofs.blank.Reads as blank-reads
+use Rattle.index.proofs.fast.Reads as fast-reads
 use Rattle.index.proofs.refused.Reads as refused-reads
+use Rattle.index.proofs.slow.Reads as slow-reads
 use Rattle.volume.proofs.heading.sound.Reads as sound-reads
 
-abbrev entry : tie.Else1 → tie.Start
-entry c = c .before .before .before .before .before .before .before
-
--- past the first test
-opened : (c : tie.Else1) → validVolume (now (entry c .args .volume)) ≡ true
-opened c = sym (c .before .sound .ensures) ∙ not-false _ (c .if1 .left)
-
-size : (c : tie.Else1) → Sized (entry c .args .g) (now (entry c .args .volume))
-size c = sized _ (opened c) _ (entry c .pre .0 .1)
-
 sound-requires : tie.Need-sound-requires
-sound-requires c κs = c .before .before .before .before .before .pre .0
+sound-requires c κs = search needs
 
 refused-requires : tie.Need-refused-requires
 refused-requires c κs = search needs
@@ -42,56 +23,13 @@ returns : tie.Need-returns
 returns c = refuses _ _ _ (c .refused .ensures)
     (volume-refused _ (sym (c .before .before .sound .ensures) ∙ not-true _ (c .before .if1 .taken))) (eqb-false 1 0 refl)
 
-run-requires : tie.Need-run-requires
-run-requires c κs = size c
-
-scan-requires : tie.Need-scan-requires
-scan-requires c κs = let e = c .before .before in (size e, (c .before .run .ensures, entry e .pre .1 .0))
-
-refused-requires-2 : tie.Need-refused-requires-2
-refused-requires-2 c κs = search needs
+fast-requires : tie.Need-fast-requires
+fast-requires c κs =
+    let p = c .before .before .before .before .before .before .before .before .before .before .before .pre in
+    ((sym (c .before .before .before .before .before .sound .ensures) ∙ not-false _ (c .before .before .before .before .if1 .left), p .0 .1), p .1)
 
 same-length : tie.Need-same-length
 same-length c = search needs
-
-returns-2 : tie.Need-returns-2
-returns-2 c =
-    let e = c .before .before .before .before .before .before .before in
-    refuses _ _ _ (c .refused2 .ensures) (log-refused _ (opened e) _ (entry e .pre .0 .1) _
-    (c .before .before .before .before .scan .ensures .0) (not-true _ (c .before .if2 .taken))) (eqb-false 17 0 refl)
-
-run-requires-2 : tie.Need-run-requires-2
-run-requires-2 c κs = size (c .before .before .before .before .before .before)
-
-scan-requires-2 : tie.Need-scan-requires-2
-scan-requires-2 c κs = let e = c .before .before .before .before .before .before .before .before .before .before in (
-  size e,
-  (
-    (c .before .before .before .before .before .before .before .before .before .run .ensures, c .before .before .before .run2 .ensures),
-    entry e .pre .1 .1,
-  ),
-)
-
-cast-ordered : tie.Need-cast-ordered
-cast-ordered c = search needs
-
-ordered-requires : tie.Need-ordered-requires
-ordered-requires c κs =
-    let e = c .before .before .before .before .before .before .before .before .before .before .before .before .before .before .before .before .before .before .before .before .before .before in
-    let s = entry e in
-    let b = blank-long _ _ _ (s .pre .1 .1) in
-    let k = c .before .before .before .before .before .before .before .before .before .before .before .scan2 .kept in (
-      record {
-        last-wide = c .before .before .before .before .before .before .before .before .before .before .before .before .before .before .before .before .before .before .before .scan .kept .1 .1 .1 .0 ∙ ap length (s .pre .1 .0) ∙ length-replicate {A = ℕ} 64 0;
-        written-wide = k .1 .1 .1 .1 .0 ∙ b .written-long;
-        slots-wide = k .1 .1 .1 .1 .1 .0 ∙ b .slots-long;
-        backup-wide = k .1 .1 .1 .1 .1 .1 .0 ∙ b .backup-long;
-      },
-      size e .pages,
-    )
-
-refused-requires-3 : tie.Need-refused-requires-3
-refused-requires-3 c κs = search needs
 
 same-length-2 : tie.Need-same-length-2
 same-length-2 c = search needs
@@ -102,17 +40,21 @@ same-length-3 c = search needs
 same-length-4 : tie.Need-same-length-4
 same-length-4 c = search needs
 
+returns-2 : tie.Need-returns-2
+returns-2 c =
+    let f = c .before .before .before .before .before .before .before .before .before .before .fast .ensures .0 (c .before .if2 .taken) in
+    (f .refusal, (f .counts, f .columns))
+
+blank-requires : tie.Need-blank-requires
+blank-requires c κs = search needs
+
+slow-requires : tie.Need-slow-requires
+slow-requires c κs =
+    let p = c .before .before .before .before .before .before .before .before .before .before .before .before .before .before .before .before .before .before .before .before .before .before .before .before .before .before .before .before .before .before .before .before .before .before .before .before .before .before .pre in
+    ((sym (c .before .before .before .before .before .before .before .before .before .before .before .before .before .before .before .before .before .before .before .before .before .before .before .before .before .before .before .before .before .before .before .before .sound .ensures) ∙ not-false _ (c .before .before .before .before .before .before .before .before .before .before .before .before .before .before .before .before .before .before .before .before .before .before .before .before .before .before .before .before .before .before .before .if1 .left), p .0 .1), c .before .before .before .before .before .before .before .before .before .before .before .before .blank .ensures)
+
 same-length-5 : tie.Need-same-length-5
 same-length-5 c = search needs
-
-returns-3 : tie.Need-returns-3
-returns-3 c =
-    let e = c .before .before .before .before .before .before .before .before .before .before .before .before .before .before .before .before .before .before .before .before .before .before .before .before .before in
-    let l = c .before .before .before .before .before .before .before .before .before .before .before .before .before .before .before .before .before .before .before .before .before .before .scan .ensures in
-    let n = c .before .before .before .before .before .before .before .before .before .before .before .before .before .before .scan2 .ensures in
-    refuses _ _ _ (c .refused3 .ensures)
-    (notes-refused _ (opened e) _ (entry e .pre .0 .1) _ (l .0) (not-false _ (c .before .before .before .before .before .before .before .before .before .before .before .before .before .before .before .before .before .before .before .if2 .left)) _ _ _ _ (l .1) _ (n .0) (n .1)
-    _ (c .before .before .ordered .ensures) (not-true _ (c .before .if3 .taken))) (eqb-false 18 0 refl)
 
 same-length-6 : tie.Need-same-length-6
 same-length-6 c = search needs
@@ -123,16 +65,8 @@ same-length-7 c = search needs
 same-length-8 : tie.Need-same-length-8
 same-length-8 c = search needs
 
-same-length-9 : tie.Need-same-length-9
-same-length-9 c = search needs
-
-returns-4 : tie.Need-returns-4
-returns-4 c =
-    let e = c .before .before .before .before .before .before .before .before .before .before .before .before .before .before .before .before .before .before .before .before .before .before .before .before in
-    let l = c .before .before .before .before .before .before .before .before .before .before .before .before .before .before .before .before .before .before .before .before .before .scan .ensures in
-    let n = c .before .before .before .before .before .before .before .before .before .before .before .before .before .scan2 .ensures in
-    scan-clean _ (opened e) _ (entry e .pre .0 .1) _ (l .0) (not-false _ (c .before .before .before .before .before .before .before .before .before .before .before .before .before .before .before .before .before .before .if2 .left)) _ _ _ _ (l .1) _ (n .0) (n .1)
-    _ (c .before .ordered .ensures) (not-false _ (c .if3 .left)) _ _ (c .before .before .before .before .before .before .before .before .before .before .before .before .before .before .before .before .before .before .before .before .before .before .before .run .ensures) (c .before .before .before .before .before .before .before .before .before .before .before .before .before .before .before .before .before .run2 .ensures)
+returns-3 : tie.Need-returns-3
+returns-3 c = let f = c .before .before .before .before .before .before .before .before .slow .ensures in (f .refusal, (f .counts, f .columns))
 
 pub fill-spec : {M : Type 1} → statement M
 fill-spec =
@@ -141,23 +75,16 @@ fill-spec =
     sound-requires
     refused-requires
     returns
-    run-requires
-    scan-requires
-    refused-requires-2
+    fast-requires
     same-length
-    returns-2
-    run-requires-2
-    scan-requires-2
-    cast-ordered
-    ordered-requires
-    refused-requires-3
     same-length-2
     same-length-3
     same-length-4
+    returns-2
+    blank-requires
+    slow-requires
     same-length-5
-    returns-3
     same-length-6
     same-length-7
     same-length-8
-    same-length-9
-    returns-4)
+    returns-3)

@@ -1,6 +1,7 @@
 -- `load::load` is its definition: the laws of Outcomes.antt say what each case is.
 use mathlib.Core.Path.{refl, sym, _∙_}
 use denote.Ref.{now}
+use Rattle.state.proofs.Slots.{any-memory}
 use Rattle.load.proofs.Outcomes.{refused, Open, opened, stopped, done}
 use borrow.Author.Needs.{needs}
 use Rattle.load.proofs.load.Statement.{statement}
@@ -16,7 +17,7 @@ known c =
     (sym (i .before .refusal .ensures (now (s .args .memory)) refl) ∙ i .if1 .left)
 
 refusal-requires : tie.Need-refusal-requires
-refusal-requires c κs = search needs
+refusal-requires c κs = let s = c .before .before in any-memory _ (now (s .args .memory)) _ _ (s .pre)
 
 returns : tie.Need-returns
 returns c =

@@ -4,9 +4,6 @@ use borrow.Author.Needs.{needs}
 use Rattle.load.proofs.refusal.Statement.{statement}
 use Rattle.load.proofs.refusal.Tie as tie
 
-refusal-requires : tie.Need-refusal-requires
-refusal-requires c κs = search needs
-
 geometry-requires : tie.Need-geometry-requires
 geometry-requires c κs = search needs
 
@@ -22,7 +19,7 @@ first-requires c κs = search needs
 returns : tie.Need-returns
 returns c = λ m e.
     let g = c .before .before .before in
-    early-is _ m _ _ _ _ _ _ _ _ _ (g .before .refusal .ensures m e) (g .geometry .ensures) (c .before .before .frames .ensures)
+    early-is _ m _ _ _ _ _ _ _ _ _ (g .before .before .pre m e) (g .geometry .ensures) (c .before .before .frames .ensures)
     (c .before .own .ensures)
     (c .first .ensures) e
 
@@ -30,7 +27,6 @@ pub refusal-spec : {M : Type 1} → statement M
 refusal-spec =
     tie.close
     (tie.spec
-    refusal-requires
     geometry-requires
     frames-requires
     own-requires

@@ -4,6 +4,7 @@ use native.Mathlib.Omega.{arith}
 use denote.Ref.{now}
 use Rattle.append.proofs.Outcomes.{no-row, clauses, begin-refused, begin-done}
 use Rattle.laws.proofs.Parts.{lent-length}
+use Rattle.state.proofs.Slots.{any-memory}
 use Rattle.append.proofs.Parts.{format-fits, begun-is}
 use Rattle.append.proofs.Open.{Open, begin-open}
 use Rattle.model.specs.Tables.{firstOf}
@@ -26,7 +27,7 @@ known : (c : tie.Else1) → let s = c .before .before .before .before in Open (n
 known c = begin-open _ _ _ _ _ (none c)
 
 refusal-requires : tie.Need-refusal-requires
-refusal-requires c κs = search needs
+refusal-requires c κs = let s = c .before .before in any-memory _ (now (s .args .memory)) _ _ (s .pre)
 
 returns : tie.Need-returns
 returns c =

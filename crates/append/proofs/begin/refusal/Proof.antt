@@ -5,11 +5,8 @@ use borrow.Author.Needs.{needs}
 use Rattle.append.proofs.begin.refusal.Statement.{statement}
 use Rattle.append.proofs.begin.refusal.Tie as tie
 
-refusal-requires : tie.Need-refusal-requires
-refusal-requires c κs = search needs
-
 returns : tie.Need-returns
-returns c = λ m e. begin-first _ m _ _ (c .before .refusal .ensures m e) _ _ (c .if1 .taken)
+returns c = λ m e. begin-first _ m _ _ (c .before .before .pre m e) _ _ (c .if1 .taken)
 
 geometry-requires : tie.Need-geometry-requires
 geometry-requires c κs = search needs
@@ -20,16 +17,16 @@ frames-requires c κs = search needs
 own-requires : tie.Need-own-requires
 own-requires c κs =
     let i = c .before .before in
-    (valid-volume _ _ _ _ (i .before .refusal .ensures) (i .if1 .left), c .before .geometry .ensures)
+    (valid-volume _ _ _ _ (i .before .before .pre) (i .if1 .left), c .before .geometry .ensures)
 
 returns-2 : tie.Need-returns-2
 returns-2 c = λ m e.
     let g = c .before .before in
     let i = g .before in
-    begin-rows _ m _ _ (i .before .refusal .ensures m e) _ _ _ _ _ _ (i .if1 .left) (g .geometry .ensures) (c .before .frames .ensures)
+    begin-rows _ m _ _ (i .before .before .pre m e) _ _ _ _ _ _ (i .if1 .left) (g .geometry .ensures) (c .before .frames .ensures)
     (c .own .ensures) e
 
 pub refusal-spec : {M : Type 1} → statement M
 refusal-spec =
     tie.close
-    (tie.spec refusal-requires returns geometry-requires frames-requires own-requires returns-2)
+    (tie.spec returns geometry-requires frames-requires own-requires returns-2)

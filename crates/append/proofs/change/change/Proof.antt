@@ -7,6 +7,7 @@ use lib.ListN.{length}
 use Rattle.laws.proofs.Tabulated.{length-mapped}
 use Rattle.append.proofs.Outcomes.{no-row, clauses, change-refused, change-done}
 use Rattle.laws.proofs.Parts.{lent-length}
+use Rattle.state.proofs.Slots.{any-memory}
 use Rattle.append.proofs.Parts.{altered-is}
 use Rattle.append.proofs.Open.{Open, change-open, change-fits}
 use Rattle.model.specs.Tables.{firstOf}
@@ -38,7 +39,7 @@ obeys : (c : tie.Else1) → fits (c .before .before .before .before .args .chang
 obeys c = change-fits _ _ _ _ _ (none c)
 
 refusal-requires : tie.Need-refusal-requires
-refusal-requires c κs = search needs
+refusal-requires c κs = let s = c .before .before in any-memory _ (now (s .args .memory)) _ _ (s .pre)
 
 returns : tie.Need-returns
 returns c =
@@ -104,7 +105,7 @@ returns-2 c =
     let p = h .before .before .before in
     let i = p .before .before in
     let s = i .before .before .before .before in
-    let l : length (s .args .payload) ≡ 44 = s .good .1 .1 .1 .1 .1 .0 .1 .0 .1 in
+    let l : length (s .args .payload) ≡ 44 = s .good .1 .1 .1 .1 .1 .1 .0 .1 .0 .1 in
     clauses
     (change-done (now (s .args .volume)) (now (s .args .memory)) (s .args .s) (s .args .page) (s .args .change) (s .args .payload) _ _
     (none i)

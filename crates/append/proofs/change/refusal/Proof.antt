@@ -5,11 +5,8 @@ use borrow.Author.Needs.{needs}
 use Rattle.append.proofs.change.refusal.Statement.{statement}
 use Rattle.append.proofs.change.refusal.Tie as tie
 
-refusal-requires : tie.Need-refusal-requires
-refusal-requires c κs = search needs
-
 returns : tie.Need-returns
-returns c = λ m e. change-first _ m _ _ (c .before .refusal .ensures m e) _ _ (c .if1 .taken)
+returns c = λ m e. change-first _ m _ _ (c .before .before .pre m e) _ _ (c .if1 .taken)
 
 geometry-requires : tie.Need-geometry-requires
 geometry-requires c κs = search needs
@@ -17,14 +14,14 @@ geometry-requires c κs = search needs
 own-requires : tie.Need-own-requires
 own-requires c κs =
     let i = c .before in
-    (valid-volume _ _ _ _ (i .before .refusal .ensures) (i .if1 .left), c .geometry .ensures)
+    (valid-volume _ _ _ _ (i .before .before .pre) (i .if1 .left), c .geometry .ensures)
 
 returns-2 : tie.Need-returns-2
 returns-2 c = λ m e.
     let g = c .before in
     let i = g .before in
-    change-rows _ m _ _ (i .before .refusal .ensures m e) _ _ _ _ (i .if1 .left) (g .geometry .ensures) (c .own .ensures)
+    change-rows _ m _ _ (i .before .before .pre m e) _ _ _ _ (i .if1 .left) (g .geometry .ensures) (c .own .ensures)
 
 pub refusal-spec : {M : Type 1} → statement M
 refusal-spec =
-    tie.close (tie.spec refusal-requires returns geometry-requires own-requires returns-2)
+    tie.close (tie.spec returns geometry-requires own-requires returns-2)

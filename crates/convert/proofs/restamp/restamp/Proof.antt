@@ -8,13 +8,26 @@ use lib.ListN.{length}
 use denote.Ref.{now}
 use Rattle.model.specs.Tables.{firstOf}
 use Rattle.model.specs.Geometry.{carryTag, validVolume}
-use Rattle.convert.proofs.Rows.{headRows, valid-volume}
+use Rattle.convert.proofs.Rows.{headRows, head-rows, valid-volume}
 use Rattle.convert.proofs.Places.{few, image-fits}
 use Rattle.laws.proofs.Parts.{lent-length}
 use Rattle.convert.proofs.Outcomes.{restamp-refused, restamp-idle, restamp-done}
 use borrow.Author.Needs.{needs}
 use Rattle.convert.proofs.restamp.restamp.Statement.{statement}
 use Rattle.convert.proofs.restamp.restamp.Tie as tie
+
+-- what the rows that all three have give
+rows : (c : tie.After-refusal) → let s = c .before .before .before .before in c .refusal .result ≡ firstOf
+    (headRows carryTag (now (s .args .volume)) (now (s .args .memory)) (s .args .s) [])
+rows c =
+    let s = c .before .before .before .before in
+    head-rows carryTag (now (s .args .volume)) (now (s .args .memory)) (s .args .s) _ _ (s .pre) (c .refusal .ensures)
+
+-- past the first test: the volume is valid
+sound : (c : tie.Else1) → validVolume (now (c .before .before .before .before .before .args .volume)) ≡ true
+sound c =
+    let a = c .before .before .before .before .before .args in
+    valid-volume carryTag (now (a .volume)) (now (a .memory)) (a .s) _ (rows (c .before)) (c .if1 .left)
 
 -- past the tests: the call is not refused
 abbrev entry : tie.After-struct-known → tie.Start
@@ -24,12 +37,10 @@ calm : (c : tie.After-struct-known) → firstOf
     (headRows carryTag (now (entry c .args .volume)) (now (entry c .args .memory)) (entry c .args .s) []) ≡ 0
 calm c =
     let i = c .before .before .before .before .before .before in
-    sym (i .before .refusal .ensures (now (entry c .args .memory)) refl) ∙ i .if1 .left
+    sym (rows (i .before)) ∙ i .if1 .left
 
 valid : (c : tie.After-struct-known) → validVolume (now (entry c .args .volume)) ≡ true
-valid c =
-    let i = c .before .before .before .before .before .before in
-    valid-volume _ _ _ _ _ (i .before .refusal .ensures) (i .if1 .left)
+valid c = sound (c .before .before .before .before .before .before)
 
 -- and the image is within the volume
 room : (c : tie.After-image-at) → c .image-at .result + 256 ≤ length (now (entry (c .before .before) .args .volume))
@@ -46,8 +57,7 @@ same-length : tie.Need-same-length
 same-length c = search needs
 
 returns : tie.Need-returns
-returns c = restamp-refused _ _ _ _
-    (c .before .refusal .ensures (now (c .before .before .before .before .before .args .memory)) refl) (c .if1 .taken)
+returns c = restamp-refused _ _ _ _ (rows (c .before)) (c .if1 .taken)
 
 geometry-requires : tie.Need-geometry-requires
 geometry-requires c κs = search needs
@@ -55,8 +65,7 @@ geometry-requires c κs = search needs
 first-old-requires : tie.Need-first-old-requires
 first-old-requires c κs =
     let g = c .before .before in
-    let i = g .before .before in
-    (valid-volume _ _ _ _ _ (i .before .refusal .ensures) (i .if1 .left), g .geometry .ensures)
+    (sound (g .before .before), g .geometry .ensures)
 
 add-if2 : tie.Need-add-if2
 add-if2 c = omega (arith, few _ _ (valid c) (c .before .before .before .before .geometry .ensures))

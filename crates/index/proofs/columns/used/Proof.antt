@@ -1,25 +1,27 @@
--- `index::columns::used` meets its contract. The loop keeps: what was found, or what is left of the column, decides.
-use mathlib.Core.Path.{_≡_, refl, sym, _∙_}
-use mathlib.Core.Bool.{Bool, true, false, _||_}
+-- `index::columns::used` meets its contract. The loop keeps: what was counted, or what is left of the column, decides.
+use mathlib.Core.Path.{_≡_, refl, _∙_}
+use mathlib.Core.Bool.{not, _||_}
 use Prim.Native.Nat.{_-_, _≤_}
+use native.Mathlib.Omega.{arith}
 use borrow.Author.Needs.{needs}
 use denote.Ref.{now}
-use lib.ListN.{length, drop}
+use lib.Dec.{eqb}
+use lib.ListN.{drop}
 use Rattle.index.specs.Columns.{slotIn}
-use Rattle.index.proofs.ColumnLaws.{in-next, in-end}
+use Rattle.index.proofs.ColumnLaws.{or-none, in-end, counted-next}
 use Rattle.index.proofs.columns.used.Statement.{statement}
 use Rattle.index.proofs.columns.used.Tie as tie
-
--- nothing is left that could decide
-or-none : (found rest : Bool) → rest ≡ false → found ≡ (found || rest)
-or-none true rest e = refl
-or-none false rest e = sym e
+use Rattle.index.proofs.columns.used.Reads as reads
+use Rattle.index.proofs.columns.used.Lts as lts
+use Rattle.index.proofs.columns.one.Reads as one-reads
+use Rattle.index.proofs.columns.wide.Reads as wide-reads
 
 abbrev Inv-loop : tie.InvT-loop
-Inv-loop slots slot found₀ i₀ found i = (i ≤ length slots) × ((found || slotIn slot (drop i slots)) ≡ slotIn slot slots)
+Inv-loop slots slot n₀ i₀ n i =
+    (i ≤ 64) × (n ≤ i) × ((not (eqb n 0) || slotIn slot (drop i slots)) ≡ slotIn slot slots)
 
 abbrev μ-loop : tie.MeasureT-loop
-μ-loop slots slot found₀ i₀ found i = length slots - i
+μ-loop slots slot n₀ i₀ n i = 64 - i
 
 loop-holds : tie.Need-loop-holds Inv-loop μ-loop
 loop-holds c = search needs
@@ -30,6 +32,12 @@ shared-slice-read-wide c = search needs
 wide-requires : tie.Need-wide-requires Inv-loop μ-loop
 wide-requires c κs = search needs
 
+one-requires : tie.Need-one-requires Inv-loop μ-loop
+one-requires c κs = search needs
+
+add-n : tie.Need-add-n Inv-loop μ-loop
+add-n c = search needs
+
 add-i : tie.Need-add-i Inv-loop μ-loop
 add-i c = search needs
 
@@ -38,17 +46,20 @@ loop-less c = search needs
 
 loop-again : tie.Need-loop-again Inv-loop μ-loop
 loop-again c =
-    let l = c .before .before .before .loop in
-    let a = c .before .before .before .before .before .args in (
-      search needs,
-      rw (c .wide .ensures) (sym (in-next (a .slot) (now (a .slots)) (l .i) (l .found) (c .before .before .loop-test .taken)) ∙ l .inv .1),
+    let l = c .before .before .before .before .loop in
+    let s = c .before .before .before .before .before .before in
+    let t = c .before .before .before .loop-test .taken in (
+      omega (arith, t),
+      omega (arith, l .inv .1, c .one .ensures .1),
+      counted-next (s .args .slot) (now (s .args .slots)) (l .i) (l .n) _ (omega (arith, t, s .pre)) (rw (c .before .wide .ensures) at (c .one .ensures .0))
+          ∙ l .inv .2,
     )
 
 returns : tie.Need-returns Inv-loop μ-loop
 returns c =
     let l = c .before .loop in
-    let a = c .before .before .before .args in
-    or-none (l .found) _ (in-end (a .slot) (now (a .slots)) (l .i) (c .loop-test .left)) ∙ l .inv .1
+    let s = c .before .before .before in
+    or-none (not (eqb (l .n) 0)) _ (in-end (s .args .slot) (now (s .args .slots)) (l .i) (omega (arith, s .pre, c .loop-test .left))) ∙ l .inv .2
 
 pub used-spec : {M : Type 1} → statement M
 used-spec =
@@ -59,6 +70,8 @@ used-spec =
     loop-holds
     shared-slice-read-wide
     wide-requires
+    one-requires
+    add-n
     add-i
     loop-less
     loop-again

@@ -8,22 +8,25 @@ use Rattle.load.proofs.probe.refusal.Statement.{statement}
 use Rattle.load.proofs.probe.refusal.Tie as tie
 
 -- past the rows before the walk: what that tells
-known : (c : tie.After-entry) → let s = c .before .before .before .before .before .before in Open (now (s .args .volume))
+known : (c : tie.After-entry) → let s = c .before .before .before .before .before .before .before in Open (now (s .args .volume))
     (now (s .args .memory)) (s .args .s) (s .args .page) (s .args .frame) (c .before .geometry .result) (c .entry .result)
 known c =
     let i = c .before .before in
-    let s = i .before .before .before .before in
+    let s = i .before .before .before .before .before in
     opened _ _ _ _ _ _ _ (c .before .geometry .ensures) (c .entry .ensures)
-    (sym (i .before .refusal .ensures (now (s .args .memory)) refl) ∙ i .if1 .left)
+    (sym (i .before .refusal2 .ensures (now (s .args .memory)) refl) ∙ i .if1 .left)
 
 refusal-requires : tie.Need-refusal-requires
 refusal-requires c κs = search needs
 
+refusal-requires-2 : tie.Need-refusal-requires-2
+refusal-requires-2 c κs = c .refusal .ensures
+
 returns : tie.Need-returns
 returns c =
-    let s = c .before .before .before .before in
+    let s = c .before .before .before .before .before in
     early-refuses (now (s .args .volume)) (now (s .args .memory)) (s .args .s) (s .args .page) (s .args .frame) _
-    (c .before .refusal .ensures (now (s .args .memory)) refl) (c .if1 .taken)
+    (c .before .refusal2 .ensures (now (s .args .memory)) refl) (c .if1 .taken)
 
 geometry-requires : tie.Need-geometry-requires
 geometry-requires c κs = search needs
@@ -50,6 +53,7 @@ refusal-spec =
     tie.close
     (tie.spec
     refusal-requires
+    refusal-requires-2
     returns
     geometry-requires
     entry-requires

@@ -1,13 +1,9 @@
 -- `load::release::refusal` gives the table's answer.
-use mathlib.Core.Path.{refl}
 use denote.Ref.{now}
 use Rattle.load.proofs.Releases.{release-rows}
 use borrow.Author.Needs.{needs}
 use Rattle.load.proofs.release.refusal.Statement.{statement}
 use Rattle.load.proofs.release.refusal.Tie as tie
-
-refusal-requires : tie.Need-refusal-requires
-refusal-requires c κs = search needs
 
 geometry-requires : tie.Need-geometry-requires
 geometry-requires c κs = search needs
@@ -24,12 +20,12 @@ first-requires c κs = search needs
 returns : tie.Need-returns
 returns c =
     let h = c .before .before in
-    let r = h .before .before in
-    let a = r .before .before .before .args in
-    release-rows (now (a .volume)) (now (a .memory)) (a .s) (a .page) _ _ _ _ _ (r .refusal .ensures (now (a .memory)) refl)
+    let s = h .before .before .before .before in
+    let a = s .args in
+    release-rows (now (a .volume)) (now (a .memory)) (a .s) (a .page) _ _ _ _ _ (s .pre)
     (h .before .geometry .ensures) (h .holder .ensures) (c .before .own .ensures) (c .first .ensures)
 
 pub refusal-spec : {M : Type 1} → statement M
 refusal-spec =
     tie.close
-    (tie.spec refusal-requires geometry-requires holder-requires own-requires first-requires returns)
+    (tie.spec geometry-requires holder-requires own-requires first-requires returns)

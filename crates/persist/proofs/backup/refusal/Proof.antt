@@ -1,19 +1,16 @@
 -- `persist::backup::refusal` meets its contract.
-use mathlib.Core.Path.{refl}
 use denote.Ref.{now}
-use Rattle.state.proofs.Slots.{valid-volume}
+use Rattle.state.proofs.Slots.{valid-with}
 use Rattle.persist.proofs.Rows.{backup-first, backup-rows}
 use borrow.Author.Needs.{needs}
 use Rattle.persist.proofs.backup.refusal.Statement.{statement}
 use Rattle.persist.proofs.backup.refusal.Tie as tie
 
-refusal-requires : tie.Need-refusal-requires
-refusal-requires c κs = search needs
-
 returns : tie.Need-returns
 returns c =
-    let a = c .before .before .before .before .args in
-    backup-first (now (a .volume)) (now (a .memory)) (a .s) _ (a .page) (c .before .refusal .ensures (now (a .memory)) refl)
+    let s = c .before .before .before in
+    let a = s .args in
+    backup-first (now (a .volume)) (now (a .memory)) (a .s) _ (a .page) (s .pre)
     (a .slot) (c .if1 .taken)
 
 geometry-requires : tie.Need-geometry-requires
@@ -29,22 +26,23 @@ own-requires : tie.Need-own-requires
 own-requires c κs =
     let g = c .before .before in
     let i = g .before in
-    (valid-volume _ _ _ _ (i .before .refusal .ensures) (i .if1 .left), g .geometry .ensures)
+    let s = i .before .before .before in
+    (valid-with _ (now (s .args .memory)) _ _ (s .pre) (i .if1 .left), g .geometry .ensures)
 
 returns-2 : tie.Need-returns-2
 returns-2 c =
     let h = c .before .before in
     let i = h .before .before in
-    let a = i .before .before .before .before .args in
+    let s = i .before .before .before in
+    let a = s .args in
     backup-rows (now (a .volume)) (now (a .memory)) (a .s) _ (a .page)
-    (i .before .refusal .ensures (now (a .memory)) refl) _ _ _ _ (i .if1 .left)
+    (s .pre) _ _ _ _ (i .if1 .left)
     (h .before .geometry .ensures) (h .holder .ensures) (c .before .lsn .ensures) (a .slot) (c .own .ensures)
 
 pub refusal-spec : {M : Type 1} → statement M
 refusal-spec =
     tie.close
     (tie.spec
-    refusal-requires
     returns
     geometry-requires
     holder-requires

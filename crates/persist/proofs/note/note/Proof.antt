@@ -1,5 +1,5 @@
 -- `persist::note::note` is its definition: the laws of Outcomes.antt say what each case is.
-use mathlib.Core.Path.{_≡_, refl, sym, _∙_}
+use mathlib.Core.Path.{_≡_, sym, _∙_}
 use mathlib.Core.List.{[]}
 use native.Mathlib.Omega.{arith}
 use denote.Ref.{now}
@@ -13,30 +13,24 @@ use Rattle.persist.proofs.note.note.Statement.{statement}
 use Rattle.persist.proofs.note.note.Tie as tie
 
 -- past the test: rows 1 and 2 do not hold
-none : (c : tie.Else1) → let s = c .before .before .before .before .before in firstOf
+none : (c : tie.Else1) → let s = c .before .before .before in firstOf
     (stateRows (now (s .args .volume)) (now (s .args .memory)) (s .args .s) []) ≡ 0
-none c = sym (c .before .refusal .ensures (now (c .before .before .before .before .before .args .memory)) refl) ∙ c .if1 .left
+none c = sym (c .before .before .before .pre) ∙ c .if1 .left
 
 -- a note is pending
 known : (c : tie.After-geometry)
-    → let p = c .before .before .before in let s = p .before .before .before .before .before .before .before in NoteRoom
+    → let p = c .before .before .before in let s = p .before .before .before .before .before in NoteRoom
     (now (s .args .volume)) (s .args .s) (c .geometry .result) (p .p .given .0 .0)
 known c =
     let p = c .before .before .before in
-    let s = p .before .before .before .before .before .before .before in
+    let s = p .before .before .before .before .before in
     note-room (now (s .args .volume)) (now (s .args .memory)) (s .args .s) _ _ (c .geometry .ensures) (none (p .before .before))
     (p .p .given .1)
 
-refusal-requires : tie.Need-refusal-requires
-refusal-requires c κs = search needs
-
-same-length : tie.Need-same-length
-same-length c = search needs
-
 returns : tie.Need-returns
 returns c =
-    let a = c .before .before .before .before .before .args in
-    note-refused (now (a .volume)) (now (a .memory)) (a .s) _ (c .before .refusal .ensures (now (a .memory)) refl) (c .if1 .taken)
+    let s = c .before .before .before in
+    note-refused (now (s .args .volume)) (now (s .args .memory)) (s .args .s) _ (s .pre) (c .if1 .taken)
 
 enum-known-p : tie.Need-enum-known-p
 enum-known-p c = search needs
@@ -44,12 +38,9 @@ enum-known-p c = search needs
 enum-told : tie.Need-enum-told
 enum-told c = search needs
 
-same-length-2 : tie.Need-same-length-2
-same-length-2 c = search needs
-
 returns-2 : tie.Need-returns-2
 returns-2 c =
-    let a = c .before .before .before .before .before .before .before .args in
+    let a = c .before .before .before .before .before .args in
     note-idle (now (a .volume)) (now (a .memory)) (a .s) (none (c .before .before)) (c .enum-told .given .1)
 
 geometry-requires : tie.Need-geometry-requires
@@ -81,8 +72,8 @@ noted-requires c κs =
     let k = known (c .before .before .before .before .before .before) in
     (k .page-low, k .page-high, omega (arith, k .notes))
 
-same-length-3 : tie.Need-same-length-3
-same-length-3 c = search needs
+same-length : tie.Need-same-length
+same-length c = search needs
 
 returns-3 : tie.Need-returns-3
 returns-3 c =
@@ -90,7 +81,7 @@ returns-3 c =
     let at = e .before .before in
     let g = at .before .before in
     let p = g .before .before .before in
-    let a = p .before .before .before .before .before .before .before .args in
+    let a = p .before .before .before .before .before .args in
     note-done (now (a .volume)) (now (a .memory)) (a .s) (p .p .given .0 .0) _ _ _ _ (none (p .before .before)) (p .p .given .1)
     (g .geometry .ensures)
     (at .note-slot .ensures) (c .noted .ensures) (note-put (now (a .volume)) _ (p .p .given .0 .0) _ (e .encode .ensures))
@@ -99,12 +90,9 @@ pub note-spec : {M : Type 1} → statement M
 note-spec =
     tie.close
     (tie.spec
-    refusal-requires
-    same-length
     returns
     enum-known-p
     enum-told
-    same-length-2
     returns-2
     geometry-requires
     add-number
@@ -115,5 +103,5 @@ note-spec =
     part-slot-end
     encode-requires
     noted-requires
-    same-length-3
+    same-length
     returns-3)

@@ -11,8 +11,8 @@ add-n c = search needs
 add-n-2 : tie.Need-add-n-2
 add-n-2 c = search needs
 
-add-t : tie.Need-add-t
-add-t c = search needs
+add-s : tie.Need-add-s
+add-s c = search needs
 
 sub-k : tie.Need-sub-k
 sub-k c = search needs
@@ -20,14 +20,14 @@ sub-k c = search needs
 cast-k : tie.Need-cast-k
 cast-k c = search needs
 
-cast-t9 : tie.Need-cast-t9
-cast-t9 c = search needs
+cast-t11 : tie.Need-cast-t11
+cast-t11 c = search needs
 
-mul-t11 : tie.Need-mul-t11
-mul-t11 c = search needs
+mul-t13 : tie.Need-mul-t13
+mul-t13 c = search needs
 
-element-set-from-t : tie.Need-element-set-from-t
-element-set-from-t c = search needs
+element-set-from-s : tie.Need-element-set-from-s
+element-set-from-s c = search needs
 
 sub-i : tie.Need-sub-i
 sub-i c = search needs
@@ -35,11 +35,11 @@ sub-i c = search needs
 cast-i : tie.Need-cast-i
 cast-i c = search needs
 
-mul-t : tie.Need-mul-t
-mul-t c = search needs
+mul-s : tie.Need-mul-s
+mul-s c = search needs
 
-way-write-given-t : tie.Need-way-write-given-t
-way-write-given-t c = search needs
+way-write-given-s : tie.Need-way-write-given-s
+way-write-given-s c = search needs
 
 returns : tie.Need-returns
 unfolding appendedState
@@ -51,14 +51,14 @@ appended-spec =
     (tie.spec
     add-n
     add-n-2
-    add-t
+    add-s
     sub-k
     cast-k
-    cast-t9
-    mul-t11
-    element-set-from-t
+    cast-t11
+    mul-t13
+    element-set-from-s
     sub-i
     cast-i
-    mul-t
-    way-write-given-t
+    mul-s
+    way-write-given-s
     returns)

@@ -9,21 +9,21 @@ use Rattle.state.proofs.next.forced.Tie as tie
 add-n : tie.Need-add-n
 add-n c = search needs
 
-sub-t : tie.Need-sub-t
-sub-t c = search needs
+sub-s : tie.Need-sub-s
+sub-s c = search needs
 
 sub-i : tie.Need-sub-i
-sub-i c = let a = c .before .before .before .args in within-bounds (a .pages) (a .page) (c .if1 .taken) .0
+sub-i c = let a = c .before .args in within-bounds (a .pages) (a .page) (c .if1 .taken) .0
 
 cast-i : tie.Need-cast-i
 cast-i c = search needs
 
-mul-t : tie.Need-mul-t
-mul-t c = search needs
+mul-s : tie.Need-mul-s
+mul-s c = search needs
 
-way-write-given-t : tie.Need-way-write-given-t
-way-write-given-t c =
-    let a = c .before .before .before .args in
+way-write-given-s : tie.Need-way-write-given-s
+way-write-given-s c =
+    let a = c .before .args in
     (omega (arith, within-bounds (a .pages) (a .page) (c .if1 .taken)), tt)
 
 returns : tie.Need-returns
@@ -34,4 +34,4 @@ returns-2 c = forced-out _ _ _ (c .if1 .left)
 
 pub forced-spec : {M : Type 1} → statement M
 forced-spec =
-    tie.close (tie.spec add-n sub-t sub-i cast-i mul-t way-write-given-t returns returns-2)
+    tie.close (tie.spec add-n sub-s sub-i cast-i mul-s way-write-given-s returns returns-2)

@@ -1,10 +1,15 @@
 -- `store::Store::begin` meets its contract: the call's own.
+use mathlib.Core.Path.{refl}
+use denote.Ref.{now}
 use borrow.Author.Needs.{needs}
 use Rattle.store.proofs.Store.begin.Statement.{statement}
 use Rattle.store.proofs.Store.begin.Tie as tie
 
+refusal-requires : tie.Need-refusal-requires
+refusal-requires c κs = search needs
+
 begin-requires : tie.Need-begin-requires
-begin-requires c κs = search needs
+begin-requires c κs = c .before .refusal .ensures (now (c .before .before .before .before .before .args .memory)) refl
 
 wrap-requires : tie.Need-wrap-requires
 wrap-requires c κs = search needs
@@ -16,4 +21,4 @@ returns : tie.Need-returns
 returns c = let e = c .before .before .before .begin .ensures in (rw (e .0) at (c .wrap .ensures), e .1)
 
 pub begin-spec : {M : Type 1} → statement M
-begin-spec = tie.close (tie.spec begin-requires wrap-requires same-length returns)
+begin-spec = tie.close (tie.spec refusal-requires begin-requires wrap-requires same-length returns)

@@ -1,10 +1,15 @@
 -- `store::Store::force` meets its contract: the call's own.
+use mathlib.Core.Path.{refl}
+use denote.Ref.{now}
 use borrow.Author.Needs.{needs}
 use Rattle.store.proofs.Store.force.Statement.{statement}
 use Rattle.store.proofs.Store.force.Tie as tie
 
+refusal-requires : tie.Need-refusal-requires
+refusal-requires c κs = search needs
+
 force-requires : tie.Need-force-requires
-force-requires c κs = search needs
+force-requires c κs = c .before .refusal .ensures (now (c .before .before .before .before .before .before .args .memory)) refl
 
 wrap-requires : tie.Need-wrap-requires
 wrap-requires c κs = search needs
@@ -16,4 +21,4 @@ returns : tie.Need-returns
 returns c = let e = c .before .before .before .force .ensures in (rw (e .0) at (c .wrap .ensures), e .1)
 
 pub force-spec : {M : Type 1} → statement M
-force-spec = tie.close (tie.spec force-requires wrap-requires same-length returns)
+force-spec = tie.close (tie.spec refusal-requires force-requires wrap-requires same-length returns)

@@ -1,10 +1,15 @@
 -- `store::Store::restamp` meets its contract: the call's own.
+use mathlib.Core.Path.{refl}
+use denote.Ref.{now}
 use borrow.Author.Needs.{needs}
 use Rattle.store.proofs.Store.restamp.Statement.{statement}
 use Rattle.store.proofs.Store.restamp.Tie as tie
 
+refusal-requires : tie.Need-refusal-requires
+refusal-requires c κs = search needs
+
 restamp-requires : tie.Need-restamp-requires
-restamp-requires c κs = search needs
+restamp-requires c κs = c .before .refusal .ensures (now (c .before .before .before .before .before .before .args .memory)) refl
 
 wrap-requires : tie.Need-wrap-requires
 wrap-requires c κs = search needs
@@ -16,4 +21,4 @@ returns : tie.Need-returns
 returns c = let e = c .before .before .before .restamp .ensures in (rw (e .0) at (c .wrap .ensures), e .1)
 
 pub restamp-spec : {M : Type 1} → statement M
-restamp-spec = tie.close (tie.spec restamp-requires wrap-requires same-length returns)
+restamp-spec = tie.close (tie.spec refusal-requires restamp-requires wrap-requires same-length returns)

@@ -1,0 +1,89 @@
+-- `index::notes::sweep` meets its contract: notes that were passed and are closed are all notes.
+use Prim.Native.Nat.{_-_}
+use mathlib.Core.Path.{refl, sym, ap, _∙_, subst}
+use native.Mathlib.Omega.{arith}
+use borrow.Author.Tests.{not-false}
+use denote.Ref.{now}
+use Rattle.laws.proofs.Tables.{true-not-false}
+use Rattle.section.specs.Sweep.{Guessed, closedOf}
+use Rattle.section.specs.declared.Section.{Section}
+use Rattle.index.specs.Sections.{noteSection}
+use Rattle.index.proofs.Located.{note-placed}
+use Rattle.index.proofs.NotesSwept.{sweeps}
+use borrow.Author.Needs.{needs}
+use Rattle.index.proofs.notes.sweep.Statement.{statement}
+use Rattle.index.proofs.notes.sweep.Tie as tie
+
+-- the guess is one of the notes
+guessed : (c : tie.After-guess-start) → Guessed (noteSection (c .before .before .before .before .before .before .args .g)) (c .guess-start .result)
+guessed c = subst (λ (s : Section). Guessed s (c .guess-start .result)) (c .before .locate .ensures) (c .guess-start .ensures)
+
+locate-requires : tie.Need-locate-requires
+locate-requires c κs = search needs
+
+guess-start-requires : tie.Need-guess-start-requires
+guess-start-requires c κs = rw (c .locate .ensures) (note-placed _ _ (c .before .before .before .before .before .pre .0))
+
+pass-requires : tie.Need-pass-requires
+pass-requires c κs =
+    let p = c .before .before .before .before .before .before .before .before .before .pre in
+    (p .0, (p .1 .0, (guessed (c .before .before .before), p .1 .1)))
+
+same-length : tie.Need-same-length
+same-length c = search needs
+
+same-length-2 : tie.Need-same-length-2
+same-length-2 c = search needs
+
+same-length-3 : tie.Need-same-length-3
+same-length-3 c = search needs
+
+returns : tie.Need-returns
+returns c = (λ t. absurd (true-not-false t refl), c .before .before .before .before .before .before .before .before .pass .ensures .1)
+
+sub-closed : tie.Need-sub-closed
+sub-closed c = omega (arith, c .before .before .before .before .before .before .before .before .before .pass .ensures .0 (not-false _ (c .before .if1 .left)) .order)
+
+closed-requires : tie.Need-closed-requires
+closed-requires c κs = let p = c .before .before .before .before .before .before .before .before .before in rw (p .before .before .before .before .before .locate .ensures) (note-placed _ _ (p .before .before .before .before .before .before .before .before .before .before .pre .0))
+
+same-length-4 : tie.Need-same-length-4
+same-length-4 c = search needs
+
+same-length-5 : tie.Need-same-length-5
+same-length-5 c = search needs
+
+same-length-6 : tie.Need-same-length-6
+same-length-6 c = search needs
+
+returns-2 : tie.Need-returns-2
+returns-2 c =
+    let p = c .before .before .before .before .before .before .before .before .before .before in
+    let s = p .before .before .before .before .before .before .before .before .before .before in
+    let f = p .before .before .before .before in
+    let n = p .pass .result .next in
+    let u = f .guess-start .result in (
+      λ t. sweeps (s .args .g) (now (s .args .volume)) (s .pre .0) u (guessed f) n _ _ _
+          (p .pass .ensures .0 (not-false _ (c .before .before .if1 .left)))
+          (ap (λ (x : Section). closedOf (now (s .args .volume)) x (u .first) (n - u .first)) (sym (f .before .locate .ensures))
+          ∙ sym (c .closed .ensures) ∙ t),
+      p .pass .ensures .1,
+    )
+
+pub sweep-spec : {M : Type 1} → statement M
+sweep-spec =
+    tie.close
+    (tie.spec
+    locate-requires
+    guess-start-requires
+    pass-requires
+    same-length
+    same-length-2
+    same-length-3
+    returns
+    sub-closed
+    closed-requires
+    same-length-4
+    same-length-5
+    same-length-6
+    returns-2)
