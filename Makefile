@@ -134,7 +134,7 @@ guide-check: library
 	@./target/c/guide target/c/guide.vol > target/c/guide.txt
 	@sed -n '/^    gcc .*guide/,/^$$/p' docs/C.md | sed '1d;$$d;s/^    //' | diff target/c/guide.txt -
 
-# make torture            the store in a file, killed, cut and damaged, against a plain book; ROUNDS=300, SEED=1,
+# make torture            the store in a file, killed, cut and damaged, against an abstract log; ROUNDS=300, SEED=1,
 #                         MODE=upkeep: small rings, and no call may be refused for room
 # make torture-check      300 rounds of it, failing calls of the system, both sanitized too, faults planted in the layer
 # make ward-check         docs/C.md's story of examples/ward.c, word by word
@@ -145,7 +145,7 @@ CC_FILE = $(CC_TEST) -pthread -Ilib -Wl,--wrap=pwrite,--wrap=fdatasync,--wrap=fs
 SANITIZED = -g -fsanitize=address,undefined -fno-sanitize-recover=all
 # a file system without a disk, where syncs cost nothing
 ROOM = $(if $(wildcard /dev/shm),/dev/shm,/tmp)
-TORTURE = $(patsubst %,tests/c/%.c,torture caller book harm disk volume)
+TORTURE = $(patsubst %,tests/c/%.c,torture caller abstract_log harm disk volume)
 FILE_TEST = $(patsubst %,tests/c/%.c,file_test file_faults file_upkeep disk volume)
 
 torture-program: library

@@ -65,26 +65,42 @@ static void timed(const struct filling *f, double *ours, double *theirs) {
 #define SMALL {2, 1, 4, 4}
 
 static const struct filling fillings[] = {
-    {"L 1,024", BIG(1024), "CHPV", 1024, 1024, 0, 44, false},
-    {"L 256", BIG(256), "CHPV", 256, 1024, 0, 44, false},
-    {"L 64", BIG(64), "CHPV", 64, 1024, 0, 44, false},
-    {"P 2, B 1, L 4, N 4", SMALL, "CHPV", 4, 4, 0, 44, false},
-    {"half of the notes backups", BIG(1024), "CHPV", 1024, 1024, 2, 44, false},
-    {"payloads of 5 bytes", BIG(1024), "CHPV", 1024, 1024, 0, 5, false},
-    {"own image good", BIG(1024), "CHPV", 1024, 1024, 0, 44, true},
-    {"a log one tenth full", BIG(1024), "CHPV", 102, 102, 0, 44, false},
-    {"second heading, L 1,024", BIG(1024), "CHP2", 1024, 1024, 0, 44, false},
-    {"second heading, L 256", BIG(256), "CHP2", 256, 1024, 0, 44, false},
-    {"second heading, L 64", BIG(64), "CHP2", 64, 1024, 0, 44, false},
-    {"second heading, P 2, L 4", SMALL, "CHP2", 4, 4, 0, 44, false},
-    {"turned, own image good", BIG(1024), "CHP2", 2500, 2500, 0, 44, true},
-    {"turned, half backups", BIG(1024), "CHP2", 2500, 2500, 2, 44, true},
-    {"turned, P 2, L 4", SMALL, "CHP2", 11, 11, 0, 44, true},
+    {"L 1,024", BIG(1024), "CHPV", 1024, 1024, 0, 44, false, NONE},
+    {"L 256", BIG(256), "CHPV", 256, 1024, 0, 44, false, NONE},
+    {"L 64", BIG(64), "CHPV", 64, 1024, 0, 44, false, NONE},
+    {"P 2, B 1, L 4, N 4", SMALL, "CHPV", 4, 4, 0, 44, false, NONE},
+    {"half of the notes backups", BIG(1024), "CHPV", 1024, 1024, 2, 44, false, NONE},
+    {"payloads of 5 bytes", BIG(1024), "CHPV", 1024, 1024, 0, 5, false, NONE},
+    {"own image good", BIG(1024), "CHPV", 1024, 1024, 0, 44, true, NONE},
+    {"a log one tenth full", BIG(1024), "CHPV", 102, 102, 0, 44, false, NONE},
+    {"second heading, L 1,024", BIG(1024), "CHP2", 1024, 1024, 0, 44, false, NONE},
+    {"second heading, L 256", BIG(256), "CHP2", 256, 1024, 0, 44, false, NONE},
+    {"second heading, L 64", BIG(64), "CHP2", 64, 1024, 0, 44, false, NONE},
+    {"second heading, P 2, L 4", SMALL, "CHP2", 4, 4, 0, 44, false, NONE},
+    {"turned, own image good", BIG(1024), "CHP2", 2500, 2500, 0, 44, true, NONE},
+    {"turned, half backups", BIG(1024), "CHP2", 2500, 2500, 2, 44, true, NONE},
+    {"turned, P 2, L 4", SMALL, "CHP2", 11, 11, 0, 44, true, NONE},
+    {"turned, seam torn", BIG(1024), "CHP2", 2500, 2500, 0, 44, true, FRONT},
+    {"turned, seam torn, old number", BIG(1024), "CHP2", 2500, 2500, 0, 44, true, BACK},
+    {"turned, seam torn, P 2, L 4", SMALL, "CHP2", 11, 11, 0, 44, true, BACK},
 };
 
 enum { COUNT = sizeof fillings / sizeof fillings[0] };
 
+/* Small rings of every length up to 5 at every moment of their first turns, the next items torn. */
+static void torn_compared(void) {
+    for (uint32_t slots = 2; slots <= 5; slots++)
+        for (uint32_t n = 1; n <= 4 * slots; n++)
+            for (enum cut cut = FRONT; cut <= BACK; cut++) {
+                struct counts c = {2, 1, slots, slots - 1};
+                const struct filling f = {"a small ring, torn", c, "CHP2", n, n, 0, 44, true, cut};
+                filled(volume, &f);
+                compared(&f);
+            }
+}
+
 void inspection_compared(void) {
+    torn_compared();
     for (size_t i = 0; i < COUNT; i++) {
         filled(volume, fillings + i);
         compared(fillings + i);

@@ -10,12 +10,13 @@
 #define BIG(l) {64, 128, l, 1024}
 
 static const struct filling fillings[] = {
-    {"L 1,024", BIG(1024), "CHP2", 1024, 1024, 2, 44, false},
-    {"L 256", BIG(256), "CHP2", 256, 1024, 2, 44, false},
-    {"L 64", BIG(64), "CHP2", 64, 1024, 2, 44, false},
-    {"turned", BIG(1024), "CHP2", 2500, 2500, 2, 44, true},
-    {"first heading", BIG(256), "CHPV", 200, 200, 2, 44, false},
-    {"P 2, L 4", {2, 1, 4, 4}, "CHP2", 3, 3, 0, 44, false},
+    {"L 1,024", BIG(1024), "CHP2", 1024, 1024, 2, 44, false, NONE},
+    {"L 256", BIG(256), "CHP2", 256, 1024, 2, 44, false, NONE},
+    {"L 64", BIG(64), "CHP2", 64, 1024, 2, 44, false, NONE},
+    {"turned", BIG(1024), "CHP2", 2500, 2500, 2, 44, true, NONE},
+    {"turned, seam torn", BIG(1024), "CHP2", 2500, 2500, 2, 44, true, FRONT},
+    {"first heading", BIG(256), "CHPV", 200, 200, 2, 44, false, NONE},
+    {"P 2, L 4", {2, 1, 4, 4}, "CHP2", 3, 3, 0, 44, false, NONE},
 };
 
 enum { COUNT = sizeof fillings / sizeof fillings[0], TIMED = 3, ARCHIVE = 65792 };

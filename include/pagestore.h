@@ -34,7 +34,8 @@ uint32_t pagestore_version(void);
 const char *pagestore_text(uint32_t answer);
 
 /* The most bytes of stack that a call takes, whatever the volume: a call that takes the state, and any other.
- * Measured in the gate for every function (tests/c/stack_test.c), not proved. A server's threads need as much. */
+ * Measured in the gate for every function of the library but the two above (tests/c/stack_test.c), not proved. Threads
+ * of a server need as much. */
 #define PAGESTORE_STATE_STACK 32768u
 #define PAGESTORE_STACK 8192u
 
@@ -43,7 +44,7 @@ const char *pagestore_text(uint32_t answer);
 #define PAGESTORE_OK 0u
 #define PAGESTORE_NOTHING 256u             /* there was nothing to store */
 
-/* The refusals of docs/FORMAT.md, section 6. */
+/* The refusals of docs/FORMAT.md, chapter 6. */
 #define PAGESTORE_BAD_VOLUME 1u            /* magic, counts or length of the volume are wrong */
 #define PAGESTORE_BAD_BUFFER 2u            /* memory, state, report or buffer: a wrong length, or a state not sound */
 #define PAGESTORE_NO_SUCH_PAGE 3u          /* the page number is not 1 to P */
@@ -94,7 +95,7 @@ const char *pagestore_text(uint32_t answer);
 uint32_t pagestore_size(uint32_t pages, uint32_t slots, uint32_t records, uint32_t notes);
 
 /* Makes an empty volume in a buffer of that length (else BAD_VOLUME): whatever it held is lost. Under the second
- * heading, with two log records or more, log and notes are rings (docs/FORMAT.md, section 4); pagestore_make_first
+ * heading, with two log records or more, log and notes are rings (docs/FORMAT.md, chapter 4); pagestore_make_first
  * writes the first, for older boxes. */
 uint32_t pagestore_make(uint8_t *volume, size_t volume_len, uint32_t pages, uint32_t slots, uint32_t records,
                         uint32_t notes);
@@ -278,13 +279,13 @@ uint32_t pagestore_inspect(const uint8_t *volume, size_t volume_len, uint32_t pa
 uint32_t pagestore_examine(const uint8_t *volume, size_t volume_len, uint32_t page, uint8_t *buffer, size_t buffer_len,
                            uint32_t *report, size_t report_len);
 
-/* The forecast (docs/FORMAT.md, section 4): for page p, at 2 * (p - 1), PAGESTORE_OK or PAGESTORE_PAGE_LOST, and behind
+/* The forecast (docs/FORMAT.md, chapter 4): for page p, at 2 * (p - 1), PAGESTORE_OK or PAGESTORE_PAGE_LOST, and behind
  * it the count of log records that pagestore_examine would report, 0 for a blank or a lost page. No page is built.
  * Figures past the last page are 0. BAD_LOG, BAD_NOTES. */
 #define PAGESTORE_FORECAST_SIZE 128u
 uint32_t pagestore_forecast(const uint8_t *volume, size_t volume_len, uint32_t *figures, size_t figures_len);
 
-/* The room of a volume (docs/FORMAT.md, section 8), by place: how many more log records it takes before LOG_FULL, the
+/* The room of a volume (docs/FORMAT.md, chapter 4), by place: how many more log records it takes before LOG_FULL, the
  * page that then stands in the way (0: none), and the same of notes before NOTES_FULL. BAD_LOG, BAD_NOTES. */
 #define PAGESTORE_ROOM_SIZE 4u
 #define PAGESTORE_ROOM_RECORDS 0u
@@ -293,7 +294,7 @@ uint32_t pagestore_forecast(const uint8_t *volume, size_t volume_len, uint32_t *
 #define PAGESTORE_ROOM_NOTES_PAGE 3u
 uint32_t pagestore_room(const uint8_t *volume, size_t volume_len, uint32_t *report, size_t report_len);
 
-/* The log archive: all durable log records of a volume, page by page (docs/FORMAT.md, section 10). The sizes of the
+/* The log archive: all durable log records of a volume, page by page (docs/FORMAT.md, chapter 10). The sizes of the
  * largest archive, of 64 pages and 1,024 log records, and of the largest area, of 64 images. */
 #define PAGESTORE_ARCHIVE_MAX 65792u
 #define PAGESTORE_AREA_MAX 16384u
@@ -313,7 +314,7 @@ uint32_t pagestore_archive_read(const uint8_t *archive, size_t archive_len, uint
  * pagestore_archive_read takes has 256 bytes for each. */
 uint32_t pagestore_archive_pages(const uint8_t *archive, size_t archive_len);
 
-/* Two volumes' logs held against each other (docs/FORMAT.md, section 11). The report, by place: what kind of answer it
+/* Two volumes' logs held against each other (docs/FORMAT.md, chapter 11). The report, by place: what kind of answer it
  * is, its number, and from PAGESTORE_COMPARE_PAGES on a number for each page 1 to 64, 1 if a record behind the common
  * beginning is of it in either log, else 0. */
 #define PAGESTORE_COMPARE_SIZE 66u

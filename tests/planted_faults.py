@@ -18,7 +18,7 @@ SOURCE = ROOT / "lib/pagestore_file.c"
 FOLDER = ROOT / "target/c/planted"
 HELPERS = ["tests/c/disk.c", "tests/c/volume.c"]
 PROGRAMS = {
-    "torture": (["tests/c/torture.c", "tests/c/caller.c", "tests/c/book.c", "tests/c/harm.c"], ["300", "1"]),
+    "torture": (["tests/c/torture.c", "tests/c/caller.c", "tests/c/abstract_log.c", "tests/c/harm.c"], ["300", "1"]),
     "file_test": (["tests/c/file_test.c", "tests/c/file_faults.c", "tests/c/file_upkeep.c"], []),
 }
 

@@ -122,7 +122,7 @@ struct entry index_entry(const struct store *s, uint32_t page) {
     return (struct entry){e[2], e[3], e[4]};
 }
 
-/* The 44 bytes of a record's payload (docs/FORMAT.md, section 1). */
+/* The 44 bytes of a record's payload (docs/FORMAT.md, chapter 1). */
 const uint8_t *payload_in(const struct input *in, const struct geometry *g, uint32_t slot) {
     return in->bytes + 16 + PAGESTORE_IMAGE_SIZE * (g->pages + g->slots) + 64 * (slot - 1) + 16;
 }

@@ -51,17 +51,33 @@ static void print_tally(const struct tally *t) {
     }
 }
 
-/* How many more; then what has to be done first, where `page` is in the way, or that it is for good. */
-static void say_room(char *words, const char *what, const uint32_t room[2], const char *first,
+/* What stands in the way where no page does, with `count` more of `slots` to come. */
+static const char *way_on(const struct geometry *g, uint32_t count, uint32_t slots) {
+    if (slots == 0) {
+        return "none: the volume has no slots for them";
+    }
+    if (g->records < 2) {
+        return "none: with one slot for the log, each is used once";
+    }
+    if (g->heading != PAGESTORE_HEADING_SECOND) {
+        return "none until the volume is converted";
+    }
+    /* a ring: a whole turn is free, or its numbers have run out */
+    return count == slots ? NULL : "none: its numbers have run out";
+}
+
+/* How many more; then what has to be done first, to the page in the way or to those of a whole turn. */
+static void say_room(char *words, const char *what, const uint32_t room[2], uint32_t slots, const char *first,
                      const struct geometry *g) {
     int n = snprintf(words, ROOM_WORDS_SIZE, "%s: room for %u more; then ", what, room[0]);
     size_t left = ROOM_WORDS_SIZE - (size_t)n;
+    const char *way = way_on(g, room[0], slots);
     if (room[1] != 0) {
         snprintf(words + n, left, "page %u has to be %s first", room[1], first);
-    } else if (g->heading == PAGESTORE_HEADING_SECOND) {
-        snprintf(words + n, left, "none for good");
+    } else if (way != NULL) {
+        snprintf(words + n, left, "%s", way);
     } else {
-        snprintf(words + n, left, "none for good, unless the volume is converted");
+        snprintf(words + n, left, "pages have to be %s first", first);
     }
 }
 
@@ -72,8 +88,8 @@ static void find_room(uint32_t room[PAGESTORE_ROOM_SIZE], const struct input *in
 int room_words(char words[2][ROOM_WORDS_SIZE], const struct input *in, const struct geometry *g) {
     uint32_t room[PAGESTORE_ROOM_SIZE] = {0};
     find_room(room, in);
-    say_room(words[0], "log", room, "backed up", g);
-    say_room(words[1], "notes", room + 2, "written or backed up again", g);
+    say_room(words[0], "log", room, g->records, "backed up", g);
+    say_room(words[1], "notes", room + 2, g->notes, "written or backed up again", g);
     return room[0] == 0 || (room[2] == 0 && g->notes > 0) ? FOUND : ALL_WELL;
 }
 

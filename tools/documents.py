@@ -1,10 +1,11 @@
 #!/usr/bin/env python3
 """Holds the documents against the sources; prints each difference, and exits with 1 where there is one.
 
-The refusals stand in docs/FORMAT.md, section 6. The constants of include/pagestore.h and the order of the rows in the
+The refusals stand in docs/FORMAT.md, chapter 6. The constants of include/pagestore.h and the order of the rows in the
 definitions (Reading, Refusals, Examine, Forecast, Archive, Mirror, Rehearsal) and crates/face/specs (Slots) must be the
 same. docs/C.md quotes examples/show.c. crates/README.md has a line for every crate of crates.txt and allows what each
-depends on. Every function, definition, must-fail edit and file that the documents name is there.
+depends on. Every function, definition, theorem, field of a claim, must-fail edit and file that the documents name is
+there (tools/names.py).
 crates/cases/specs/Opened.antt and the table of what functions ask are as their tools write them. README has at most 150
 lines; no line has more than 120 columns, but for rows of the trace and of that table.
 """
@@ -13,6 +14,7 @@ import re
 import sys
 
 import crates
+import names
 import opened
 import requirements
 from crates import ROOT
@@ -21,6 +23,11 @@ WIDTH = 120
 README_LINES = 150
 DOCUMENTS = ["README.md", "CONTRIBUTING.md", "CHANGELOG.md", "crates/README.md"]
 DOCUMENTS += sorted(str(p.relative_to(ROOT)) for p in (ROOT / "docs").glob("*.md"))
+TRACE = "docs/TRACE.md"
+# of the past, where a name may be no more: what its definitions and theorems were called stays
+PAST = ("docs/LANDINGS.md", "CHANGELOG.md")
+CHECKS = (names.check_functions, names.check_edits, names.check_files, names.check_c, names.check_cited,
+          names.check_rattle)
 # documents whose tables have one row an entry, however long
 LONG_ROWS = ("docs/TRACE.md", "docs/DECISIONS.md")
 NARROW = ["include/*.h", "lib/*", "examples/*.c", "tests/c/*", "bench/sqlite/*"]
@@ -46,13 +53,13 @@ def table(text, heading):
 
 
 def refusals():
-    """FORMAT's first table of section 6: number, its short words, its name in C or none."""
+    """FORMAT's first table of chapter 6: number, its short words, its name in C or none."""
     rows = table(read("docs/FORMAT.md"), ["no.", "in short", "when", "in C"])
     return {int(number): (short, name.strip("`")) for number, short, _, name in rows}
 
 
 def orders():
-    """FORMAT's second table of section 6: for each call the numbers of its rows, in order."""
+    """FORMAT's second table of chapter 6: for each call the numbers of its rows, in order."""
     rows = table(read("docs/FORMAT.md"), ["call", "its rows, in order"])
     return {call: [int(n) for n in re.findall(r"\d+", row)] for names, row in rows for call in names.split(", ")}
 
@@ -90,7 +97,7 @@ def defined_orders():
 def check_refusals():
     known, order, defined = refusals(), orders(), defined_orders()
     if list(known) != sorted(set(known)) or list(known)[:19] != list(range(1, 20)):
-        yield "docs/FORMAT.md, section 6: the numbers are not 1 to 19 and rising ones"
+        yield "docs/FORMAT.md, chapter 6: the numbers are not 1 to 19 and rising ones"
     for call in sorted({call.lower() for call in order} ^ set(defined)):
         yield f"refusals of {call}: only in one of docs/FORMAT.md and the definitions"
     for call, rows in order.items():
@@ -103,53 +110,7 @@ def check_refusals():
         yield f"include/pagestore.h has the answers {constants}, docs/FORMAT.md {wanted}"
 
 
-# ---- what the documents name
-
-
-def named_functions(text):
-    """Paths such as `codec::field::{byte, u16_at}`, one for each name in braces."""
-    for path in re.findall(r"`((?:[a-z_0-9]+::)+(?:\{[^}`]*\}|[A-Za-z_0-9*]+))", text):
-        front, _, last = path.rpartition("::")
-        yield from ((path, front.split("::"), name) for name in last.strip("{}").split(", "))
-
-
-def check_functions(document, text):
-    for path, front, name in named_functions(text):
-        sources = sorted((ROOT / "crates" / front[0] / "src").rglob("*.rt"))
-        inside = [p for p in sources if p.stem == front[-1]] if len(front) > 1 else sources
-        where = inside or sources
-        declared = re.compile(rf"\b(?:fn|struct|enum|const|mod) {name}\b")
-        if sources and not (name == "*" and inside) and not any(declared.search(p.read_text()) for p in where):
-            yield f"{document}: `{path}`: there is no {name} in crates/{front[0]}/src"
-
-
-def check_definitions(document, text):
-    """Names such as Item.imagePage, imageLsn in the definitions' column of the trace."""
-    paths = crates.definitions()
-    specs = {name: path.read_text() for name, path in paths.items()}
-    for file, names in re.findall(r"\b([A-Z][A-Za-z0-9]+)\.([A-Za-z]\w*(?:, [A-Za-z]\w*)*)", text):
-        for name in names.split(", ") if file in specs else []:
-            declared = re.compile(rf"^ *(?:(?:abbrev|unfoldable|pub|record|data|enum|struct) )*{name}\b", re.M)
-            if name not in specs and not declared.search(specs[file]):
-                yield f"{document}: {file}.{name}: there is no such definition in {paths[file].relative_to(ROOT)}"
-
-
-def check_edits(document, text):
-    """Must-fail edits are written `crate/label`, or `crate/*`."""
-    for crate, label in re.findall(r"`([a-z_]+)/([a-z_0-9]+|\*)`", text):
-        folders = ROOT / "crates" / crate / "must-fail", ROOT / "tests/edits" / crate
-        if folders[0].parent.is_dir() and not any(list(folder.glob(label + ".edit")) for folder in folders):
-            yield f"{document}: there is no must-fail edit {crate}/{label}"
-
-
-def check_files(document, text):
-    for name in re.findall(r"`((?:docs|include|examples|samples|tests|tools|crates|reference)/[\w./-]+)`", text):
-        if "target/" not in name and not (ROOT / name).exists():
-            yield f"{document}: there is no {name}"
-    here = (ROOT / document).parent
-    for name in re.findall(r"\]\(([^)#:]+)(?:#[^)]*)?\)", text):
-        if not (here / name).exists():
-            yield f"{document}: there is no {name}"
+# ---- the trace
 
 
 def traced(text):
@@ -159,15 +120,25 @@ def traced(text):
 
 
 def check_trace():
-    rows = traced(read("docs/TRACE.md"))
+    text = read(TRACE)
+    rows = traced(text)
     numbers = [row[0] for row in rows if "." not in row[0]]
     if numbers != [str(n) for n in range(1, len(numbers) + 1)] or not numbers:
-        yield "docs/TRACE.md: the numbers of document 01's obligations are not 1, 2, 3 .."
+        yield f"{TRACE}: the numbers of document 01's obligations are not 1, 2, 3 .."
     for row in rows:
         if len(row) != 4 or not all(row):
-            yield f"docs/TRACE.md: an empty cell: {row}"
+            yield f"{TRACE}: an empty cell: {row}"
         else:
-            yield from check_definitions("docs/TRACE.md", row[2])
+            yield from (*names.check_definitions(TRACE, row[2]), *names.check_evidence(TRACE, row[3]))
+    yield from names.check_claims(TRACE, table(text, ["claim", "theorem", "used at its edge by"]))
+
+
+def check_reading():
+    text = read("docs/READING.md")
+    rows = table(text, ["file", "what it defines", "in document 01"])
+    rows += table(text, ["file", "what it says", "where it is asked"])
+    rows = [("model", row[0]) for row in rows] + table(text, ["crate", "file", "what it defines", "where it is asked"])
+    yield from names.check_specs("docs/READING.md", rows)
 
 
 # ---- all
@@ -225,11 +196,12 @@ def check_readme():
 
 
 def main():
-    found = [*check_refusals(), *requirements.differences(), *opened.faults(), *check_trace()]
+    found = [*check_refusals(), *requirements.differences(), *opened.faults(), *check_trace(), *check_reading()]
     found += [*check_map(), *check_example(), *check_width(), *check_readme(), *check_edit_lines()]
     for document in DOCUMENTS:
         text = read(document)
-        found += [*check_functions(document, text), *check_edits(document, text), *check_files(document, text)]
+        for check in CHECKS if document not in PAST else CHECKS[:4]:
+            found += check(document, text)
     print("\n".join(found) if found else "the documents agree with the sources")
     return 1 if found else 0
 

@@ -1,56 +1,141 @@
 #!/usr/bin/env python3
 """Tries the must-fail edits that are not in the gate: tests/edits/CRATE/LABEL.edit, each of which the prover must refuse.
 
-    python3 tools/edits.py [CRATE ...]      those of the crates named, or all (long)
+    python3 tools/edits.py [--gate] [--jobs N] [CRATE ...]      those of the crates named, or all (long)
 
-It works on a copy, target/edits, in which these edits stand where the gate's stand; what target/ has proved is not
-proved again. A log whose first error is a need that cannot be named shows nothing of a fact: it is told, and fails.
+--gate tries the gate's edits too, which stand in the crates' folders must-fail.
+
+It works on copies in target/edits, one for each job; what target/ has proved is not proved again. Each edit is tried by
+`rt dev`, which checks again only what the edit reaches; where that takes it, `rt must-fail` has the verdict. A first
+error that is a need that cannot be named shows nothing of a fact: it is told, and fails.
 Exit status: 0 where every edit is refused by a fact.
 """
+import argparse
+import os
 import shutil
 import subprocess
 import sys
+from concurrent.futures import ThreadPoolExecutor
 
 from crates import ROOT, listed
 
-COPY = ROOT / "target/edits"
+COPIES = ROOT / "target/edits"
 EDITS = ROOT / "tests/edits"
 UNFIT = "can be named from here"
 
 
-def lay_out(wanted):
-    """The copy: the crates without the gate's edits, with those of the crates wanted."""
-    shutil.rmtree(COPY, ignore_errors=True)
-    COPY.mkdir(parents=True)
-    shutil.copy(ROOT / "crates.txt", COPY)
-    shutil.copytree(ROOT / "crates", COPY / "crates", ignore=shutil.ignore_patterns("must-fail"))
-    for crate in wanted:
-        shutil.copytree(EDITS / crate, COPY / "crates" / crate / "must-fail")
+def lay_out(copy):
+    """A copy of the crates without the gate's edits, and of what is proved of them."""
+    copy.mkdir(parents=True)
+    shutil.copy(ROOT / "crates.txt", copy)
+    shutil.copytree(ROOT / "crates", copy / "crates", ignore=shutil.ignore_patterns("must-fail"))
     for proved in ("rlib", "stamp", "log"):
         if (ROOT / "target" / proved).is_dir():
-            shutil.copytree(ROOT / "target" / proved, COPY / "target" / proved)
+            shutil.copytree(ROOT / "target" / proved, copy / "target" / proved)
 
 
-def unfit():
-    """The edits whose first error is that the proof does not fit the code any more."""
-    for log in sorted(COPY.glob("target/must-fail/*/*/.log")):
-        errors = [line for line in log.read_text(errors="replace").splitlines() if ": error: " in line]
-        if errors and UNFIT in errors[0]:
-            yield f"{log.parent.parent.name}/{log.parent.name}"
+def replacements(edit):
+    """The edit's file, old and new text, one for each pair; what is neither is passed over, as `rt` does."""
+    file = old = ""
+    for line in edit.read_text().splitlines():
+        word, _, rest = line.partition(": ")
+        if word == "file":
+            file = rest
+        elif word == "old":
+            old = rest
+        elif word == "new" or line == "new:":
+            yield file, old, rest
+
+
+def apply(folder, edit):
+    """Writes the edit; gives back the texts that undo it, and what makes it no edit, if anything does."""
+    before = {}
+    for file, old, new in replacements(edit):
+        path = folder / file
+        text = path.read_text() if path.is_file() else ""
+        before.setdefault(path, text)
+        if old == "" or text.count(old) != 1:
+            return before, f"its old text stands {text.count(old)} times in {file}"
+        path.write_text(text.replace(old, new))
+    return before, "" if before else "it has no old and new text"
+
+
+def verdict(copy, crate):
+    """What the prover says of the crate as it stands: refused by a fact, or the words that say what else."""
+    run = subprocess.run(["rt", "dev", crate], cwd=copy, capture_output=True, text=True, errors="replace")
+    lines = (run.stdout + run.stderr).splitlines()
+    errors = [line for line in lines if ": error: " in line]
+    if run.returncode == 0:
+        return "TAKEN by the edit loop"
+    if run.returncode != 1 or not any(line.startswith("logic=not-proved") for line in lines):
+        return "BAD EDIT: it did not reach the prover: " + " ".join(lines[-1:])
+    if errors and UNFIT in errors[0]:
+        return "UNFIT: it only makes the proof unfit for the code, and shows nothing"
+    return "refused"
+
+
+def survives(copy, crate, edit):
+    """Whether the whole prover takes the edit, too."""
+    place = copy / "crates" / crate / "must-fail"
+    place.mkdir()
+    shutil.copy(edit, place)
+    status = subprocess.run(["rt", "must-fail", crate], cwd=copy, capture_output=True).returncode
+    shutil.rmtree(place)
+    return status != 0
+
+
+def edits_of(crate, gate):
+    """The crate's edits: those outside the gate, and the gate's where they are asked for."""
+    inside = (ROOT / "crates" / crate / "must-fail").glob("*.edit") if gate else []
+    return sorted([*(EDITS / crate).glob("*.edit"), *inside])
+
+
+def try_crate(copy, crate, edits):
+    """Tries a crate's edits; gives the number that are not refused by a fact."""
+    failed = 0
+    for edit in edits:
+        before, bad = apply(copy / "crates" / crate, edit)
+        words = f"BAD EDIT: {bad}" if bad else verdict(copy, crate)
+        for path, text in before.items():
+            path.write_text(text)
+        if words.startswith("TAKEN") and not survives(copy, crate, edit):
+            words = "refused"
+        failed += words != "refused"
+        print(f"{crate}/{edit.stem}: {words}", flush=True)
+    return failed
 
 
 def main():
-    there = sorted(folder.name for folder in EDITS.iterdir())
-    wanted = sys.argv[1:] or there
-    unknown = [crate for crate in wanted if crate not in there] + [crate for crate in there if crate not in listed()]
+    words = argparse.ArgumentParser()
+    words.add_argument("--gate", action="store_true")
+    words.add_argument("--jobs", type=int, default=os.cpu_count() or 1)
+    words.add_argument("crates", nargs="*")
+    given = words.parse_args()
+    edits = {crate: edits_of(crate, given.gate) for crate in listed()}
+    there = [crate for crate in edits if edits[crate]]
+    wanted = given.crates or there
+    unknown = [crate for crate in wanted if crate not in there]
+    unknown += [folder.name for folder in EDITS.iterdir() if folder.name not in edits]
     if unknown:
         sys.exit(f"tests/edits: no edits of a listed crate: {' '.join(unknown)}")
-    lay_out(wanted)
-    status = subprocess.run(["rt", "must-fail", *wanted], cwd=COPY).returncode
-    lost = list(unfit())
-    for name in lost:
-        print(f"{name}: it only makes the proof unfit for the code, and shows nothing")
-    return status or (1 if lost else 0)
+    shutil.rmtree(COPIES, ignore_errors=True)
+    # the crates with most edits first, each to the copy that is free next
+    free = [COPIES / str(job) for job in range(given.jobs)]
+    for copy in free:
+        lay_out(copy)
+
+    def work(crate):
+        copy = free.pop()
+        try:
+            return try_crate(copy, crate, edits[crate])
+        finally:
+            free.append(copy)
+
+    with ThreadPoolExecutor(given.jobs) as pool:
+        failed = sum(pool.map(work, sorted(wanted, key=lambda crate: -len(edits[crate]))))
+    tried = sum(len(edits[crate]) for crate in wanted)
+    print(f"edits: {tried} tried, {failed} not refused by a fact")
+    return 1 if failed else 0
 
 
 if __name__ == "__main__":

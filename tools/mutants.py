@@ -4,10 +4,11 @@
 An edit is applied to a copy of the crates that it needs, in a temporary folder. For `cases` the one theorem about all
 rows is replaced by one declaration for each row or history that the edit names, so that a failure says which caught it;
 the check must fail there, by a computed test that is now false, and nowhere else. For `history`, `reports_theory` and
-`planning_theory` the check must fail in a proof of theirs or of the laws below, for `instances` and `bounds` (a claim
-that says less, which its proofs still give) also in one of their own, and not for a name that is missing or a text that
-is not read. The definitions for C (`file face/NAME`, `file called/NAME`) are tried against `numbers`, `capi` or
-`called`, whose proofs must fail, over what target/ has proved of the crates below.
+`planning_theory` the check must fail in a proof of theirs or of the laws below, for `instances`, `bounds` and
+`cases_neighbours` (a claim that says less, which its proofs still give) also in one of their own, and not for a name
+that is missing or a text that is not read. The definitions for C (`file face/NAME`, `file called/NAME`) are tried
+against `numbers`, `face_step`, `capi` or `called`, whose proofs must fail, over what target/ has proved of the crates
+below.
 
     python3 tools/mutants.py [--only WORD] [--file NAME] [--part WORD] [--search] [--jobs N] [--texts]
                              [--crate NAME]
@@ -82,9 +83,9 @@ unfoldable rows : List Row
 rows = upkeepRows ++ (turnRows ++ (laterTurns ++ lockRows))
 """
 ROW_CRATES = ("cases", "upkeep_cases")
-PROOF_CRATES = ("history", "reports_theory", "planning_theory", "instances", "bounds")
+PROOF_CRATES = ("history", "reports_theory", "planning_theory", "instances", "bounds", "cases_neighbours")
 # what a wrong definition for C is tried against
-C_CRATES = ("numbers", "capi", "called")
+C_CRATES = ("numbers", "face_step", "capi", "called")
 # what a row's test unfolds: the table's parts, and all that they compute with
 OPENED = (
     "opened rows diskRows callRows turnedRows ringRows ringEvents ringEdges reportRows examinedRows forecastRows "

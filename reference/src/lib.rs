@@ -4,5 +4,6 @@
 
 pub mod checks;
 pub mod generators;
+pub mod planning;
 pub mod script;
 pub mod store;

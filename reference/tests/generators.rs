@@ -14,7 +14,7 @@ use reference::script::driver::drive;
 use std::collections::BTreeSet;
 
 #[test]
-fn histories_keep_to_the_book() {
+fn histories_agree_with_the_abstract_log() {
     for seed in 0..25 {
         if let Err(text) = check_history(seed) {
             panic!("seed {seed}: {text}");

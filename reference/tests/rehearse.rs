@@ -3,10 +3,10 @@
 use reference::checks::rehearse::check_rehearsal;
 use reference::generators::rehearse_lists::{change, read, rereads, stays};
 use reference::generators::rng::Rng;
+use reference::planning::{rehearse, Figures, Settings, Victim};
 use reference::script::cell::{decode, encode, Call, Op};
 use reference::script::driver::{hash, Driver};
 use reference::store::answer::Refusal;
-use reference::store::rehearse::{rehearse, Figures, Settings, Victim};
 
 fn settings(frames: u16, interval: u32, victim: Victim) -> Settings {
     Settings { frames, interval, victim }
@@ -45,9 +45,9 @@ fn two_kinds_of_reader() {
             assert_eq!((written.loads, written.images, written.replayed), (loads, images, 0));
             assert_eq!((written.records, written.backups), (336, backups));
             assert_eq!(written.notes, images + backups);
-            let let_go = total(events, &settings(frames, interval, Victim::LetGo));
-            assert_eq!((let_go.loads, let_go.images), (loads, 0), "{frames} {interval}");
-            assert_eq!((let_go.replayed, let_go.notes), (replayed[at], backups));
+            let released = total(events, &settings(frames, interval, Victim::Released));
+            assert_eq!((released.loads, released.images), (loads, 0), "{frames} {interval}");
+            assert_eq!((released.replayed, released.notes), (replayed[at], backups));
         }
     }
 }
@@ -71,7 +71,7 @@ fn the_least_recently_used_frame() {
 #[test]
 fn a_read_before_the_first_change() {
     let events = [read(5), change(1), read(5), read(1)];
-    let rows = rehearse(&events, &settings(1, 1, Victim::LetGo)).unwrap();
+    let rows = rehearse(&events, &settings(1, 1, Victim::Released)).unwrap();
     let first = Figures { records: 1, backups: 1, notes: 1, ..Figures::default() };
     assert_eq!((rows[0], rows[4]), (first, Figures::default()));
 }
@@ -107,7 +107,7 @@ fn what_is_out_of_range() {
 
 #[test]
 fn the_drivers_line() {
-    let call = Call::Rehearse(settings(1, 2, Victim::LetGo));
+    let call = Call::Rehearse(settings(1, 2, Victim::Released));
     let mut cell = encode(&Op::Call(call));
     assert_eq!((cell[0], cell[1], cell[2], cell[12]), (30, 1, 1, 2));
     assert_eq!(decode(&cell), Op::Call(call));

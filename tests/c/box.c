@@ -43,7 +43,7 @@ uint32_t box_called(struct box *b, struct asked a) {
 }
 
 /* What the header calls const for the call is as it was. */
-static int const_kept(const struct box *was, const struct box *b, enum operation call) {
+static int const_unchanged(const struct box *was, const struct box *b, enum operation call) {
     int memory = call == BEGIN || call == LOAD || call == CHANGE;
     int volume = !memory && call != RELEASE;
     return (memory || memcmp(was->memory, b->memory, sizeof b->memory) == 0) &&
@@ -66,7 +66,7 @@ int box_answers(struct box *b, struct asked a, uint32_t wanted) {
         return 0;
     }
     if (answer != PAGESTORE_OK && answer != PAGESTORE_NOTHING) return memcmp(&was, b, sizeof was) == 0;
-    if (!told(b, answer, a.call) || !const_kept(&was, b, a.call)) return 0;
+    if (!told(b, answer, a.call) || !const_unchanged(&was, b, a.call)) return 0;
     memcpy(b->file + b->report[PAGESTORE_REPORT_OFFSET], b->volume + b->report[PAGESTORE_REPORT_OFFSET],
            b->report[PAGESTORE_REPORT_LENGTH]);
     return memcmp(b->file, b->volume, b->volume_len) == 0;

@@ -55,7 +55,7 @@ static int answered(int answer) {
     return answer;
 }
 
-/* Where upkeep is followed: it comes to rest in frame 1, and whatever waited is stored. */
+/* Where upkeep is followed: it comes to rest in frame 1, and whatever was pending is stored. */
 static void upkeep(void) {
     if (!task.upkeep) return;
     int answer = answered(pagestore_file_upkeep(file, 1));
@@ -63,7 +63,7 @@ static void upkeep(void) {
     say(UPKEPT, (int)pagestore_file_report(file)[PAGESTORE_REPORT_COUNT]);
 }
 
-/* After it no call is refused for room, nor for what still waits. */
+/* After it no call is refused for room, nor for what is pending. */
 static int unblocked(int answer) {
     if (task.upkeep && answer >= 10 && answer <= 15) end(MISTAKE, 400 + answer);
     return answer;
@@ -72,7 +72,7 @@ static int unblocked(int answer) {
 /* A call of the child's own. */
 #define CALL(call) (upkeep(), unblocked(answered(call)))
 
-/* ---- the calls that the book hears of */
+/* ---- the calls that the abstract log hears of */
 
 static void force(void) {
     say(FORCED, CALL(pagestore_file_force(file)));
@@ -178,7 +178,7 @@ static void carry(void) {
     if (CALL(pagestore_file_restamp(file)) == (int)PAGESTORE_NOTHING) CALL(pagestore_file_finish_carry(file));
 }
 
-/* Arguments that must be refused; the volume is as it was, as the book will see. */
+/* Arguments that must be refused; the volume is as it was, as its pages will show. */
 static void nonsense(void) {
     uint8_t bytes[PAYLOAD + 1] = {0}, image[256];
     uint32_t page = any_page(), none = task.counts.pages + 1;

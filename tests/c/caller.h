@@ -2,7 +2,7 @@
 #ifndef CALLER_H
 #define CALLER_H
 
-#include "book.h"
+#include "abstract_log.h"
 #include "volume.h"
 
 enum tell {
@@ -10,7 +10,7 @@ enum tell {
     ANSWERED,   /* behind it, with its answer */
     FORCED,     /* behind a force */
     COMMITTED,  /* behind a commit */
-    UPKEPT,     /* upkeep is at rest, behind so many calls; what waited is stored */
+    UPKEPT,     /* upkeep is at rest, behind so many calls; what was pending is durable */
     DEAD,       /* a call failed with this errno, and the handle was found dead */
     LOCKED,     /* there is no more room for this change: a new file, please */
     MISTAKE     /* a call gave what it must not; the answer tells which check */

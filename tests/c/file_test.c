@@ -208,12 +208,12 @@ static void *no_call(void *unused) {
 }
 
 static void *all_calls(void *unused) {
-    uint32_t kept = 0;
+    uint32_t durable = 0;
     int answer = pagestore_file_create(path, 64, 128, 1024, 1024);
     struct pagestore_file *file = open_file(16, &answer);
-    answer = scenario(file, &kept);
+    answer = scenario(file, &durable);
     if (answer == 0) answer = pagestore_file_upkeep(file, 16);
-    check("the calls on the painted stack", answer == 0 && kept == 3 && pagestore_file_close(file) == 0);
+    check("the calls on the painted stack", answer == 0 && durable == 3 && pagestore_file_close(file) == 0);
     return unused;
 }
 

@@ -14,7 +14,7 @@ int create(void);
 struct pagestore_file *open_file(uint32_t frames, int *answer);
 
 /* Seven stores; gives how many changes were acknowledged, and the first answer that was not 0. */
-int scenario(struct pagestore_file *file, uint32_t *kept);
+int scenario(struct pagestore_file *file, uint32_t *durable);
 
 /* Each call of the system fails, one after the other; a process is killed between write and sync. */
 void test_faults(void);

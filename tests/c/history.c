@@ -43,7 +43,7 @@ void changes_of(uint32_t number, uint32_t from, uint32_t another) {
 
 /* Log record n: a random page's format, put or slide. */
 static uint32_t change(uint8_t *at, struct counts c, uint32_t n) {
-    uint32_t kept = state;
+    uint32_t before = state;
     seed((chosen.from != 0 && chosen.from <= n ? chosen.another : chosen.number) * 4099 + n);
     below(2);
     uint32_t page = 1 + below(c.pages), kind = last[page] == 0 || below(8) == 0 ? FORMAT : PUT + (int)below(2);
@@ -57,7 +57,7 @@ static uint32_t change(uint8_t *at, struct counts c, uint32_t n) {
     seal(at, 60);
     apply(body[page], at);
     last[page] = n;
-    state = kept;
+    state = before;
     return page;
 }
 

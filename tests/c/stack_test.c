@@ -29,12 +29,12 @@ static uint8_t volume[PAGESTORE_VOLUME_MAX], buffer[PAGESTORE_IMAGE_SIZE], expec
 /* Every function of the header that takes no state; all but inspection are tried on the largest volume. */
 enum function {
     INSPECT, EXAMINE, FORECAST, LENGTH, WRITER, READER, PAGES, COMPARE, COUNTS, RECORD, NOTE_AT, MAKE, MAKE_FIRST,
-    ROOM, SLOT, FUNCTIONS,
+    ROOM, SLOT, SIZE, FUNCTIONS,
 };
 static const char *const CALLED[FUNCTIONS] = {
     "inspect",       "examine", "forecast", "archive_length", "archive_write", "archive_read",
     "archive_pages", "compare", "counts",   "record",         "note_at",       "make",
-    "make_first",    "room",    "slot",
+    "make_first",    "room",    "slot",     "size",
 };
 static uint8_t archive[PAGESTORE_ARCHIVE_MAX], area[PAGESTORE_AREA_MAX];
 static uint32_t numbers[PAGESTORE_FORECAST_SIZE];
@@ -77,6 +77,7 @@ static __attribute__((noinline)) uint32_t called(const struct call *c) {
         case RECORD: return pagestore_record(volume, c->size, 1024, numbers, PAGESTORE_FIELDS_SIZE);
         case NOTE_AT: return pagestore_note_at(volume, c->size, 1024, numbers, PAGESTORE_FIELDS_SIZE);
         case SLOT: return pagestore_slot(volume, c->size, 128, numbers, PAGESTORE_FIELDS_SIZE);
+        case SIZE: return pagestore_size(64, 128, 1024, 1024);
         case ROOM: return pagestore_room(volume, c->size, numbers, PAGESTORE_ROOM_SIZE);
         case MAKE: return pagestore_make(volume, c->size, 64, 128, 1024, 1024);
         case MAKE_FIRST: return pagestore_make_first(volume, c->size, 64, 128, 1024, 1024);
@@ -129,12 +130,12 @@ static int check(struct counts n, enum kind kind) {
     return answers && small && ends;
 }
 
-/* Another function on the largest volume, its log full: the archive's length is told, its pages are 64, others give 0.
- */
+/* Another function on the largest volume, its log full: it tells the archive's length, its pages, which are 64, the
+ * volume's size, or gives 0. */
 static int check_other(enum function f) {
     struct call c = prepared(SIZES[sizeof SIZES / sizeof SIZES[0] - 1], TORN);
     c.function = f;
-    c.wanted = f == LENGTH ? sizeof archive : f == PAGES ? 64 : PAGESTORE_OK;
+    c.wanted = f == LENGTH ? sizeof archive : f == PAGES ? 64 : f == SIZE ? sizeof volume : PAGESTORE_OK;
     size_t bytes = touched(run, &c);
     int well = c.answer == c.wanted && bytes <= PAGESTORE_STACK;
     printf("%s %s: %zu bytes of stack, at most %u\n", well ? "ok    " : "FAILED", CALLED[f], bytes, PAGESTORE_STACK);
@@ -153,17 +154,17 @@ static __attribute__((noinline)) void on_state(void *given) {
 }
 
 /* Prints a line; whether the call answers so and keeps to its stack. The call is made twice, for two colours: the
- * store is put back before the second by `kept`. */
-static struct box kept;
+ * store is put back before each as it was `before`. */
+static struct box before;
 
-static __attribute__((noinline)) void on_kept(void *given) {
-    box = kept;
+static __attribute__((noinline)) void on_before(void *given) {
+    box = before;
     on_state(given);
 }
 
 static int check_state(const char *name, const struct asked *a, uint32_t wanted) {
-    kept = box;
-    size_t bytes = touched(on_kept, (void *)a);
+    before = box;
+    size_t bytes = touched(on_before, (void *)a);
     int well = answer == wanted && bytes <= PAGESTORE_STATE_STACK;
     printf("%s %s: %u; %zu bytes of stack, at most %u\n", well ? "ok    " : "FAILED", name, (unsigned)answer, bytes,
            PAGESTORE_STATE_STACK);

@@ -1,9 +1,10 @@
 /* torture ROUNDS SEED DIRECTORY [upkeep]: a store in a file is killed at random moments, its power is cut in the middle
- * of a store, its images are damaged, its calls of the system fail; after each round every page is held against a book.
+ * of a store, its images are damaged, its calls of the system fail; after each round every page is held against an
+ * abstract log.
  *
- * A child makes random calls and tells each change before it is made and each stored force behind it; the parent keeps
- * the book. A change whose force was told must be there, in order and once; those that still waited may be there as a
- * beginning. The last line tells how many were lost, and how many pages were wrong otherwise.
+ * A child makes random calls and tells each change before it is made and each stored force behind it; the parent has
+ * the abstract log. A change whose force was told must be there, in order and once; of the pending ones a beginning may
+ * be there. The last line tells how many were lost, and how many pages were wrong otherwise.
  *
  * With the word upkeep the child follows it before every call, on rings as small as docs/UPKEEP.md allows: no call may
  * be refused for room. Its refreshing puts have numbers of their own: there a page is held against its text alone. */
@@ -23,7 +24,7 @@
 #include <unistd.h>
 
 static char path[4096];
-static struct book book;
+static struct abstract_log expected;
 static struct task task;
 static struct disk *shared;
 static int ring;         /* the volume is or becomes a ring, which counts on its backups */
@@ -36,22 +37,22 @@ enum { CUTS = 8 };       /* that many are provided for */
 /* ---- figures */
 
 static struct {
-    unsigned long files, turned, locked, kept, undecided, undecided_kept;
+    unsigned long files, turned, locked, durable, undecided, undecided_durable;
     unsigned long killed, planned, failed, interrupted, ended, second_cuts;
     unsigned long repaired[6][4], lost, wrong;
     unsigned long rests, calls, most_calls, restless;
 } figures;
 
 static void lost(unsigned long many, const char *what) {
-    printf("round %lu: LOST %lu: %s (P %u, B %u, L %u, N %u, kept %u)\n", round_number, many, what, task.counts.pages,
-           task.counts.slots, task.counts.records, task.counts.notes, book.kept);
+    printf("round %lu: LOST %lu: %s (P %u, B %u, L %u, N %u, durable %u)\n", round_number, many, what,
+           task.counts.pages, task.counts.slots, task.counts.records, task.counts.notes, expected.durable);
     figures.lost += many;
     wanted = 1;
 }
 
 static void wrong(const char *what, long number) {
-    printf("round %lu: WRONG: %s, %ld (P %u, B %u, L %u, N %u, kept %u)\n", round_number, what, number,
-           task.counts.pages, task.counts.slots, task.counts.records, task.counts.notes, book.kept);
+    printf("round %lu: WRONG: %s, %ld (P %u, B %u, L %u, N %u, durable %u)\n", round_number, what, number,
+           task.counts.pages, task.counts.slots, task.counts.records, task.counts.notes, expected.durable);
     figures.wrong++;
     wanted = 1;
 }
@@ -105,7 +106,7 @@ static void new_file(void) {
     task.counts = c;
     task.carry = first == 0 && random_below(2) == 0;
     ring = first != 0 || task.carry;
-    memset(&book, 0, sizeof book);
+    memset(&expected, 0, sizeof expected);
     cuts = stored = 0;
     harm_begin(path, ring);
     figures.files++;
@@ -117,15 +118,15 @@ static void new_file(void) {
 static struct change asked;
 
 static void on_forced(int answer) {
-    int waits = book.waiting > 0;
-    if (answer == 0 && waits) book_keeps(&book), figures.kept++;
-    else if (answer == 0 || waits) wrong("force answered", answer);
+    int pending = expected.pending > 0;
+    if (answer == 0 && pending) log_force(&expected), figures.durable++;
+    else if (answer == 0 || pending) wrong("force answered", answer);
 }
 
-/* Upkeep forces before anything else: what waited is kept. */
+/* Upkeep forces before anything else: what was pending is durable. */
 static void on_rest(unsigned long calls) {
-    figures.kept += book.waiting;
-    while (book.waiting > 0) book_keeps(&book);
+    figures.durable += expected.pending;
+    while (expected.pending > 0) log_force(&expected);
     figures.rests++;
     figures.calls += calls;
     if (calls > figures.most_calls) figures.most_calls = calls;
@@ -135,13 +136,13 @@ static void on_rest(unsigned long calls) {
 static void on_message(const struct message *message) {
     int answer = message->answer;
     if (message->tell == ASKED) asked = message->change;
-    else if (message->tell == ANSWERED && answer == 0 && book.waiting < WAITING) book_waits(&book, asked);
+    else if (message->tell == ANSWERED && answer == 0 && expected.pending < PENDING) log_append(&expected, asked);
     else if (message->tell == ANSWERED && answer == 0) wrong("a change above 16 was taken", answer);
     else if (message->tell == FORCED) on_forced(answer);
     else if (message->tell == COMMITTED && answer != 0) wrong("commit answered", answer);
     else if (message->tell == COMMITTED) {
-        figures.kept += book.waiting;
-        while (book.waiting > 0) book_keeps(&book);
+        figures.durable += expected.pending;
+        while (expected.pending > 0) log_force(&expected);
     }
     else if (message->tell == UPKEPT) on_rest((unsigned long)answer);
     else if (message->tell == LOCKED) figures.locked++, wanted = 1;
@@ -211,13 +212,13 @@ static void run_child(void) {
     shared->plan.call = NO_CALL;
 }
 
-/* ---- every page against the book */
+/* ---- every page against the abstract log */
 
 static int same_page(uint32_t page, const uint8_t *body, uint32_t number) {
-    return (task.upkeep || number == book.number[page]) && memcmp(body, book.body[page], BODY) == 0;
+    return (task.upkeep || number == expected.number[page]) && memcmp(body, expected.body[page], BODY) == 0;
 }
 
-/* How many changes the volume has kept: the number of the last one. */
+/* How many changes of the volume are durable: the number of the last one. */
 static uint32_t last_number(struct pagestore_file *file) {
     uint8_t image[256];
     uint32_t last = 0;
@@ -230,10 +231,10 @@ static uint32_t last_number(struct pagestore_file *file) {
 
 static void check_page(struct pagestore_file *file, uint32_t page) {
     uint8_t image[256];
-    int blank = book.number[page] == 0, answer = pagestore_file_inspect(file, page, image, sizeof image);
+    int blank = expected.number[page] == 0, answer = pagestore_file_inspect(file, page, image, sizeof image);
     if (answer != (blank ? 7 : 0)) wrong("inspect answered", answer);
     else if (!blank && !same_page(page, image + 8, number_at(image + 4, 4))) {
-        if (number_at(image + 4, 4) < book.number[page]) lost(1, "the page is old");
+        if (number_at(image + 4, 4) < expected.number[page]) lost(1, "the page is old");
         else wrong("the text of page", page);
     }
     answer = pagestore_file_load(file, page, 1);
@@ -241,42 +242,42 @@ static void check_page(struct pagestore_file *file, uint32_t page) {
     if (answer != 0) return;
     const uint32_t *report = pagestore_file_report(file);
     const uint8_t *text = pagestore_file_text(file, page);
-    if (text == NULL || memcmp(text, book.body[page], BODY) != 0) wrong("the frame's text of page", page);
+    if (text == NULL || memcmp(text, expected.body[page], BODY) != 0) wrong("the frame's text of page", page);
     figures.repaired[report[0] % 6][report[1] % 4]++;
 }
 
-/* How many of the changes that waited are kept. Under upkeep at most one waits, and its page tells: one that changed
- * nothing counts as kept. */
+/* How many of the pending changes were stored. Under upkeep at most one is pending, and its page tells: one that
+ * changed nothing counts as stored. */
 static uint32_t decided(struct pagestore_file *file) {
-    struct book was = book;
+    struct abstract_log was = expected;
     uint8_t image[256];
-    if (!task.upkeep) return stored - book.kept;
-    if (book.waiting != 1) return 0;
-    uint32_t page = book.line[0].page;
-    book_keeps(&book);
-    int kept = pagestore_file_inspect(file, page, image, sizeof image) == 0
-               && memcmp(image + 8, book.body[page], BODY) == 0;
-    book = was;
-    return kept ? 1 : 0;
+    if (!task.upkeep) return stored - expected.durable;
+    if (expected.pending != 1) return 0;
+    uint32_t page = expected.queue[0].page;
+    log_force(&expected);
+    int there = pagestore_file_inspect(file, page, image, sizeof image) == 0
+                && memcmp(image + 8, expected.body[page], BODY) == 0;
+    expected = was;
+    return there ? 1 : 0;
 }
 
 /* Settles what was undecided, then looks at every page. */
 static void check_pages(struct pagestore_file *file) {
-    uint32_t waited = book.waiting, least = task.upkeep ? stored : book.kept;
+    uint32_t pending = expected.pending, least = task.upkeep ? stored : expected.durable;
     stored = last_number(file);
     if (stored < least) {
         lost(least - stored, "acknowledged changes");
         return;
     }
-    if (task.upkeep ? waited > 1 : stored > book.kept + waited) {
+    if (task.upkeep ? pending > 1 : stored > expected.durable + pending) {
         wrong("changes that nobody asked for", (long)stored);
         return;
     }
-    uint32_t kept = decided(file);
-    figures.undecided += waited;
-    figures.undecided_kept += kept;
-    while (kept-- > 0) book_keeps(&book);
-    book_drops(&book);
+    uint32_t durable = decided(file);
+    figures.undecided += pending;
+    figures.undecided_durable += durable;
+    while (durable-- > 0) log_force(&expected);
+    log_cut(&expected);
     for (uint32_t page = 1; page <= task.counts.pages; page++) check_page(file, page);
 }
 
@@ -334,8 +335,8 @@ static void print_figures(unsigned long seed) {
     printf("rounds that ended by SIGKILL at any moment %lu, at a chosen call %lu, by a failed call %lu, "
            "with one interrupted or short %lu, by themselves %lu; cut once more %lu\n", figures.killed,
            figures.planned, figures.failed, figures.interrupted, figures.ended, figures.second_cuts);
-    printf("changes acknowledged %lu; undecided %lu, of them kept %lu\n", figures.kept, figures.undecided,
-           figures.undecided_kept);
+    printf("changes acknowledged %lu; undecided %lu, of them durable %lu\n", figures.durable, figures.undecided,
+           figures.undecided_durable);
     for (int k = 0; k < KINDS; k++)
         printf("cuts within a store, %s: left old %lu, new %lu, torn %lu\n", kinds[k], harmed.cut[k][OLD],
                harmed.cut[k][NEW], harmed.cut[k][TORN]);

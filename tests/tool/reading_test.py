@@ -21,7 +21,7 @@ class Scan(Trial):
                 "notes: room for 4 more; then page 1 has to be written or backed up again first",
             ],
         )
-        self.assertIn("log: room for 5 more; then none for good, unless the volume is converted", lines("scan", FIRST))
+        self.assertIn("log: room for 5 more; then none until the volume is converted", lines("scan", FIRST))
         self.assertIn("disk: 1 page is not GOOD there, and rebuilt at each reading; repair mends that", lines("scan", TURNED))
 
     def test_readme_shows_it(self):
@@ -34,6 +34,23 @@ class Scan(Trial):
         status, out, err = run("scan", path)
         self.assertEqual((status, err), (0, ""))
         self.assertEqual(out.decode().splitlines()[4:8], ["5 BLANK", "6 BLANK", "text: safe on every page", "disk: nothing to mend"])
+
+    def test_room_that_no_page_bounds(self):
+        turn = ("then pages have to be backed up first", "then pages have to be written or backed up again first")
+        later = "then none until the volume is converted"
+        slots = "then none: the volume has no slots for them"
+        once = "then none: with one slot for the log, each is used once"
+        for heading, records, notes, words in (
+            (sample.SECOND, 2, 3, turn),
+            (sample.SECOND, 2, 0, (turn[0], slots)),
+            (sample.SECOND, 1, 3, (once, once)),
+            (sample.FIRST, 2, 3, (later, later)),
+            (sample.FIRST, 1, 0, (once, slots)),
+        ):
+            data = sample.volume(heading, [bytes(256)], [], [], [], records, notes)
+            log, noted = run("scan", self.file(data))[1].decode().splitlines()[3:5]
+            self.assertEqual(log, f"log: room for {records} more; {words[0]}")
+            self.assertEqual(noted, f"notes: room for {notes} more; {words[1]}")
 
     def test_no_room_is_found(self):
         log = [sample.record(1, 0, 1, 1), sample.record(2, 1, 1, 2, payload=b"full")]

@@ -1,4 +1,4 @@
--- Laws of a page rebuilt from its section: the replay as a loop makes it, and the image around the body.
+-- Laws of a page rebuilt from its segment: the replay as a loop makes it, and the image around the body.
 use mathlib.Core.Path.{_≡_, refl, sym, ap, _∙_, subst}
 use mathlib.Core.Bool.{true, _&&_}
 use mathlib.Core.List.{List, [], _∷_}
@@ -15,35 +15,35 @@ use Rattle.model.specs.Change.{zeroBody}
 use Rattle.model.specs.Checksum.{sealed}
 use Rattle.model.specs.Item.{recordOf, recordLayout, applyRecord, frameImage}
 use Rattle.model.specs.Scan.{linked}
-use Rattle.reports.specs.Archive.{inSection, validSection, recordsFrom, frontSection, replayRecords, lastNumberIn, sectionImage}
+use Rattle.reports.specs.Archive.{inSegment, validSegment, recordsFrom, frontSegment, replayRecords, lastNumberIn, segmentImage}
 use Rattle.archive_read.specs.Judged.{Judged}
 use Rattle.archive_read.proofs.Records.{lsn-is, next-is, next-none, front-is}
 
 -- ---- records that were judged
 
 module _ (r : List ℕ) (rs : List (List ℕ)) (j : Judged (r ∷ rs)) where
-  both : (inSection (j .page) (j .last) r && validSection (j .page) (recordOf r .lsn) rs) ≡ true
-  unfolding validSection
+  both : (inSegment (j .page) (j .last) r && validSegment (j .page) (recordOf r .lsn) rs) ≡ true
+  unfolding validSegment
   both = j .valid
 
   judged-layout : recordLayout r ≡ true
   judged-layout =
       let e = recordOf r in
       all-at (sealed 60 r ∷ recordLayout r ∷ eqb (e .page) (j .page) ∷ linked 1 (j .last) e ∷ ltb (j .last) (e .lsn) ∷ []) 1
-      (and-left (inSection (j .page) (j .last) r) (validSection (j .page) (e .lsn) rs) both)
+      (and-left (inSegment (j .page) (j .last) r) (validSegment (j .page) (e .lsn) rs) both)
 
   judged-rest : Judged rs
   judged-rest =
       record {
         page = j .page;
         last = recordOf r .lsn;
-        valid = and-right (inSection (j .page) (j .last) r) (validSection (j .page) (recordOf r .lsn) rs) both;
+        valid = and-right (inSegment (j .page) (j .last) r) (validSegment (j .page) (recordOf r .lsn) rs) both;
       }
 
--- those of a valid section
-pub judged-front : (p : ℕ) (a : List ℕ) (at n : ℕ) → n ≡ field 4 at a → validSection p 0 (frontSection (drop at a)) ≡ true
+-- those of a valid segment
+pub judged-front : (p : ℕ) (a : List ℕ) (at n : ℕ) → n ≡ field 4 at a → validSegment p 0 (frontSegment (drop at a)) ≡ true
     → Judged (recordsFrom n (drop (at + 4) a))
-judged-front p a at n e v = record { page = p; last = 0; valid = ap (validSection p 0) (front-is a at n e) ∙ v }
+judged-front p a at n e v = record { page = p; last = 0; valid = ap (validSegment p 0) (front-is a at n e) ∙ v }
 
 -- ---- the loop that replays them
 
@@ -104,12 +104,12 @@ zeros-long n = length-replicate {A = ℕ} n 0
 
 module _ (p : ℕ) (a : List ℕ) (at n : ℕ) (n-is : n ≡ field 4 at a) where
   -- no record: a blank page
-  pub image-blank : n ≡ 0 → (x : List ℕ) (size : ℕ) → x ≡ zeros size → size ≡ 256 → x ≡ sectionImage p (frontSection (drop at a))
+  pub image-blank : n ≡ 0 → (x : List ℕ) (size : ℕ) → x ≡ zeros size → size ≡ 256 → x ≡ segmentImage p (frontSegment (drop at a))
   image-blank z x size x-is s =
-      x-is ∙ ap zeros s ∙ sym (ap (sectionImage p) (sym (front-is a at n n-is) ∙ next-none a (at + 4) n z))
+      x-is ∙ ap zeros s ∙ sym (ap (segmentImage p) (sym (front-is a at n n-is) ∙ next-none a (at + 4) n z))
 
   some-image : (k : ℕ) (b : List ℕ) → 0 < k
-      → frameImage p (lastNumberIn 0 (recordsFrom k b)) (replayRecords (recordsFrom k b) zeroBody) ≡ sectionImage p (recordsFrom k b)
+      → frameImage p (lastNumberIn 0 (recordsFrom k b)) (replayRecords (recordsFrom k b) zeroBody) ≡ segmentImage p (recordsFrom k b)
   unfolding recordsFrom
   some-image zero b h = absurd (omega arith)
   some-image (suc k) b h = refl
@@ -118,7 +118,7 @@ module _ (p : ℕ) (a : List ℕ) (at n : ℕ) (n-is : n ≡ field 4 at a) where
   pub image-built : 0 < n → (x body out : List ℕ) (size last : ℕ) → x ≡ zeros size → size ≡ 256 → length body ≡ length (take 244 (drop 8 x))
       → last ≡ lastNumberIn 0 (recordsFrom n (drop (at + 4) a))
       → body ≡ replayRecords (recordsFrom n (drop (at + 4) a)) (take 244 (drop 8 x))
-      → out ≡ frameImage p last (part (putMid 8 244 x body) 8 244) → out ≡ sectionImage p (frontSection (drop at a))
+      → out ≡ frameImage p last (part (putMid 8 244 x body) 8 244) → out ≡ segmentImage p (frontSegment (drop at a))
   image-built some x body out size last x-is s len l-is b-is o-is =
       let rs : List (List ℕ) = recordsFrom n (drop (at + 4) a) in
       let z : take 244 (drop 8 x) ≡ zeroBody = ap (λ (y : List ℕ). take 244 (drop 8 y)) x-is ∙ body-zeros size (omega (arith, s)) in
@@ -127,4 +127,4 @@ module _ (p : ℕ) (a : List ℕ) (at n : ℕ) (n-is : n ≡ field 4 at a) where
       let b : part (putMid 8 244 x body) 8 244 ≡ replayRecords rs zeroBody =
       put-part x 8 244 body n244 (omega (arith, long)) ∙ b-is ∙ ap (replayRecords rs) z in
       o-is ∙ ap (frameImage p last) b ∙ ap (λ (k : ℕ). frameImage p k (replayRecords rs zeroBody)) l-is
-      ∙ some-image n (drop (at + 4) a) some ∙ ap (sectionImage p) (front-is a at n n-is)
+      ∙ some-image n (drop (at + 4) a) some ∙ ap (segmentImage p) (front-is a at n n-is)

@@ -1,4 +1,4 @@
--- Laws of the loops over an archive's sections: the one that judges them, and the one that fills the area.
+-- Laws of the loops over an archive's segments: the one that judges them, and the one that fills the area.
 use mathlib.Core.Path.{_≡_, sym, ap, _∙_}
 use mathlib.Core.Bool.{Bool, true, false, _&&_}
 use mathlib.Core.List.{List, _++_, append-assoc, append-nil}
@@ -12,9 +12,9 @@ use borrow.Author.Tests.{eqb-true, eqb-false, eq-eqb, ne-eqb}
 use borrow.Rule.Slice.PartMut.{putMid}
 use Rattle.laws.proofs.Tables.{byCases}
 use Rattle.laws.proofs.Parts.{splice-length, take-splice, part-splice, put-splice}
-use Rattle.reports_laws.proofs.ArchiveSections.{here-fits, here-valid, rest-valid}
+use Rattle.reports_laws.proofs.ArchiveSegments.{here-fits, here-valid, rest-valid}
 use Rattle.model.specs.Bytes.{part, splice}
-use Rattle.reports.specs.Archive.{validSection, frontSection, pastSection, sectionFits, validFrom, partedFrom, sectionImage, areaFrom}
+use Rattle.reports.specs.Archive.{validSegment, frontSegment, pastSegment, segmentFits, validFrom, partedFrom, segmentImage, areaFrom}
 use Rattle.archive_read.proofs.Cuts.{left-is, endOf, past-is, past-in}
 
 -- what is left after one page more
@@ -26,7 +26,7 @@ next-page i = omega arith
 
 -- ---- the loop that judges
 
--- what is left decides: sections from place at on, behind i pages
+-- what is left decides: segments from place at on, behind i pages
 pub record Checking (a : List ℕ) (pages at i : ℕ) : Type 0 where
   pub inside : at ≤ length a
   pub few : i ≤ pages
@@ -37,25 +37,25 @@ checking-all a pages = record { inside = omega arith; few = omega arith; same = 
 
 module _ (a : List ℕ) (pages at i : ℕ) (c : Checking a pages at i) where
   module _ (more : i < pages) where
-    -- the tests of the section at the place, and of what is behind it from page q on
+    -- the tests of the segment at the place, and of what is behind it from page q on
     abbrev tests : ℕ → List ℕ → Bool
-    tests q b = sectionFits (drop at a) && (validSection (i + 1) 0 (frontSection (drop at a)) && validFrom (pages - (i + 1)) q b)
+    tests q b = segmentFits (drop at a) && (validSegment (i + 1) 0 (frontSegment (drop at a)) && validFrom (pages - (i + 1)) q b)
 
     whole : tests (i + 1 + 1) (drop (endOf a at) a) ≡ validFrom pages 1 a
     unfolding validFrom
     whole =
         ap (tests (i + 1 + 1)) (sym (past-is a at))
-        ∙ ap (λ (q : ℕ). tests q (pastSection (drop at a))) (sym (next-page i))
+        ∙ ap (λ (q : ℕ). tests q (pastSegment (drop at a))) (sym (next-page i))
         ∙ ap (λ (k : ℕ). validFrom k (i + 1) (drop at a)) (sym (one-less pages i more)) ∙ c .same
 
-    pub checking-short : sectionFits (drop at a) ≡ false → false ≡ validFrom pages 1 a
+    pub checking-short : segmentFits (drop at a) ≡ false → false ≡ validFrom pages 1 a
     checking-short t = rw t at whole
 
-    module _ (fits : sectionFits (drop at a) ≡ true) where
-      pub checking-not : validSection (i + 1) 0 (frontSection (drop at a)) ≡ false → false ≡ validFrom pages 1 a
+    module _ (fits : segmentFits (drop at a) ≡ true) where
+      pub checking-not : validSegment (i + 1) 0 (frontSegment (drop at a)) ≡ false → false ≡ validFrom pages 1 a
       checking-not v = rw (fits, v) at whole
 
-      pub checking-on : validSection (i + 1) 0 (frontSection (drop at a)) ≡ true → Checking a pages (endOf a at) (i + 1)
+      pub checking-on : validSegment (i + 1) 0 (frontSegment (drop at a)) ≡ true → Checking a pages (endOf a at) (i + 1)
       checking-on v = record { inside = past-in a at (c .inside) fits .1; few = omega (arith, more); same = rw (fits, v) at whole }
 
   none-left : eqb at (length a) ≡ eqb (length a - at) 0
@@ -117,33 +117,33 @@ module _ (a : List ℕ) (pages : ℕ) (area : List ℕ) (at i : ℕ) (r : Rebuil
     here : validFrom (suc (pages - (i + 1))) (i + 1) (drop at a) ≡ true
     here = ap (λ (k : ℕ). validFrom k (i + 1) (drop at a)) (sym (one-less pages i more)) ∙ r .valid
 
-    pub rebuilding-fits : sectionFits (drop at a) ≡ true
+    pub rebuilding-fits : segmentFits (drop at a) ≡ true
     rebuilding-fits = here-fits (pages - (i + 1)) (i + 1) (drop at a) here
 
-    pub rebuilding-valid : validSection (i + 1) 0 (frontSection (drop at a)) ≡ true
+    pub rebuilding-valid : validSegment (i + 1) 0 (frontSegment (drop at a)) ≡ true
     rebuilding-valid = here-valid (pages - (i + 1)) (i + 1) (drop at a) here
 
     pub rebuilding-room : 256 * i + 256 ≤ length area
     rebuilding-room = omega (arith, r .size, more)
 
-    -- the image of the section at the place, and those of what is behind it from page q on
+    -- the image of the segment at the place, and those of what is behind it from page q on
     abbrev images : ℕ → List ℕ → List ℕ
-    images q b = sectionImage (i + 1) (frontSection (drop at a)) ++ areaFrom q (partedFrom (pages - (i + 1)) b)
+    images q b = segmentImage (i + 1) (frontSegment (drop at a)) ++ areaFrom q (partedFrom (pages - (i + 1)) b)
 
     rest-is : areaFrom (i + 1) (partedFrom (pages - i) (drop at a)) ≡ images (i + 1 + 1) (drop (endOf a at) a)
     unfolding areaFrom partedFrom
     rest-is =
         ap (λ (k : ℕ). areaFrom (i + 1) (partedFrom k (drop at a))) (one-less pages i more)
-        ∙ ap (λ (q : ℕ). images q (pastSection (drop at a))) (next-page i)
+        ∙ ap (λ (q : ℕ). images q (pastSegment (drop at a))) (next-page i)
         ∙ ap (images (i + 1 + 1)) (past-is a at)
 
     rest-on : validFrom (pages - (i + 1)) (i + 1 + 1) (drop (endOf a at) a) ≡ true
     rest-on =
         ap (validFrom (pages - (i + 1)) (i + 1 + 1)) (sym (past-is a at))
-        ∙ ap (λ (q : ℕ). validFrom (pages - (i + 1)) q (pastSection (drop at a))) (sym (next-page i))
+        ∙ ap (λ (q : ℕ). validFrom (pages - (i + 1)) q (pastSegment (drop at a))) (sym (next-page i))
         ∙ rest-valid (pages - (i + 1)) (i + 1) (drop at a) here
 
-    pub rebuilding-on : (k : ℕ) (x : List ℕ) → k ≡ 256 → length x ≡ 256 → x ≡ sectionImage (i + 1) (frontSection (drop at a))
+    pub rebuilding-on : (k : ℕ) (x : List ℕ) → k ≡ 256 → length x ≡ 256 → x ≡ segmentImage (i + 1) (frontSegment (drop at a))
         → Rebuilding a pages (putMid (256 * i) k area x) (endOf a at) (i + 1)
     rebuilding-on k x k-is long x-is =
         let rest : List ℕ = areaFrom (i + 1 + 1) (partedFrom (pages - (i + 1)) (drop (endOf a at) a)) in

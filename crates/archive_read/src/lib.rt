@@ -1,4 +1,4 @@
-// The reader of a log archive: judged as a whole, then every page rebuilt from its section into a lent area; and how
+// The reader of a log archive: judged as a whole, then every page rebuilt from its segment into a lent area; and how
 // many pages an archive has.
 ghost use mathlib.Core.Path.{_≡_};
 ghost use lib.ListN.{length};
@@ -7,7 +7,7 @@ ghost use Rattle.reports.specs.Archive.{archivePages, validArea, readRows, read
 ghost use Rattle.model.specs.Outcome.{refusalOf};
 
 mod cut;
-mod section;
+mod segment;
 mod whole;
 
 use model::answer::Answer;
@@ -15,9 +15,9 @@ use model::answer::Answer;
 // The most pages that a volume has.
 const MOST: u32 = 64;
 
-// The number of pages, for a program that has none: into how many sections the counts cut the archive; 0 where they do
+// The number of pages, for a program that has none: into how many segments the counts cut the archive; 0 where they do
 // not. Records are not judged.
-// Ruled out: bytes behind the last section passed over; more than 64 pages (both tried).
+// Ruled out: bytes behind the last segment passed over; more than 64 pages (both tried).
 pub fn pages(archive: &[u8]) -> u32
     ensures { λ r. ⌜ r ≡ archivePages (now (archive .entry)) ⌝ }
 {
@@ -68,7 +68,7 @@ fn fill(archive: &[u8], area: &mut [u8]) -> u32
     0
 }
 
-// Reads an archive: every page rebuilt from its section into the area, whose length tells how many pages there are.
+// Reads an archive: every page rebuilt from its segment into the area, whose length tells how many pages there are.
 // Ruled out: an area of 65 images taken; a blank page with a page number (both tried).
 pub fn read(archive: &[u8], area: &mut [u8]) -> Answer
     ensures answer { λ r. ⌜ r ≡ readOf (now (archive .entry)) (now (area .entry)) .answer ⌝ }

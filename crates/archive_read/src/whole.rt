@@ -1,13 +1,13 @@
-// A whole archive, section by section: judged, and every page rebuilt.
+// A whole archive, segment by segment: judged, and every page rebuilt.
 ghost use mathlib.Core.Path.{_≡_};
 ghost use mathlib.Core.Bool.{true};
 ghost use Prim.Native.Nat.{_*_, _≤_};
 ghost use lib.ListN.{length};
 ghost use Rattle.reports.specs.Archive.{validFrom, partedFrom, areaFrom};
 use crate::cut;
-use crate::section;
+use crate::segment;
 
-// The archive is one of so many pages: it is cut into as many sections, each is valid, and nothing is left.
+// The archive is one of so many pages: it is cut into as many segments, each is valid, and nothing is left.
 pub fn valid(archive: &[u8], pages: u32) -> bool
     ensures { λ b. ⌜ b ≡ validFrom pages 1 (now (archive .entry)) ⌝ }
 {
@@ -17,7 +17,7 @@ pub fn valid(archive: &[u8], pages: u32) -> bool
         if !cut::fits(archive, at) {
             return false;
         }
-        if !section::valid(archive, at, i + 1) {
+        if !segment::valid(archive, at, i + 1) {
             return false;
         }
         at = cut::past(archive, at);
@@ -36,7 +36,7 @@ pub fn rebuild(archive: &[u8], pages: u32, area: &mut [u8])
     while i < pages {
         let from = 256 * (i as usize);
         let end = from + 256;
-        section::rebuild(archive, at, i + 1, &mut area[from..end]);
+        segment::rebuild(archive, at, i + 1, &mut area[from..end]);
         at = cut::past(archive, at);
         i += 1;
     }

@@ -15,16 +15,16 @@ use Rattle.model.specs.Tables.{firstOf, tabulate}
 use Rattle.model.specs.Geometry.{geometryOf, validVolume}
 use Rattle.model.specs.Scan.{durableCount, gone, validLog, validNotes}
 use Rattle.reports.specs.Reading.{wholeRows, pageRecords, heldRecords}
-use Rattle.reports.specs.Archive.{archiveBytes, sectionsOf, archiveLength, sizeOf, sizeRefusal, archiveRows, archiveOf}
+use Rattle.reports.specs.Archive.{archiveBytes, segmentsOf, archiveLength, sizeOf, sizeRefusal, archiveRows, archiveOf}
 use Rattle.model.specs.Outcome.{refusalOf}
 use Rattle.model.specs.declared.geometry.Geometry.{Geometry}
 use Rattle.model.specs.declared.answer.Answer.the-variants.{Refused, Done}
 use Rattle.reports.specs.declared.reading.Size.{Size}
-use Rattle.index.specs.Sections.{Sized}
+use Rattle.log_scan.specs.LogSection.{Sized}
 use Rattle.index.specs.Scanned.{scanRows, scanRefusal, countsOf, goneIn}
 use Rattle.index.specs.declared.Counts.{Counts}
 use Rattle.index.proofs.Whole.{clean, sized}
-use Rattle.archive_write.specs.Copied.{sectionsTo}
+use Rattle.archive_write.specs.Copied.{segmentsTo}
 use Rattle.archive_write.specs.Extent.{wholeRefusal, extentOf, sizeNumber}
 use Rattle.archive_write.specs.declared.Extent.{Extent}
 
@@ -180,23 +180,23 @@ module _ (v : List ℕ) where
           (λ t. let q : n ≡ 21 = rw (eq-eqb (wholeRefusal v) 0 (open-whole z), t) at sizes in absurd (omega (arith, q, z)))
 
       module _ (z : n ≡ 0) (g : Geometry) (eg : g ≡ geometryOf v) where
-        sections-are : sectionsTo g v (e .durable) (g .pages) ≡ sectionsOf v
-        sections-are =
+        segments-are : segmentsTo g v (e .durable) (g .pages) ≡ segmentsOf v
+        segments-are =
             rw (eg, durable-is (open-whole z))
             (tabulate-same (geometryOf v .pages) (λ i. pageRecords (geometryOf v) v (suc i) 1 (durableCount (geometryOf v) v))
             (λ i. heldRecords v (suc i)) (λ i. sym (held-is v (whole (open-whole z)) (suc i))))
 
-        pub write-ready : Sized g v × (length b ≡ length (archiveBytes (sectionsTo g v (e .durable) (g .pages))))
+        pub write-ready : Sized g v × (length b ≡ length (archiveBytes (segmentsTo g v (e .durable) (g .pages))))
         write-ready = (
           sized v (whole (open-whole z) .volume) g eg,
           length-right z
-              ∙ sym (ap (λ (ss : List (List (List ℕ))). length (archiveBytes ss)) sections-are ∙ long-as-told v (whole (open-whole z))),
+              ∙ sym (ap (λ (ss : List (List (List ℕ))). length (archiveBytes ss)) segments-are ∙ long-as-told v (whole (open-whole z))),
         )
 
-        pub write-done : (c : List ℕ) → c ≡ archiveBytes (sectionsTo g v (e .durable) (g .pages))
+        pub write-done : (c : List ℕ) → c ≡ archiveBytes (segmentsTo g v (e .durable) (g .pages))
             → (0 ≡ refusalOf (archiveOf v b .answer)) × (c ≡ archiveOf v b .buffer)
         unfolding archiveOf
-        write-done c ec = rw (eq-eqb (firstOf (archiveRows v (length b))) 0 (sym row-is ∙ z)) (refl, ec ∙ ap archiveBytes sections-are)
+        write-done c ec = rw (eq-eqb (firstOf (archiveRows v (length b))) 0 (sym row-is ∙ z)) (refl, ec ∙ ap archiveBytes segments-are)
 
   -- the answer of a number
   module _ (b : List ℕ) (n : ℕ) (en : n ≡ refusalOf (archiveOf v b .answer)) where

@@ -8,7 +8,7 @@ ghost use Rattle.model.specs.Outcome.{refusalOf};
 ghost use Rattle.index.specs.Scanned.{goneIn};
 ghost use Rattle.archive_write.specs.Extent.{extentOf, sizeNumber};
 
-mod section;
+mod segment;
 
 use index::Counts;
 use model::answer::Answer;
@@ -36,7 +36,6 @@ fn measure(volume: &[u8]) -> Extent
     ensures { λ r. ⌜ r ≡ extentOf (now (volume .entry)) ⌝ }
 {
     let c = index::count(volume);
-    let g = heading::geometry(volume);
     let no = refusal(c);
     if no != 0 {
         return Extent {
@@ -45,6 +44,7 @@ fn measure(volume: &[u8]) -> Extent
             size: 0,
         };
     }
+    let g = heading::geometry(volume);
     Extent {
         refusal: 0,
         durable: c.durable,
@@ -53,7 +53,7 @@ fn measure(volume: &[u8]) -> Extent
 }
 
 // The length of a volume's archive.
-// Ruled out: a length without the sections' counts (tried); a length for a log whose record 1 has left it (tried).
+// Ruled out: a length without the segments' counts (tried); a length for a log whose record 1 has left it (tried).
 pub fn length(volume: &[u8]) -> Size
     ensures { λ r. ⌜ r ≡ sizeOf (now (volume .entry)) ⌝ }
 {
@@ -76,7 +76,7 @@ fn fill(volume: &[u8], buffer: &mut [u8]) -> u32
         return no;
     }
     let g = heading::geometry(volume);
-    section::sections(volume, g, e.durable, buffer);
+    segment::segments(volume, g, e.durable, buffer);
     0
 }
 

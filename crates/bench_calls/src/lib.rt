@@ -73,8 +73,9 @@ fn cut(count: u32) -> u32
     if count <= 1024 { count } else { 1024 }
 }
 
-// Restarts from a volume, and gives the number of refusals, 1 or 0. Ruled out: a refusal that is not counted; a memory
-// that is left as it was.
+// Restarts from a volume, and gives the number of refusals, 1 or 0. No benchmark calls it: by it Restart has a second
+// caller, and so is not expanded into the cycles (docs/PERFORMANCE.md). Ruled out: a refusal that is not counted; a
+// memory that is left as it was.
 #[no_mangle]
 pub extern "C" fn measure_restart(volume: &[u8], memory: &mut [u8]) -> u32
     ensures refused { λ r. ⌜ r ≡ restartRun (now (volume .entry)) (now (memory .entry)) .refused ⌝ }

@@ -27,7 +27,8 @@ use Rattle.cases.specs.Prologues.{pageWritten}
 use Rattle.cases.specs.Carried.{does}
 use Rattle.laws.proofs.Progress.{progress, drops-none}
 use Rattle.history.proofs.CarryClaims.{carry-history}
-use Rattle.bounds.proofs.Tests.{holds, live, memoryIn, stateIn}
+use Rattle.cases.specs.Build.{memoryIn}
+use Rattle.cases.proofs.Tests.{holds, live, stateIn}
 
 -- P 1, B 1: page 1 written and backed up, both noted, under the first heading; then a Start. Both images are old
 abbrev carrying : History
@@ -61,10 +62,6 @@ all-left = eqb→eq (oldCount v s) 2 tt ∙ sym (eqb→eq (imageCount (geometryO
 two-left : oldCount v s ≡ 2
 unfolding opened
 two-left = eqb→eq (oldCount v s) 2 tt
-
-taken : firstOf (restampRows v m s) ≡ 0
-unfolding opened
-taken = eqb→eq (firstOf (restampRows v m s)) 0 tt
 
 restamped : restampOf v m s .answer ≡ Done
 unfolding opened

@@ -18,7 +18,7 @@ use Rattle.cases.specs.Opened.{opened}
 use Rattle.cases.specs.Build.{small, image}
 use Rattle.laws.proofs.Replays.{change-laws}
 use Rattle.laws.proofs.Detection.{detection}
-use Rattle.bounds.proofs.Tests.{holds}
+use Rattle.cases.proofs.Tests.{holds}
 
 -- ---- changes
 

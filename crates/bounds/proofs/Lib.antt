@@ -1,4 +1,3 @@
-pub mod Tests
 pub mod Changes
 pub mod States
 pub mod Readers

@@ -26,7 +26,7 @@ use Rattle.reports_laws.proofs.Forecast.{forecast}
 use Rattle.reports_laws.proofs.Archive.{archive}
 use Rattle.reports_laws.proofs.Mirror.{mirror}
 use Rattle.reports_laws.proofs.Compare.{compares}
-use Rattle.bounds.proofs.Tests.{holds, fails}
+use Rattle.cases.proofs.Tests.{holds, fails}
 
 -- K6's log, P 2; and the same with another byte in record 3
 abbrev ours : List ℕ

@@ -21,7 +21,8 @@ use Rattle.cases.specs.Opened.{opened}
 use Rattle.cases.specs.Build.{buffer}
 use Rattle.cases.specs.Rings.{turned}
 use Rattle.history.proofs.Theorem.{demand2}
-use Rattle.bounds.proofs.Tests.{holds, live, memoryIn, stateIn}
+use Rattle.cases.specs.Build.{memoryIn}
+use Rattle.cases.proofs.Tests.{holds, live, stateIn}
 
 -- the ring of `cases`: records 2 and 3 stand, 1 has left; and what comes then
 abbrev turnedAnd : List Event → History

@@ -22,7 +22,7 @@ use Rattle.cases.specs.Rehearsals.{site, short}
 use Rattle.laws.proofs.Tabulated.{replicate-at}
 use Rattle.planning_theory.proofs.Theorem.{same-figures}
 use Rattle.planning_theory.proofs.Room.{enough-room}
-use Rattle.bounds.proofs.Tests.{holds}
+use Rattle.cases.proofs.Tests.{holds}
 
 -- two pages, two slots, four records, three notes, one frame
 abbrev narrow : Site

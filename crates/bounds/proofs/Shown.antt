@@ -24,7 +24,7 @@ use Rattle.cases.specs.Repairs.{healthy}
 use Rattle.cases.proofs.Cases.{equal}
 use Rattle.history.proofs.Health.{never-ahead, same-agrees}
 use Rattle.reports_theory.proofs.Archive.{archive}
-use Rattle.bounds.proofs.Tests.{holds}
+use Rattle.cases.proofs.Tests.{holds}
 
 -- page 1 written and noted, P 1, under the first heading and under the second
 abbrev words : History
@@ -32,10 +32,6 @@ words = historyOf (healthy First)
 
 abbrev bytes : History
 bytes = historyOf (healthy Second)
-
-words-legal : Legal words
-unfolding opened
-words-legal = record { make = eqb→eq (makes words) 0 tt; events = holds (allAllowed (fresh words) (words .events)) tt }
 
 bytes-legal : Legal bytes
 unfolding opened

@@ -22,7 +22,7 @@ use Rattle.cases.specs.States.{entry, none, frame, stateWith}
 use Rattle.cases.specs.Rings.{put}
 use Rattle.laws.proofs.StaysFormed.{keeps-well-formed}
 use Rattle.laws.proofs.Health.{health}
-use Rattle.bounds.proofs.Tests.{holds}
+use Rattle.cases.proofs.Tests.{holds}
 
 -- ---- the last number of a ring
 

@@ -1,3 +1,4 @@
 pub mod Claims
 pub mod Theorem
 pub mod Told
+pub mod Reading

@@ -16,10 +16,10 @@ use Rattle.model.specs.declared.{state.State.State, change.Change.the-variants.
 use Rattle.model.specs.declared.command.Command.the-variants.{Load, Force, Write}
 use Rattle.model.specs.declared.command.Command.the-variants.{Change, Backup, Note}
 use Rattle.upkeep_policy.specs.Upkeep.{Advice, idle, stuck, make, renew, noSlot, freeSlot, reserve, firstNeededNote}
-use Rattle.upkeep_policy.specs.Upkeep.{firstNeededLog, upkeepOf, adviseOf}
-use Rattle.face.specs.Numbers.{stateOf}
+use Rattle.upkeep_policy.specs.Upkeep.{firstNeededLog, upkeepOf, adviseRows, adviseOf}
+use Rattle.face.specs.Numbers.{stateOf, fits}
 use Rattle.face.specs.Arguments.{changeFrom, payloadFrom}
-use Rattle.face.specs.Advice.{commandNumbers, upkeepFace}
+use Rattle.face.specs.Advice.{commandNumbers, upkeepRows, upkeepFace}
 use Rattle.called.specs.Told.{callFrom, AdviceTold}
 
 -- the numbers of a call are of kind 1, and tell it
@@ -103,9 +103,16 @@ module _ (v m : List ℕ) (s : State) (r : ℕ) where
       either (notePending (s .note)) _ _ (of-make _ told-note)
       (either (ltb 0 (s .pending)) _ _ (of-make _ told-force) (either (ring g) _ _ inRing of-idle))
 
+-- numbers that fit and a report of 8 are refused as upkeep is
+none-holds : (v m xs : List ℕ) (r : ℕ) (report : List ℕ) → fits xs ≡ true → length report ≡ 8
+    → firstOf (adviseRows v m (stateOf xs) r) ≡ 0 → firstOf (upkeepRows v m xs r report) ≡ 0
+unfolding adviseRows
+none-holds v m xs r report f l n = rw (f, eq-eqb (length report) 8 l) n
+
 pub advice-told : AdviceTold
 unfolding upkeepFace adviseOf
 advice-told v m xs r report f l n c e =
     let t = advised v m (stateOf xs) r c e in
-    let k = eq-eqb (length report) 8 l in
-    (rw (f, k, n, e), rw (f, k, n, e) (t .kind), rw (f, k, n, e) (t .call))
+    let z = none-holds v m xs r report f l n in
+    let k = eq-eqb (firstOf (upkeepRows v m xs r report)) 0 z in
+    (z, rw (k, n, e) (t .kind), rw (k, n, e) (t .call))

@@ -9,9 +9,9 @@ use lib.ListN.{length, getD}
 use borrow.Author.Tests.{eq-eqb, ne-eqb, eqb-true, leb-true, le-leb, lt-leb, not-false}
 use Rattle.laws.proofs.Tables.{byCases, all-at, not-true}
 use Rattle.laws.proofs.Tabulated.{tabulate-length, tabulate-at}
-use Rattle.model.specs.Tables.{firstOf, within}
+use Rattle.model.specs.Tables.{Row, firstOf, within}
 use Rattle.model.specs.Geometry.{geometryOf, validVolume}
-use Rattle.model.specs.State.{frameCount, validMemory, wellFormed}
+use Rattle.model.specs.State.{frameCount}
 use Rattle.model.specs.Refusals.{stateRows}
 use Rattle.model.specs.Change.{changeFits}
 use Rattle.model.specs.Change as rule
@@ -23,7 +23,8 @@ use Rattle.model.specs.declared.change.Change.the-variants.{Format}
 use Rattle.face.specs.Numbers.{stateOf, fits}
 use Rattle.face.specs.Face.{Face, faced, faceOf}
 use Rattle.face.specs.Arguments.{misfilledOf, beginFace, unfitChange, formatHeld, bytesHeld, changeFrom, payloadFrom}
-use Rattle.capi.proofs.FaceLaws.{both, not-both}
+use Rattle.state.proofs.Fits.{refusal-first, refusal-last}
+use Rattle.face_step.proofs.FaceLaws.{both, not-both}
 use Rattle.model.specs.declared.command.Command.the-variants.{Change as ChangeCall}
 
 -- ---- Change
@@ -86,12 +87,8 @@ payload-at xs i h = tabulate-at 44 i (λ j. getD xs j 0) 0 h
 
 -- ---- Begin
 
-three-rows : (a b c : Bool) (x nr : ℕ) → nr ≡ cond a 1 (cond b 2 (cond c 2 0))
-    → cond (not (eqb nr 0)) nr x ≡ cond a 1 (cond b 2 (cond c 2 x))
-three-rows true b c x nr e = rw e
-three-rows false true c x nr e = rw e
-three-rows false false true x nr e = rw e
-three-rows false false false x nr e = rw e
+abbrev ownRows : ℕ → ℕ → Geometry → ℕ → List Row
+ownRows page frame g count = (not (within (g .pages) page), 3) ∷ (not (within count frame), 4) ∷ (true, 6) ∷ []
 
 module _ (page frame : ℕ) (v m xs report : List ℕ) (k : ℕ) (ek : length report ≡ k) (b : Bool) (eb : b ≡ fits xs) where
   pub misfilled-unfit : (not b || not (eqb k 5)) ≡ true → (w : Bool) (n : ℕ) → w ≡ validVolume v → n ≡ cond (not w) 1 2
@@ -101,20 +98,22 @@ module _ (page frame : ℕ) (v m xs report : List ℕ) (k : ℕ) (ek : length re
       let q : (fits xs && eqb (length report) 5) ≡ false = rw (← eb, ek) (not-both b (eqb k 5) t) in
       rw (q, en, ew)
 
-  pub misfilled-fit : (not b || not (eqb k 5)) ≡ false → (size : ℕ) → length m ≡ size → (s : State) → s ≡ stateOf xs → (nr : ℕ)
-      → ((y : List ℕ) → length y ≡ size → nr ≡ firstOf (stateRows v y s [])) → (g : Geometry) → g ≡ geometryOf v
-      → (count : ℕ) → count ≡ frameCount size → (x y n : ℕ)
-      → x ≡ cond (not (within count frame)) 4 6 → y ≡ cond (not (within (g .pages) page)) 3 x → n ≡ cond (not (eqb nr 0)) nr y
-      → n ≡ misfilledOf page frame v m xs report
-  unfolding misfilledOf
-  misfilled-fit t size em s es nr eno g eg count ec x y n ex ey en =
-      let q : (fits xs && eqb (length report) 5) ≡ true = rw (← eb, ek) (both b (eqb k 5) t) in
-      let d : count ≡ frameCount (length m) = rw em ec in
-      let z : y ≡ cond (not (within (geometryOf v .pages) page)) 3 (cond (not (within (frameCount (length m)) frame)) 4 6) =
-      ey ∙ rw (ex, eg, d) in
-      rw (q, en, ← es)
-      (three-rows (not (validVolume v)) (not (validMemory (length m))) (not (wellFormed (geometryOf v) (frameCount (length m)) s)) y nr
-      (eno m em) ∙ rw z)
+  module _ (t : (not b || not (eqb k 5)) ≡ false) (size : ℕ) (em : length m ≡ size) (s : State) (es : s ≡ stateOf xs) (no : ℕ)
+      (eno : (y : List ℕ) → length y ≡ size → no ≡ firstOf (stateRows v y s [])) where
+    fitting : (fits xs && eqb (length report) 5) ≡ true
+    fitting = rw (← eb, ek) (both b (eqb k 5) t)
+
+    pub misfilled-first : (no ≡ 0 → ⊥) → no ≡ misfilledOf page frame v m xs report
+    unfolding misfilledOf
+    misfilled-first ne = rw (fitting, ← es) (refusal-first v m s (ownRows page frame (geometryOf v) (frameCount (length m))) no (eno m em) ne)
+
+    pub misfilled-last : no ≡ 0 → (g : Geometry) → g ≡ geometryOf v → (count : ℕ) → count ≡ frameCount size → (x n : ℕ)
+        → x ≡ cond (not (within count frame)) 4 6 → n ≡ cond (not (within (g .pages) page)) 3 x → n ≡ misfilledOf page frame v m xs report
+    unfolding misfilledOf
+    misfilled-last z g eg count ec x n ex en =
+        let d : count ≡ frameCount (length m) = rw em ec in
+        rw (fitting, ← es)
+        (refusal-last v m s (ownRows page frame (geometryOf v) (frameCount (length m))) no n (eno m em) z (en ∙ rw (ex, eg, d)))
 
 module _ (page frame fill : ℕ) (v m xs report : List ℕ) where
   pub begin-few : fill ≤ 255 → (n : ℕ) (xs′ report′ m′ v′ : List ℕ)

@@ -1,7 +1,5 @@
-pub mod FaceLaws
 pub mod ArgumentLaws
 pub mod SlotLaws
 pub mod SpaceLaws
 pub mod FailingLaws
 pub mod AdviceLaws
-pub mod RowLaws

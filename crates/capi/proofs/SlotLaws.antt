@@ -7,10 +7,12 @@ use native.Mathlib.Omega.{arith}
 use lib.Dec.{eqb}
 use lib.ListN.{length}
 use borrow.Author.Tests.{eq-eqb, ne-eqb, eqb-true}
+use Rattle.laws.proofs.Tables.{not-true}
 use Rattle.laws.proofs.Places.{in-item, place-fits, valid-facts, total}
+use Rattle.volume.proofs.Readings.{unknown-read}
 use Rattle.model.specs.Tables.{firstOf, within}
 use Rattle.model.specs.Bytes.{part, allZero}
-use Rattle.model.specs.Geometry.{Place, itemOf, width, start, item, geometryOf, validVolume}
+use Rattle.model.specs.Geometry.{knownMagic, Place, itemOf, width, start, item, geometryOf, validVolume}
 use Rattle.model.specs.Item.{imagePage, imageLsn, validImage, validSomewhere, recordOf, noteOf}
 use Rattle.model.specs.declared.{geometry.Geometry.Geometry, item.LogRecord.LogRecord, item.Note.Note}
 use Rattle.face.specs.Slots.{listed, countsRows, countNumbers, countsOf, standing, recordNumbers, storedNoteNumbers, slotRows, listedAt, backupNumbers}
@@ -85,6 +87,12 @@ backup-told g x page lsn y z valid zero ep ev ez ey es el = rw (es, ez, ey, ev, 
 pub told-under : (v x ns : List ℕ) (g : Geometry) → g ≡ geometryOf v → ns ≡ backupNumbers g x
     → ns ≡ backupNumbers (geometryOf v) x
 told-under v x ns g eg en = en ∙ ap (λ (k : Geometry). backupNumbers k x) eg
+
+-- a heading that is not known: row 1, whatever follows it
+pub slot-unknown : (v xs : List ℕ) (at : Place) (tell : List ℕ → List ℕ) (b : Bool) → b ≡ knownMagic v → not b ≡ true
+    → (1 ≡ listedAt at tell v xs .refusal) × (xs ≡ listedAt at tell v xs .numbers)
+unfolding listedAt
+slot-unknown v xs at tell b eb t = rw (unknown-read v (sym eb ∙ not-true b t)) (refl, refl)
 
 module _ (v xs : List ℕ) (g : Geometry) (eg : g ≡ geometryOf v) (at : Place) (tell : List ℕ → List ℕ) (n : ℕ)
     (en : n ≡ cond (not (validVolume v)) 1 (cond (not (eqb (length xs) 8)) 2 (cond (not (itemOf g at)) 5 0))) where

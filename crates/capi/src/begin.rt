@@ -5,7 +5,7 @@ ghost use Prim.Native.Nat.{ℕ};
 ghost use lib.ListN.{length};
 ghost use Rattle.face.specs.Face.{faced};
 ghost use Rattle.face.specs.Arguments.{misfilledOf, beginFace};
-use crate::step;
+use face_step::step;
 use model::command::Command;
 use volume::heading;
 use volume::memory;
@@ -29,15 +29,14 @@ fn misfilled(
     }
     let s = numbers::decode(state);
     let no = state::refusal::refusal(s, volume, size);
+    if no != 0 {
+        return no;
+    }
     let g = heading::geometry(volume);
     let count = memory::frames(size);
     let inside = (1 <= page) & (page <= g.pages);
     let there = (1 <= frame) & (frame as usize <= count);
-    rows::first(
-        !(no == 0),
-        no,
-        rows::first(!inside, 3, rows::first(!there, 4, 6)),
-    )
+    rows::first(!inside, 3, rows::first(!there, 4, 6))
 }
 
 #[no_mangle]

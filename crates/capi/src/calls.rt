@@ -4,7 +4,7 @@ ghost use Rattle.model.specs.Calls.{noPayload};
 ghost use Rattle.model.specs.declared.command.Command.the-variants.{Load, Force, Write, Backup, Release, Note};
 ghost use Rattle.model.specs.declared.command.Command.the-variants.{StartCarry, Restamp, FinishCarry};
 ghost use Rattle.face.specs.Face.{faced, faceOf};
-use crate::step;
+use face_step::step;
 use model::command::Command;
 use volume::heading;
 

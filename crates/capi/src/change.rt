@@ -4,8 +4,8 @@ ghost use lib.ListN as lists;
 ghost use Rattle.model.specs.declared.command.Command.the-variants as commands;
 ghost use Rattle.face.specs.Face.{faced, faceOf};
 ghost use Rattle.face.specs.Arguments.{changeFrom, payloadFrom};
-use crate::step;
 use codec::field;
+use face_step::step;
 use model::change::Change;
 use model::command::Command;
 

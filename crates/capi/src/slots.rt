@@ -89,6 +89,9 @@ pub extern "C" fn pagestore_record(volume: &[u8], slot: u32, fields: &mut [u32])
     ensures fields { λ _. ⌜ now (fields .exit)
         ≡ recordSlotOf (now (volume .entry)) slot (now (fields .entry)) .numbers ⌝ }
 {
+    if !heading::known(volume) {
+        return 1;
+    }
     let g = heading::geometry(volume);
     let there = (1 <= slot) & (slot <= g.records);
     let no = refusal(volume, fields.len() == 8, there);
@@ -107,6 +110,9 @@ pub extern "C" fn pagestore_note_at(volume: &[u8], slot: u32, fields: &mut [u32]
     ensures fields { λ _. ⌜ now (fields .exit)
         ≡ noteSlotOf (now (volume .entry)) slot (now (fields .entry)) .numbers ⌝ }
 {
+    if !heading::known(volume) {
+        return 1;
+    }
     let g = heading::geometry(volume);
     let there = (1 <= slot) & (slot <= g.notes);
     let no = refusal(volume, fields.len() == 8, there);
@@ -135,6 +141,9 @@ pub extern "C" fn pagestore_slot(volume: &[u8], slot: u32, fields: &mut [u32]) -
     ensures fields { λ _. ⌜ now (fields .exit)
         ≡ backupSlotOf (now (volume .entry)) slot (now (fields .entry)) .numbers ⌝ }
 {
+    if !heading::known(volume) {
+        return 1;
+    }
     let g = heading::geometry(volume);
     let there = (1 <= slot) & (slot <= g.slots);
     let no = refusal(volume, fields.len() == 8, there);

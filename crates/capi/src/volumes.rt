@@ -5,7 +5,7 @@ ghost use Rattle.model.specs.Restart.{makeOf};
 ghost use Rattle.model.specs.declared.geometry.Heading.the-variants.{First, Second};
 ghost use Rattle.model.specs.Geometry.{validCounts, lengthFor};
 ghost use Rattle.face.specs.Face.{answerNumber, restarted, restartedOf};
-use crate::report;
+use face_step::report;
 use store::Store;
 use volume::heading;
 use volume::rows;

@@ -71,7 +71,7 @@ archiveRows =
     (let a = onePage [] in
     reads a 0 ++ (reads a 255 ++ (reads a 257 ++ (reads a (65 * 256) ++ (reads a 512 ++ reads a 256)))))
     (refused 2 ++ (refused 2 ++ (refused 2 ++ (refused 2 ++ (refused 22 ++ done)))))
-    ∷ row "archive: sections that are taken"
+    ∷ row "archive: segments that are taken"
     (map taken ([] ∷ (recordNo 1 ∷ []) ∷ (recordNo 1 ∷ recordNo 2 ∷ [])
     ∷ (encodeChange 5 0 1 (Format 1) [] ∷ put 9 5 1 ∷ encodeChange 10 9 1 (Format 2) [] ∷ []) ∷ []))
     (accepted ∷ accepted ∷ accepted ∷ accepted ∷ [])

@@ -1,18 +1,18 @@
 -- What the worked cases are made of: volumes built by `model`'s own encoders, machines reached by events.
 use Prim.Native.Nat.{ℕ, _+_, _*_}
-use mathlib.Core.List.{List, [], _∷_, _++_}
+use mathlib.Core.List.{List, [], _∷_, _++_, map}
 use lib.ListN.{replicate, set}
 use Rattle.model.specs.Bytes.{part}
 use Rattle.model.specs.Checksum.{sealImage}
-use Rattle.model.specs.Geometry.{tagOf, emptyVolume, lengthFor}
+use Rattle.model.specs.Geometry.{Place, tagOf, emptyVolume, lengthFor}
 use Rattle.model.specs.Item.{frameImage, noteBytes}
 use Rattle.model.specs.Outcome.{StoredItem, volumeAfter}
 use Rattle.model.specs.Calls.{Call, outcomeOf}
 use Rattle.model.specs.Restart.{inspectOf}
-use Rattle.model.specs.History.{Power, off, on, Machine, Event, freshMachine, run}
+use Rattle.model.specs.History.{Power, off, on, Machine, Event, damage, allowed, freshMachine, run}
 use Rattle.model.specs.declared.{geometry.Geometry.Geometry, geometry.Heading.Heading}
 use Rattle.model.specs.declared.{geometry.Heading.the-variants.Second, state.Entry.Entry}
-use Rattle.cases.specs.Words.{numbers}
+use Rattle.cases.specs.Words.{bits, numbers}
 
 abbrev pub entryNumbers : Entry → List ℕ
 entryNumbers e = e .last ∷ e .durable ∷ e .written ∷ e .slot ∷ e .backup ∷ []
@@ -74,6 +74,17 @@ reachUnder h p b l n es = run (freshMachine h (replicate (lengthFor p b l n) 0xD
 
 abbrev pub reach : ℕ → ℕ → ℕ → ℕ → List Event → Machine
 reach p b l n es = reachUnder Second p b l n es
+
+abbrev pub memoryIn : Power → List ℕ
+memoryIn off = []
+memoryIn (on m s) = m
+
+-- which of some events may come, and one item damaged in several ways
+abbrev pub may : Machine → List Event → List ℕ
+may w es = bits (map (allowed w) es)
+
+abbrev pub hits : Place → List (List ℕ) → List Event
+hits at xss = map (damage at) xss
 
 -- what a call answers then; in a machine that is off there is no call
 abbrev pub askedIn : Power → List ℕ → Call → List ℕ

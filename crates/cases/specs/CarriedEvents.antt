@@ -1,24 +1,17 @@
 -- Rows on which events may come around a volume that is carried over: what may be torn and damaged, what a Start may
 -- not meet, and what counts as stored.
-use Prim.Native.Nat.{ℕ}
 use mathlib.Core.List.{List, [], _∷_, _++_, map}
 use lib.ListN.{replicate}
-use Rattle.model.specs.Geometry.{Place, pageAt, slotAt}
+use Rattle.model.specs.Geometry.{pageAt, slotAt}
 use Rattle.cases.specs.Calls.{write, backup, note, startCarry, restamp, finishCarry}
 use Rattle.model.specs.AbstractLog.{old, new, torn}
-use Rattle.model.specs.History.{Machine, Event, restart, perform, crashIn, damage, allowed, run}
+use Rattle.model.specs.History.{Machine, Event, restart, perform, crashIn, damage, run}
 use Rattle.model.specs.declared.answer.Class.the-variants.{Good}
 use Rattle.cases.specs.Opened.{opened}
 use Rattle.cases.specs.Rows.{Row, row}
-use Rattle.cases.specs.Words.{bits, fromOwn, yes, no, atLsn}
-use Rattle.cases.specs.Build.{broken, inspected, memory}
+use Rattle.cases.specs.Words.{fromOwn, yes, no, atLsn}
+use Rattle.cases.specs.Build.{broken, inspected, memory, may, hits}
 use Rattle.cases.specs.Carried.{does, oldVolume, bothWritten, wordImage, byteImage, sums, inBytes, inBoth}
-
-abbrev may : Machine → List Event → List ℕ
-may w es = bits (map (allowed w) es)
-
-abbrev hits : Place → List (List ℕ) → List Event
-hits at xss = map (damage at) xss
 
 -- A torn write under the first heading, of page 2: it fails the word sum, as a torn item must, and passes the byte sum.
 abbrev tornWrite : Machine

@@ -1,4 +1,4 @@
--- Rows on what a page's repair, and its section of the archive, depend on (document 02, §13): for each hypothesis two
+-- Rows on what a page's repair, and its segment of the archive, depend on (document 02, §13): for each hypothesis two
 -- volumes in which it alone fails, and the answers differ; and two in which none fails and all else differs. The
 -- archive's refusals need the lowest held number too.
 use Prim.Native.Nat.{ℕ}
@@ -153,7 +153,7 @@ neighbourRows =
     ∷ row "neighbours: no backup noted, and another image in slot 1"
     (beside (with (oneItem (slotAt 1) (image 1 3 body3) ∷ [])) (with []) 1)
     (allBut theBackupsImage ++ (fromFormat Failed 2 ++ fromFormat Failed 2))
-    ∷ row "neighbours: a record below the newest format: the section differs, inspection does not"
+    ∷ row "neighbours: a record below the newest format: the segment differs, inspection does not"
     (let again = oneItem (recordAt 2) (encodeChange 2 1 1 (Format 5) []) ∷ [] in
     let v = smallVolume (oneItem (recordAt 1) record1 ∷ again) in
     let w = smallVolume (oneItem (recordAt 1) (encodeChange 1 0 1 (Format 9) []) ∷ again) in

@@ -27,9 +27,9 @@ use Rattle.model.specs.Scan.{validNotes}
 use Rattle.model.specs.State.{validMemory, zeroState, recordNeeded, logFull, noteNeeded, notesFull, holderFrom}
 use Rattle.model.specs.State.{pendingNoteFits, frameFits, entryFits, pageFits, wellFormed}
 use Rattle.model.specs.Tables.{tabulate, every}
-use Rattle.reports.specs.Archive.{sectionBytes, archiveBytes, sizeOf, archiveRows, archiveOf, validSection}
+use Rattle.reports.specs.Archive.{segmentBytes, archiveBytes, sizeOf, archiveRows, archiveOf, validSegment}
 use Rattle.reports.specs.Archive.{recordsFrom, validFrom, partedFrom, replayRecords, lastNumberIn, areaFrom, readRows}
-use Rattle.reports.specs.Archive.{readOf, pagesFrom, cutInto, validSections}
+use Rattle.reports.specs.Archive.{readOf, pagesFrom, cutInto, validSegments}
 use Rattle.reports.specs.Examine.{examineRows, examineOf}
 use Rattle.reports.specs.Forecast.{forecastOf, tellForecast}
 use Rattle.reports.specs.Mirror.{commonFrom, touchedIn, mirrorRows, comparison, mirrorOf, compareRows, compareOf}
@@ -56,9 +56,9 @@ unfolding
     inspectRows classOf chainRecord walkFrom walkOf replayChain rebuiltBody repairOf restartState restartOf makeOf
     inspectOf highest countIn firstIn restZero endsIn durableCount firstHeld logIndex recordFits validLog gone noteCount
     firstNote noteIndex noteFollows noteFits validNotes validMemory zeroState recordNeeded logFull noteNeeded notesFull
-    holderFrom pendingNoteFits frameFits entryFits pageFits wellFormed tabulate every sectionBytes archiveBytes sizeOf
-    archiveRows archiveOf validSection recordsFrom validFrom partedFrom replayRecords lastNumberIn areaFrom readRows
-    readOf pagesFrom cutInto validSections examineRows examineOf forecastOf tellForecast commonFrom touchedIn mirrorRows
+    holderFrom pendingNoteFits frameFits entryFits pageFits wellFormed tabulate every segmentBytes archiveBytes sizeOf
+    archiveRows archiveOf validSegment recordsFrom validFrom partedFrom replayRecords lastNumberIn areaFrom readRows
+    readOf pagesFrom cutInto validSegments examineRows examineOf forecastOf tellForecast commonFrom touchedIn mirrorRows
     comparison mirrorOf compareRows compareOf pageRecords logPage notePage roomOf accessOf holding leastUsed evicted
     broughtIn touched withChange changed stepOn playFrom idle pagesFit rehearsalRows rehearsalOf totalOf changesOf
     lastUse victimRow bringIn callsOf playCall playCalls playEvents restartedSite realRun backedUp noteAhead logAhead

@@ -1,6 +1,6 @@
 -- The worked histories: one law that turns a test, which the checker computes, into what it shows of each.
 use mathlib.Core.Path.{_≡_, refl, sym, ap, ap₂, _∙_}
-use mathlib.Core.Bool.{Bool, true, false, cond, _&&_}
+use mathlib.Core.Bool.{false, cond, _&&_}
 use mathlib.Core.List.{List, [], _∷_, _++_}
 use Prim.Native.Nat.{ℕ}
 use lib.Dec.{T, eqb, eqb→eq}
@@ -15,12 +15,9 @@ use Rattle.cases.specs.Rows.{same}
 use Rattle.cases.specs.Worked.{Worked, historyOf, joined, makes, answersOf, eventStep, taleFrom, taleOf}
 use Rattle.cases.specs.Worked.{saysAnswers, loggedNumbers, sameChanges, pagesOf, allReplay, agrees, computes}
 use Rattle.cases.specs.Worked.{allCompute, Computed, AllComputed}
-use Rattle.cases.proofs.Steps.{machine-step, log-step, answer-step}
 use Rattle.cases.proofs.Cases.{left, right, equal}
-
-holds : (b : Bool) → T b → b ≡ true
-holds true t = refl
-holds false t = absurd t
+use Rattle.cases.proofs.Tests.{holds}
+use Rattle.cases_laws.proofs.Steps.{machine-step, log-step, answer-step}
 
 -- ---- the one pass gives what `model`'s folds give
 

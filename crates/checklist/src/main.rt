@@ -1,13 +1,11 @@
 // The four checks that support staff are taught, played with the store's own calls. Only the damage is this program's:
 // it plays the disk and the plug. The calls are proved; the program shows them at work, and compares each page's text
 // before and after.
-
-mod both;
-mod lost;
-mod plug;
-mod thread;
-
-use checklist_steps::one;
+use checklist_checks::both;
+use checklist_checks::lost;
+use checklist_checks::plug;
+use checklist_checks::thread;
+use codec::number::one32;
 use print::phrase;
 use print::say;
 
@@ -37,9 +35,9 @@ fn main() {
         b"The four checks, played with the store's own calls. Only the damage is done by this program, in place of the disk.\n\n",
     );
     legend();
-    let passed = one(lost::check())
-        + one(plug::check())
-        + one(both::check())
-        + one(thread::check());
+    let passed = one32(lost::check())
+        + one32(plug::check())
+        + one32(both::check())
+        + one32(thread::check());
     phrase(b"\n", passed, b" of 4 checks passed\n");
 }

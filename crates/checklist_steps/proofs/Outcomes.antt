@@ -10,7 +10,7 @@ use native.Mathlib.Omega.{arith}
 use borrow.Author.Tests.{leb-false}
 use Rattle.laws.proofs.Tables.{byCases}
 use Rattle.model.specs.Bytes.{splice}
-use Rattle.model.specs.Tables.{firstOf}
+use Rattle.model.specs.Tables.{firstOf, smaller}
 use Rattle.model.specs.Refusals.{restartRows}
 use Rattle.model.specs.Outcome.{Outcome, replyOf, volumeAfter, decided}
 use Rattle.model.specs.Restart.{makeOf, restartOf}
@@ -18,7 +18,6 @@ use Rattle.model.specs.declared.{command.Command.Command, geometry.Heading.the-
 use Rattle.store.specs.Store.{wrapped, performed}
 use Rattle.store.specs.declared.Store.{Store}
 use Rattle.store.specs.declared.Returned.{Returned}
-use Rattle.checklist_steps.specs.Disk.{lower}
 use Rattle.checklist_steps.specs.Steps.{Live, live, applied, made, restarted, forced, begun, putIn, rowOf, firstLine, opening}
 
 pub applied-is : (v v′ m′ : List ℕ) (o : Outcome) (r : Returned) (t : Store) → r ≡ wrapped (replyOf o) → t ≡ r .store
@@ -46,15 +45,15 @@ pub restart-is : (v m m′ : List ℕ) (r : Returned) (t : Store) → r ≡ wrap
 restart-is v m m′ r t er et em = applied-is v v m′ (restartOf v m) r t er et em (restart-volume v m)
 
 -- so many bytes, or all
-pub take-lower : (n : ℕ) (s : List ℕ) → take (lower n (length s)) s ≡ take n s
-take-lower n s =
+pub take-smaller : (n : ℕ) (s : List ℕ) → take (smaller n (length s)) s ≡ take n s
+take-smaller n s =
     byCases (leb n (length s)) (λ t. rw t)
     (λ t. let h : length s ≤ n = omega (arith, leb-false n (length s) t) in rw (t, take-all n s h, take-all (length s) s (omega arith)))
 
 -- a line's bytes, put over zeros
-pub row-is : (s r : List ℕ) (n : ℕ) → n ≡ lower 44 (length s) → r ≡ splice (replicate 44 0) 0 (take (n - 0) s) → r ≡ rowOf s
+pub row-is : (s r : List ℕ) (n : ℕ) → n ≡ smaller 44 (length s) → r ≡ splice (replicate 44 0) 0 (take (n - 0) s) → r ≡ rowOf s
 unfolding rowOf
-row-is s r n en er = er ∙ ap (λ (x : List ℕ). splice (replicate 44 0) 0 x) (rw (sub-zero n, en) (take-lower 44 s))
+row-is s r n en er = er ∙ ap (λ (x : List ℕ). splice (replicate 44 0) 0 x) (rw (sub-zero n, en) (take-smaller 44 s))
 
 -- a Force after a call whose payload is q
 pub change-is : (w a b : Live) (c : Command) (p q : List ℕ) → w ≡ forced b → b ≡ made a c p → p ≡ q → w ≡ forced (made a c q)

@@ -3,8 +3,9 @@ ghost use mathlib.Core.Path.{_≡_};
 ghost use Prim.Native.Nat.{_-_, _≤_};
 ghost use lib.ListN.{length};
 ghost use Rattle.model.specs.Bytes.{part, splice};
-ghost use Rattle.checklist_steps.specs.Disk.{lower, size, givenBack, spoiled};
-use crate::least;
+ghost use Rattle.model.specs.Tables.{smaller};
+ghost use Rattle.checklist_steps.specs.Disk.{size, givenBack, spoiled};
+use codec::number::least;
 use codec::part;
 
 // Where the items that are damaged stand in a volume of 2 pages, 1 slot, 16 records and 8 notes.
@@ -24,7 +25,7 @@ pub const RECORD: usize = 16 + 256 * 2 + 256 + 64 * 2;
 
 // The image that stands at a place of a volume; a place past the last one that holds a whole image counts as that.
 pub fn image(volume: &Volume, at: usize) -> Image
-    ensures { λ r. ⌜ r ≡ part (now (volume .entry)) (lower at (size - 256)) 256 ⌝ }
+    ensures { λ r. ⌜ r ≡ part (now (volume .entry)) (smaller at (size - 256)) 256 ⌝ }
 {
     let from = least(at, SIZE - 256);
     let end = from + 256;

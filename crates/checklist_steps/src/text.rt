@@ -4,9 +4,9 @@ ghost use Prim.Native.Nat.{_≤_};
 ghost use lib.ListN.{length};
 ghost use Rattle.checklist_steps.specs.Steps.{rowOf};
 ghost use Rattle.checklist_steps.specs.Text.{sameBetween};
-use crate::least;
-use crate::one;
 use codec::field;
+use codec::number::least;
+use codec::number::one32;
 use codec::part;
 use print::number;
 use print::say;
@@ -92,11 +92,11 @@ fn holds(s: &[u8], at: usize) -> bool {
 pub fn lines(image: &[u8]) -> u32
     ensures { λ r. ⌜ r ≤ 5 ⌝ }
 {
-    one(holds(image, 8))
-        + one(holds(image, 52))
-        + one(holds(image, 96))
-        + one(holds(image, 140))
-        + one(holds(image, 184))
+    one32(holds(image, 8))
+        + one32(holds(image, 52))
+        + one32(holds(image, 96))
+        + one32(holds(image, 140))
+        + one32(holds(image, 184))
 }
 
 // The last line of an image that is not blank, or the first.

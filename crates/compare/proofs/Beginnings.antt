@@ -11,7 +11,7 @@ use Rattle.model.specs.Bytes.{part, startsWith, sameBytes}
 use Rattle.model.specs.Geometry.{geometryOf, item, logSlot}
 use Rattle.reports.specs.Mirror.{sameChange, recordIn, commonFrom}
 use Rattle.model.specs.declared.geometry.Geometry.{Geometry}
-use Rattle.index.specs.Sections.{Sized}
+use Rattle.log_scan.specs.LogSection.{Sized}
 use Rattle.index.proofs.Whole.{sized}
 use Rattle.compare.specs.Volumes.{Headed}
 

@@ -1,6 +1,6 @@
 -- The report of 66 numbers: the numbers written so far, and the outcome of a comparison that fills one.
 use mathlib.Core.Path.{_≡_, refl, sym, ap, _∙_}
-use mathlib.Core.Bool.{Bool, false, _&&_, cond, not}
+use mathlib.Core.Bool.{Bool, true, false, _&&_, _||_, cond, not}
 use mathlib.Core.List.{List, [], _∷_, _++_, map, append-assoc, append-nil}
 use Prim.Native.Nat.{ℕ, suc, _+_, _≤_, _<_}
 use native.Mathlib.Numerals.{add-one}
@@ -8,11 +8,12 @@ use native.Mathlib.Omega.{arith}
 use lib.Dec.{eqb}
 use lib.ListN.{length, take, set, getD, length-map, length-set, List·getD-map}
 use lib.Seq.{take-suc, take-suc-set, take-all}
-use borrow.Author.Tests.{eq-eqb, ne-eqb}
+use borrow.Author.Tests.{eq-eqb, ne-eqb, eqb-true}
 use Rattle.laws.proofs.Tables.{byCases}
 use Rattle.reports_laws.proofs.Mirror.{number-is}
 use Rattle.model.specs.Tables.{firstOf}
-use Rattle.model.specs.Geometry.{validVolume}
+use Rattle.model.specs.Geometry.{geometryOf, validVolume}
+use Rattle.model.specs.Scan.{validLog, validNotes, gone}
 use Rattle.reports.specs.Mirror.{kindNumber, countNumber, flag, numbersOf, mirrorRows, mirrorRefusal, mirrorOf, compareRows, compareOf}
 use Rattle.reports.specs.declared.reading.Compared.{Compared}
 
@@ -60,26 +61,39 @@ told c r a b h ea eb = ap (λ (x : List ℕ). x ++ map flag (c .touched)) (front
 
 -- ---- the call
 
-module _ (v w report : List ℕ) where
-  -- a report of another length
-  pub unlike : eqb (length report) 66 ≡ false → (n : ℕ) → n ≡ cond (not (validVolume v && validVolume w)) 1 2
-      → (n ≡ compareOf v w report .refusal) × (report ≡ compareOf v w report .report)
-  unfolding compareOf compareRows
-  unlike f n e = rw f (byCases (validVolume v && validVolume w) (λ t. rw t (rw t at e, refl)) (λ t. rw t (rw t at e, refl)))
+-- a row of its own behind row 1
+behind-one : (a b c d t : Bool)
+    → (let k = cond a 1 (cond b 17 (cond c 18 (cond d 24 0))) in cond (eqb k 1) 1 (cond t 2 k))
+    ≡ cond a 1 (cond t 2 (cond b 17 (cond c 18 (cond d 24 0))))
+behind-one true b c d t = refl
+behind-one false true c d t = refl
+behind-one false false true d t = refl
+behind-one false false false true t = refl
+behind-one false false false false t = refl
 
-  -- one of 66 numbers: the refusal is that of the comparison
-  rows-same : length report ≡ 66 → firstOf (compareRows v w (length report)) ≡ firstOf (mirrorRows v w)
+module _ (v w report : List ℕ) (c : Compared) (ec : c ≡ mirrorOf v w) (k n : ℕ) (ek : k ≡ mirrorRefusal (c .answer))
+    (en : n ≡ cond (eqb k 1) 1 (cond (not (eqb (length report) 66)) 2 k)) where
+  number : n ≡ firstOf (compareRows v w (length report))
   unfolding compareRows mirrorRows
-  rows-same e = rw (eq-eqb (length report) 66 e)
+  number =
+      let e : k ≡ firstOf (mirrorRows v w) = ek ∙ ap (λ (x : Compared). mirrorRefusal (x .answer)) ec ∙ number-is v w in
+      en ∙ ap (λ (x : ℕ). cond (eqb x 1) 1 (cond (not (eqb (length report) 66)) 2 x)) e
+      ∙ behind-one (not (validVolume v && validVolume w)) (not (validLog (geometryOf v) v && validLog (geometryOf w) w))
+      (not (validNotes (geometryOf v) v && validNotes (geometryOf w) w)) (gone (geometryOf v) v || gone (geometryOf w) w)
+      (not (eqb (length report) 66))
 
-  module _ (e : length report ≡ 66) (c : Compared) (ec : c ≡ mirrorOf v w) (n : ℕ) (en : n ≡ mirrorRefusal (c .answer)) where
-    number : n ≡ firstOf (compareRows v w (length report))
-    number = en ∙ ap (λ (x : Compared). mirrorRefusal (x .answer)) ec ∙ number-is v w ∙ sym (rows-same e)
+  pub left : (n ≡ 0 → ⊥) → (n ≡ compareOf v w report .refusal) × (report ≡ compareOf v w report .report)
+  unfolding compareOf
+  left z = rw (ne-eqb (firstOf (compareRows v w (length report))) 0 (λ q. z (number ∙ q))) (number, refl)
 
-    pub left : (n ≡ 0 → ⊥) → (n ≡ compareOf v w report .refusal) × (report ≡ compareOf v w report .report)
+  module _ (z : n ≡ 0) where
+    -- the report has room for the numbers
+    pub long : length report ≡ 66
+    long = byCases (eqb (length report) 66) (λ t. eqb-true _ _ t)
+        (λ f. byCases (eqb k 1)
+        (λ t. let q : n ≡ 1 = rw t at en in absurd (omega (arith, q, z)))
+        (λ t. let q : n ≡ 2 = rw (t, f) at en in absurd (omega (arith, q, z))))
+
+    pub filled : (r : List ℕ) → r ≡ numbersOf c → (n ≡ compareOf v w report .refusal) × (r ≡ compareOf v w report .report)
     unfolding compareOf
-    left z = rw (ne-eqb (firstOf (compareRows v w (length report))) 0 (λ q. z (number ∙ q))) (number, refl)
-
-    pub filled : n ≡ 0 → (r : List ℕ) → r ≡ numbersOf c → (n ≡ compareOf v w report .refusal) × (r ≡ compareOf v w report .report)
-    unfolding compareOf
-    filled z r er = rw (eq-eqb (firstOf (compareRows v w (length report))) 0 (sym number ∙ z)) (z, er ∙ ap numbersOf ec)
+    filled r er = rw (eq-eqb (firstOf (compareRows v w (length report))) 0 (sym number ∙ z)) (z, er ∙ ap numbersOf ec)

@@ -4,13 +4,13 @@ ghost use mathlib.Core.Bool.{cond, _||_};
 ghost use Prim.Native.Nat.{_≤_};
 ghost use lib.Dec.{eqb};
 ghost use Rattle.reports.specs.Mirror as mirrors;
-ghost use Rattle.model.specs.Tables as tables;
 ghost use Rattle.index.specs.Scanned.{goneIn};
 
 pub mod changes;
 pub mod pages;
 pub mod report;
 
+use codec::number::smaller;
 use index::Counts;
 use reports::reading::Compared;
 use reports::reading::Comparison;
@@ -29,13 +29,6 @@ fn refusal(a: Counts, b: Counts) -> u32
     let later = rows::first((m == 18) | (n == 18), 18, lost);
     let log = rows::first((m == 17) | (n == 17), 17, later);
     rows::first((m == 1) | (n == 1), 1, log)
-}
-
-// The smaller of two counts.
-fn smaller(a: u32, b: u32) -> u32
-    ensures { λ r. ⌜ r ≡ tables.smaller a b ⌝ }
-{
-    if a <= b { a } else { b }
 }
 
 // The answer, for logs of n and m records with k in common.

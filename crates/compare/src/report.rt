@@ -1,10 +1,11 @@
 // The comparison as 66 numbers in a lent report: kind, count, and a number for each page.
 ghost use mathlib.Core.Path.{_≡_};
+ghost use mathlib.Core.Bool.{cond, not};
+ghost use lib.Dec.{eqb};
 ghost use lib.ListN.{length};
 ghost use Rattle.reports.specs.Mirror as mirrors;
 use reports::reading::Compared;
 use reports::reading::Comparison;
-use volume::heading;
 use volume::rows;
 
 // 0, or the refusal.
@@ -67,6 +68,13 @@ fn tell(c: Compared, report: &mut [u32])
     }
 }
 
+// The refusal: row 1, then 2 for a report of another length, then the comparison's.
+fn refusal(no: u32, size: usize) -> u32
+    ensures { λ r. ⌜ r ≡ cond (eqb no 1) 1 (cond (not (eqb size 66)) 2 no) ⌝ }
+{
+    rows::first(no == 1, 1, rows::first(!(size == 66), 2, no))
+}
+
 // Compares two volumes' logs into a lent report: 0 or the refusal.
 // Ruled out: a refusal that wrote to the report (tried); a log that lacks records told as the other (tried).
 pub fn tell_comparison(first: &[u8], second: &[u8], report: &mut [u32]) -> u32
@@ -75,13 +83,9 @@ pub fn tell_comparison(first: &[u8], second: &[u8], report: &mut [u32]) -> u32
     ensures report { λ _. ⌜ now (report .exit)
         ≡ mirrors.compareOf (now (first .entry)) (now (second .entry)) (now (report .entry)) .report ⌝ }
 {
-    if report.len() != 66 {
-        let valid = heading::valid(first) & heading::valid(second);
-        return rows::first(!valid, 1, 2);
-    }
     let c = crate::compare(first, second);
     let a = c.answer;
-    let no = number(a);
+    let no = refusal(number(a), report.len());
     if no == 0 {
         tell(c, report);
     }

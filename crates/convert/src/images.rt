@@ -1,7 +1,7 @@
 // The images of a volume in order, pages before slots, and the first that passes only the old sum.
 ghost use mathlib.Core.Path.{_≡_};
 ghost use mathlib.Core.Bool.{true};
-ghost use Prim.Native.Nat.{_+_, _<_, _≤_};
+ghost use Prim.Native.Nat.{_<_};
 ghost use Rattle.model.specs.Geometry.{start, geometryOf, validVolume};
 ghost use Rattle.model.specs.Passes.{imageCount, imagePlace, oldAt, firstOld};
 use crate::passes;

@@ -1,19 +1,20 @@
 // Drives the store by a script of cells on standard input, at most 4,096, and prints a line for each: what the call
 // answered, and hashes of all that it may have changed. It holds the proved store against an independent
 // implementation, so nothing is proved of it but that it is safe and ends.
-mod advice;
-mod archive;
 mod calls;
-mod forecasts;
-mod mirror;
-mod rehearse;
 
+use codec::number::least;
 use libc::STDIN_FILENO;
 use script::cell;
 use script::session;
 use script::session::Session;
 use script::session::Turn;
 use script::setup;
+use script_reports::advice;
+use script_reports::archive;
+use script_reports::forecasts;
+use script_reports::mirror;
+use script_reports::rehearse;
 
 // Makes the call of a cell on what is lent of the buffers.
 fn call(
@@ -47,10 +48,10 @@ fn turn(
     if cell::sets_up(c) {
         return setup::turn(b, c, volume, memory, lent, second);
     }
-    let v = session::least(b.volume, volume.len());
-    let m = session::least(b.memory, memory.len());
-    let u = session::least(b.lent, lent.len());
-    let w = session::least(b.second, second.len());
+    let v = least(b.volume, volume.len());
+    let m = least(b.memory, memory.len());
+    let u = least(b.lent, lent.len());
+    let w = least(b.second, second.len());
     call(
         b,
         c,

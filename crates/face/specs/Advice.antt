@@ -5,11 +5,12 @@ use mathlib.Core.Bool.{cond, _&&_, not}
 use mathlib.Core.List.{List, [], _∷_}
 use lib.Dec.{eqb}
 use lib.ListN.{length, getD}
-use Rattle.model.specs.Geometry.{validVolume}
+use Rattle.model.specs.Tables.{Row, firstOf, within}
+use Rattle.model.specs.State.{frameCount}
+use Rattle.model.specs.Refusals.{stateRows}
 use Rattle.model.specs.Calls.{codeOf, numberOf}
 use Rattle.upkeep_policy.specs.Upkeep.{adviseOf}
 use Rattle.model.specs.declared.command.Command.{Command}
-use Rattle.upkeep_policy.specs.declared.upkeep.Advised.{Advised}
 use Rattle.upkeep_policy.specs.declared.upkeep.Upkeep.{Upkeep}
 use Rattle.upkeep_policy.specs.declared.upkeep.Upkeep.the-variants.{Refused, Idle, Stuck, Make}
 use Rattle.face.specs.Numbers.{stateOf, fits}
@@ -40,13 +41,14 @@ upkeepNumbers Idle byte = plain 0 0 0 0
 upkeepNumbers (Stuck page) byte = plain 2 0 page 0
 upkeepNumbers (Make c) byte = commandNumbers c byte
 
--- what is advised, told over the numbers of a report
-abbrev pub advisedTo : Advised → List ℕ → Listed
-advisedTo a report = listed (refusalIn (a .upkeep)) report (upkeepNumbers (a .upkeep) (getD (a .payload) 0 0))
-
 -- refused as a call on the state, and by 4 where r is no frame; numbers that are no state's, and a report of another
 -- length than 8, are refused by 2, in 2's place
+abbrev pub upkeepRows : List ℕ → List ℕ → List ℕ → ℕ → List ℕ → List Row
+upkeepRows v m xs r report =
+    stateRows v m (stateOf xs)
+    ((not (fits xs && eqb (length report) 8), 2) ∷ (not (within (frameCount (length m)) r), 4) ∷ [])
+
 unfoldable pub upkeepFace : List ℕ → List ℕ → List ℕ → ℕ → List ℕ → Listed
 upkeepFace v m xs r report =
-    cond (fits xs && eqb (length report) 8) (advisedTo (adviseOf v m (stateOf xs) r) report)
-    (record { refusal = cond (not (validVolume v)) 1 2; numbers = report })
+    let a = adviseOf v m (stateOf xs) r in
+    listed (firstOf (upkeepRows v m xs r report)) report (upkeepNumbers (a .upkeep) (getD (a .payload) 0 0))

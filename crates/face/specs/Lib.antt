@@ -5,3 +5,4 @@ pub mod Slots
 pub mod Room
 pub mod Advice
 pub mod Claim
+pub mod ReadingForC

@@ -21,7 +21,7 @@ use Rattle.model.specs.Outcome.{StoredItem}
 use Rattle.model.specs.AbstractLog.{Logged}
 use Rattle.model.specs.declared.{geometry.Geometry.Geometry, item.Note.Note, state.Entry.Entry, state.State.State}
 use Rattle.history.proofs.Logs.{at}
-use Rattle.history.proofs.Entries.{note, markAt, Later}
+use Rattle.history.proofs.Marks.{note, markAt, Later}
 use Rattle.history.proofs.Sections.{most-plain, notes-plain}
 use Rattle.history.proofs.Disk.{Stands, Torn, Spare, NoteStands, NoteTorn}
 use Rattle.history.proofs.NoteScan.{note-back}

@@ -33,7 +33,9 @@ use Rattle.history.proofs.Appends.{keep-begin, keep-change}
 use Rattle.history.proofs.Loads.{keep-load}
 use Rattle.history.proofs.Release.{keep-release}
 use Rattle.history.proofs.Images.{StoreOk, write-store, backup-store}
-use Rattle.history.proofs.Keeps.{force-store, forced, none-pending, some-pending, keep-force, Writes, writes, written, keep-write, backs, keep-backup, note-store, keep-note}
+use Rattle.history.proofs.Forces.{force-store, forced, none-pending, some-pending, keep-force}
+use Rattle.history.proofs.Persists.{Writes, writes, written, keep-write, backs, keep-backup, note-store}
+use Rattle.history.proofs.Persists.{keep-note}
 
 -- ---- what these calls store counts as stored
 

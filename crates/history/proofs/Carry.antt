@@ -21,7 +21,7 @@ use Rattle.model.specs.History.{storedBefore}
 use Rattle.model.specs.declared.{geometry.Geometry.Geometry, geometry.Heading.the-variants.First, item.Note.Note}
 use Rattle.model.specs.declared.state.PendingNote.{PendingNote}
 use Rattle.model.specs.declared.state.PendingNote.the-variants.{Absent, Present}
-use Rattle.history.proofs.Entries.{markAt}
+use Rattle.history.proofs.Marks.{markAt}
 use Rattle.history.proofs.Records.{ReplayOf, Faithful}
 use Rattle.history.proofs.Disk.{Holds, Noted, Copy}
 use Rattle.history.proofs.Inv.{Image, Past, past-cons, PendingOk}

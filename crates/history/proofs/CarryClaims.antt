@@ -35,7 +35,7 @@ use Rattle.model.specs.History.{Power, on, payloadFits, startFits, carriable, i
 use Rattle.model.specs.Claim.{History, Legal, reached, durableOf, Begins}
 use Rattle.model.specs.Health.{Same}
 use Rattle.model.specs.Carry.{carries, CarrySame, OnlyHeading, AsIfNotBegun, CarryHistory}
-use Rattle.history.proofs.Entries.{markAt, mark-ok}
+use Rattle.history.proofs.Marks.{markAt, mark-ok}
 use Rattle.history.proofs.Sections.{volume-size, store-same, store-other}
 use Rattle.history.proofs.Context.{Ctx, sized, geo}
 use Rattle.history.proofs.Turn.{SameImages, turn-holds, turn-noted}

@@ -23,13 +23,14 @@ use Rattle.model.specs.Index.{entryOf, slotUsed}
 use Rattle.model.specs.Passes.{isImage, onlyOld, onlyNew, imageCount, oldAt}
 use Rattle.model.specs.Refusals.{startCarryRows}
 use Rattle.model.specs.Outcome.{StoredItem, oneItem, newHeading}
-use Rattle.model.specs.AbstractLog.{Logged, AbstractLog}
+use Rattle.model.specs.AbstractLog.{Logged}
 use Rattle.model.specs.History.{on, off, storedBefore, pendingCarries, pageCarries, carriable}
 use Rattle.model.specs.declared.{geometry.Geometry.Geometry, state.Entry.Entry, state.PendingNote.PendingNote}
 use Rattle.model.specs.declared.state.State.{State}
 use Rattle.model.specs.declared.geometry.Heading.the-variants.{First, Second}
 use Rattle.model.specs.declared.state.PendingNote.the-variants.{Absent, Present}
-use Rattle.history.proofs.Entries.{markAt, mark-ok, slot-spare, spare-tabled}
+use Rattle.history.proofs.Marks.{markAt, mark-ok}
+use Rattle.history.proofs.Entries.{slot-spare, spare-tabled}
 use Rattle.history.proofs.Records.{Faithful}
 use Rattle.history.proofs.Sections.{volume-size}
 use Rattle.history.proofs.Disk.{Holds, Noted}
@@ -41,9 +42,6 @@ use Rattle.history.proofs.Context.{Ctx, sized, geo, entry-is}
 
 module _ {C : Type 0} {g : Geometry} {v m : List ℕ} {past : List StoredItem} {s : State} {k w : List Logged}
     (x : Ctx C g v m past s k w) where
-  abbrev book : AbstractLog
-  book = record { durable = k; pending = w }
-
   -- the slot that the state's index gives a page is the notes'
   slot-is : (p : ℕ) → 1 ≤ p → p ≤ g .pages → entryOf (s .index) p .slot ≡ markAt p (x .ns) (length (x .ns)) .slot
   slot-is p lo hi = ap (λ (y : Entry). y .slot) (entry-is x p lo hi)

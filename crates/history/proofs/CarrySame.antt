@@ -27,10 +27,11 @@ use Rattle.model.specs.Health.{Same}
 use Rattle.model.specs.declared.{geometry.Geometry.Geometry, geometry.Heading.the-variants.Second, item.Note.Note}
 use Rattle.model.specs.declared.answer.Answer.the-variants.{Refused, Repaired}
 use Rattle.history.proofs.Logs.{lastOf, last-le}
-use Rattle.history.proofs.Entries.{markAt, mark-ok, entryFrom}
+use Rattle.history.proofs.Marks.{markAt, mark-ok}
+use Rattle.history.proofs.Entries.{entryFrom}
 use Rattle.history.proofs.Sections.{volume-sized}
 use Rattle.history.proofs.Disk.{Holds, Noted}
-use Rattle.history.proofs.NoteScan.{valid-notes, index-is}
+use Rattle.history.proofs.NoteIndex.{valid-notes, index-is}
 use Rattle.history.proofs.LogScan.{first, first-is, started, rec-at, durable-count, valid-log}
 use Rattle.history.proofs.Turn.{SameImages, turn-item}
 use Rattle.history.proofs.Inspection.{inspect-durable}

@@ -12,7 +12,7 @@ use Rattle.model.specs.Item.{imageLsn, validImage, noteBytes}
 use Rattle.model.specs.AbstractLog.{Logged}
 use Rattle.model.specs.declared.{geometry.Geometry.Geometry, item.Note.Note}
 use Rattle.history.proofs.Logs.{at}
-use Rattle.history.proofs.Entries.{note, markAt, NotesOk, Later}
+use Rattle.history.proofs.Marks.{note, markAt, NotesOk, Later}
 use Rattle.history.proofs.Records.{AllFair, recOf, Faithful}
 use Rattle.history.proofs.Sections.{Volume, Tail}
 

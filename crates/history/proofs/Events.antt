@@ -28,12 +28,14 @@ use Rattle.model.specs.declared.{geometry.Geometry.Geometry, item.Note.Note, st
 use Rattle.model.specs.declared.state.PendingNote.{PendingNote}
 use Rattle.model.specs.declared.state.PendingNote.the-variants.{Absent, Present}
 use Rattle.history.proofs.Logs.{lastAt}
-use Rattle.history.proofs.Entries.{markAt, entryFrom, Indexed, spare-tabled, slot-spare}
+use Rattle.history.proofs.Marks.{markAt}
+use Rattle.history.proofs.Entries.{entryFrom, Indexed, spare-tabled, slot-spare}
 use Rattle.history.proofs.Leaf.{valid-page}
 use Rattle.history.proofs.Records.{Faithful}
 use Rattle.history.proofs.Sections.{volume-sized}
 use Rattle.history.proofs.Disk.{Holds, Noted, Stands, Torn, Spare}
-use Rattle.history.proofs.NoteScan.{note-count, index-is}
+use Rattle.history.proofs.NoteScan.{note-count}
+use Rattle.history.proofs.NoteIndex.{index-is}
 use Rattle.history.proofs.LogScan.{durable-count}
 use Rattle.history.proofs.Inv.{image-fine, Past, PendingOk, frame, Alive, PowerInv, Inv}
 use Rattle.history.proofs.Stores.{page-holds, page-noted, page-slots, slot-holds, slot-noted, slot-same, slot-other, pending-keep}
@@ -65,7 +67,7 @@ module _ {C : Type 0} (g : Geometry) (v : List ℕ) (k : List Logged) (h : Holds
           room = h .room;
           fair = h .fair;
           few = omega arith;
-          waits = λ i a b. absurd (omega arith);
+          pends = λ i a b. absurd (omega arith);
         };
         frames = record {
           size = length-replicate 16 emptyFrame;

@@ -17,10 +17,11 @@ use Rattle.model.specs.Claim.{History, Legal, reached, logOf, durableOf}
 use Rattle.model.specs.declared.{state.Entry.Entry, state.State.State}
 use Rattle.history.specs.Facts.{volumeOf, headingOf, IsReplay, StoredImage, OwnImage, IndexEntry, SameEntry, Counts, LivePage, Facts}
 use Rattle.history.proofs.Logs.{at, lastOf, last-hit, last-ge, last-is, replay-is, last-take, replay-take}
-use Rattle.history.proofs.Entries.{markAt, entryFrom, slots-apart}
+use Rattle.history.proofs.Marks.{markAt, slots-apart}
+use Rattle.history.proofs.Entries.{entryFrom}
 use Rattle.history.proofs.Records.{ReplayOf, Faithful}
 use Rattle.history.proofs.Sections.{volume-sized}
-use Rattle.history.proofs.NoteScan.{index-is}
+use Rattle.history.proofs.NoteIndex.{index-is}
 use Rattle.history.proofs.Inv.{Inv}
 use Rattle.history.proofs.Context.{Ctx, entry-is, last-entry, durable-last, found-frame}
 use Rattle.history.proofs.WellFormed.{state-ok, memory-ok}

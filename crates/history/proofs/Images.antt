@@ -19,7 +19,8 @@ use Rattle.model.specs.AbstractLog.{Logged}
 use Rattle.model.specs.History.{itemSealed}
 use Rattle.model.specs.declared.{geometry.Geometry.Geometry, item.Note.Note, state.State.State}
 use Rattle.history.proofs.Logs.{at, lastOf, bodyOf, last-le, last-below}
-use Rattle.history.proofs.Entries.{markAt, NoteOk, Backed, mark-ok, slot-spare}
+use Rattle.history.proofs.Marks.{markAt, NoteOk, Backed, mark-ok}
+use Rattle.history.proofs.Entries.{slot-spare}
 use Rattle.history.proofs.Leaf.{frame-lsn, frame-size, image-lsn, image-body, image-size, valid-sealed}
 use Rattle.history.proofs.Disk.{Holds, Noted}
 use Rattle.history.proofs.Inv.{Fine, Image, image-fine, Past, past-cons, Settled}

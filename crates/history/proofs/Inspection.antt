@@ -24,12 +24,13 @@ use Rattle.model.specs.Restart.{inspectOf}
 use Rattle.model.specs.AbstractLog.{Logged}
 use Rattle.model.specs.declared.{geometry.Geometry.Geometry, item.Note.Note}
 use Rattle.history.proofs.Logs.{lastOf, bodyOf, replayAt, last-le, last-page, replay-last}
-use Rattle.history.proofs.Entries.{markAt, entryFrom}
+use Rattle.history.proofs.Marks.{markAt}
+use Rattle.history.proofs.Entries.{entryFrom}
 use Rattle.history.proofs.Leaf.{image-shown}
 use Rattle.history.proofs.Records.{length-replay}
 use Rattle.history.proofs.Sections.{Sized, volume-sized, most-high}
 use Rattle.history.proofs.Disk.{Holds, Noted}
-use Rattle.history.proofs.NoteScan.{valid-notes, index-is}
+use Rattle.history.proofs.NoteIndex.{valid-notes, index-is}
 use Rattle.history.proofs.LogScan.{first, durable-count, valid-log}
 use Rattle.history.proofs.Views.{view-body, view-whole, view-granted, Unserved, exact-below, below-exact}
 

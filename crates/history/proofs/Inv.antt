@@ -24,7 +24,8 @@ use Rattle.model.specs.declared.{geometry.Geometry.Geometry, item.Note.Note, st
 use Rattle.model.specs.declared.{state.PendingNote.PendingNote, state.State.State}
 use Rattle.model.specs.declared.state.PendingNote.the-variants.{Absent, Present}
 use Rattle.history.proofs.Logs.{noLogged, at, lastAt, lastOf, bodyOf}
-use Rattle.history.proofs.Entries.{note, NoteOk, Indexed, Later}
+use Rattle.history.proofs.Marks.{NoteOk, Later}
+use Rattle.history.proofs.Entries.{Indexed}
 use Rattle.history.proofs.Leaf.{valid-page}
 use Rattle.history.proofs.Records.{AllFair, recOf, ReplayOf, Faithful, replay-grows}
 use Rattle.history.proofs.Disk.{Holds, Noted, Copy, Spare}
@@ -147,7 +148,7 @@ pub record LogState (g : Geometry) (m : List ℕ) (durable pending : ℕ) (k w a
   pub room : length all ≤ most g
   pub fair : AllFair (g .pages) all
   pub few : length w ≤ 16
-  pub waits : (i : ℕ) → length k ≤ i → i < length all → pendingBytes m (suc i) ≡ recOf all i
+  pub pends : (i : ℕ) → length k ≤ i → i < length all → pendingBytes m (suc i) ≡ recOf all i
 
 pub record Alive (C : Type 0) (g : Geometry) (v m : List ℕ) (s : State) (k w all : List Logged) (ns : List Note) : Type 0 where
   pub F : ℕ

@@ -1,4 +1,5 @@
 pub mod Logs
+pub mod Marks
 pub mod Entries
 pub mod Leaf
 pub mod Records
@@ -7,9 +8,11 @@ pub mod Runs
 pub mod Disk
 pub mod LogScan
 pub mod NoteScan
+pub mod NoteIndex
 pub mod Walk
 pub mod Inv
 pub mod Stores
+pub mod RecordStores
 pub mod NoteStores
 pub mod Turn
 pub mod Carry
@@ -23,7 +26,8 @@ pub mod Appends
 pub mod Loads
 pub mod Release
 pub mod Images
-pub mod Keeps
+pub mod Forces
+pub mod Persists
 pub mod Calls
 pub mod Events
 pub mod CarryKeeps

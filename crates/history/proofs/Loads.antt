@@ -29,8 +29,9 @@ use Rattle.history.proofs.Inv.{past-cons, Settled, frame}
 use Rattle.history.proofs.Memory.{frame-count, frame-memory, frame-same, frame-other, frame-pending}
 use Rattle.history.proofs.FrameSteps.{frames-put}
 use Rattle.history.proofs.Views.{view-unbroken, view-body, view-whole, view-granted, Unserved, below-exact, exact-below}
-use Rattle.history.proofs.Entries.{markAt, entryFrom}
-use Rattle.history.proofs.NoteScan.{index-is}
+use Rattle.history.proofs.Marks.{markAt}
+use Rattle.history.proofs.Entries.{entryFrom}
+use Rattle.history.proofs.NoteIndex.{index-is}
 use Rattle.history.proofs.LogScan.{first}
 use Rattle.history.proofs.Context.{Ctx, Preserved, Passed, passed, in-range, sized, geo, fair, few, body-size, entry-is, last-entry, durable-last, durable-page, durable-body, nowhere, unblocked}
 
@@ -264,8 +265,8 @@ module _ {C : Type 0} {g : Geometry} {v m : List ℕ} {past : List StoredItem} {
                   room = x .al .log .room;
                   fair = x .al .log .fair;
                   few = x .al .log .few;
-                  waits = λ i a b. frame-pending (x .al .F) m (x .al .memory) f image (l .frame-low) (l .frame-high) sz (suc i)
-                      ∙ x .al .log .waits i a b;
+                  pends = λ i a b. frame-pending (x .al .F) m (x .al .memory) f image (l .frame-low) (l .frame-high) sz (suc i)
+                      ∙ x .al .log .pends i a b;
                 };
                 frames = frames-put (g .pages) (x .al .F) (x .all) (length k) (s .frames) m (x .al .frames) (x .al .memory .high) (x .all)
                     (splice m (frameAt f) image) (f - 1) page t

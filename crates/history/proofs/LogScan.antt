@@ -25,7 +25,8 @@ use Rattle.model.specs.AbstractLog.{Logged}
 use Rattle.model.specs.declared.{geometry.Geometry.Geometry, geometry.Heading.the-variants.Second, item.Note.Note}
 use Rattle.model.specs.declared.{item.LogRecord.LogRecord, state.Entry.Entry}
 use Rattle.history.proofs.Logs.{at, lastAt, last-hit, last-miss, last-le, last-zero}
-use Rattle.history.proofs.Entries.{noMark, entryFrom, Tabled, tabled-start, tabled-set}
+use Rattle.history.proofs.Marks.{noMark}
+use Rattle.history.proofs.Entries.{entryFrom, Tabled, tabled-start, tabled-set}
 use Rattle.history.proofs.Leaf.{RecordIs}
 use Rattle.history.proofs.Records.{recOf, recOf-is}
 use Rattle.history.proofs.Sections.{Sized, volume-sized, volume-size, most-high, most-plain}

@@ -22,9 +22,10 @@ use Rattle.model.specs.RingClaim.{ChangeOf, SpareRecord, runStart}
 use Rattle.model.specs.declared.{geometry.Geometry.Geometry, item.Note.Note, state.Entry.Entry, state.State.State}
 use Rattle.history.specs.Facts.{volumeOf, headingOf}
 use Rattle.history.proofs.Logs.{noLogged, at, lastOf, last-page, last-take}
-use Rattle.history.proofs.Entries.{markAt, entryFrom}
+use Rattle.history.proofs.Marks.{markAt}
+use Rattle.history.proofs.Entries.{entryFrom}
 use Rattle.history.proofs.Sections.{volume-sized}
-use Rattle.history.proofs.NoteScan.{index-is}
+use Rattle.history.proofs.NoteIndex.{index-is}
 use Rattle.history.proofs.LogScan.{first, first-is, started, durable-count}
 use Rattle.history.proofs.Views.{no-backup}
 use Rattle.history.proofs.Disk.{Holds, Noted, Spare}

@@ -17,7 +17,8 @@ use Rattle.model.specs.Item.{noteBytes, isWritten}
 use Rattle.model.specs.AbstractLog.{Logged}
 use Rattle.model.specs.declared.{geometry.Geometry.Geometry, item.Note.Note}
 use Rattle.history.proofs.Logs.{at}
-use Rattle.history.proofs.Entries.{note, noNote, markAt, mark-hit, mark-miss, mark-append, lenN, noteN, NoteOk, Later}
+use Rattle.history.proofs.Marks.{note, noNote, markAt, mark-hit, mark-miss, mark-append, lenN, noteN, NoteOk}
+use Rattle.history.proofs.Marks.{Later}
 use Rattle.history.proofs.Records.{Faithful}
 use Rattle.history.proofs.Sections.{Sized, volume-sized, volume-size, volume-store, store-same, store-other, notes-plain}
 use Rattle.history.proofs.Disk.{Holds, Noted, Copy, Spare, NoteStands, NoteTorn}

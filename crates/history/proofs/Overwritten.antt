@@ -36,7 +36,7 @@ use Rattle.history.proofs.NoteScan.{note-back, note-count}
 use Rattle.history.proofs.Context.{Ctx, geo, len}
 use Rattle.history.proofs.Asked.{read, whole}
 use Rattle.history.proofs.Lost.{spare-record}
-use Rattle.history.proofs.Entries.{note as noteIn}
+use Rattle.history.proofs.Marks.{note as noteIn}
 
 -- ---- which calls store there
 

@@ -23,7 +23,7 @@ use Rattle.model.specs.Carry.{startsIn}
 use Rattle.model.specs.Claim.{History, Legal, fresh, reached, logOf, durableOf}
 use Rattle.model.specs.declared.{geometry.Geometry.Geometry, geometry.Heading.Heading, state.State.State}
 use Rattle.model.specs.declared.geometry.Heading.the-variants.{First, Second}
-use Rattle.history.proofs.Entries.{Mark, mark-zero}
+use Rattle.history.proofs.Marks.{Mark, mark-zero}
 use Rattle.history.proofs.Leaf.{valid-sealed}
 use Rattle.history.proofs.Inv.{Inv}
 use Rattle.history.proofs.Context.{Ctx}

@@ -35,7 +35,7 @@ use Rattle.model.specs.AbstractLog.{Logged}
 use Rattle.history.specs.Facts.{Ordinary}
 use Rattle.history.proofs.Logs.{lastOf, last-mono}
 use Rattle.history.proofs.Disk.{Holds, Noted}
-use Rattle.history.proofs.NoteScan.{valid-notes}
+use Rattle.history.proofs.NoteIndex.{valid-notes}
 use Rattle.history.proofs.LogScan.{valid-log}
 use Rattle.history.proofs.Context.{Ctx, in-range, geo, len, last-entry, durable-last}
 use Rattle.history.proofs.Loads.{Others, none-other, until, never-broken}

@@ -19,7 +19,7 @@ use Rattle.model.specs.AbstractLog.{Logged}
 use Rattle.model.specs.declared.{geometry.Geometry.Geometry, geometry.Heading.the-variants.Second, item.Note.Note}
 use Rattle.model.specs.declared.{state.PendingNote.PendingNote, state.State.State}
 use Rattle.model.specs.declared.state.PendingNote.the-variants.{Absent, Present}
-use Rattle.history.proofs.Entries.{markAt, mark-ok, Later}
+use Rattle.history.proofs.Marks.{markAt, mark-ok, Later}
 use Rattle.history.proofs.Records.{Faithful}
 use Rattle.history.proofs.Sections.{Volume, Sized, volume-sized, Tail}
 use Rattle.history.proofs.Disk.{Holds, Noted, Copy, Stands, Torn, Spare, NoteStands, NoteTorn, LogRun, NoteRun}
@@ -156,7 +156,7 @@ module _ {C : Type 0} (g : Geometry) (v : List ℕ) (k : List Logged) (h : Holds
           room = omega (arith, a .log .room, more-room);
           fair = a .log .fair;
           few = a .log .few;
-          waits = a .log .waits;
+          pends = a .log .pends;
         };
         frames = a .frames;
         index = a .index;

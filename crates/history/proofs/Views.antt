@@ -19,7 +19,8 @@ use Rattle.model.specs.Repair.{View, viewOf, walkOf, isBroken, isBelow, ownStar
 use Rattle.model.specs.Claim.{startStands}
 use Rattle.model.specs.AbstractLog.{Logged}
 use Rattle.history.proofs.Logs.{at, lastAt, lastOf, last-ge, last-mono, replayAt}
-use Rattle.history.proofs.Entries.{note, Mark, markAt, lastBy, by-is, by-le, mark-by, entryFrom}
+use Rattle.history.proofs.Marks.{note, Mark, markAt, lastBy, by-is, by-le, mark-by}
+use Rattle.history.proofs.Entries.{entryFrom}
 use Rattle.history.proofs.Records.{Faithful}
 use Rattle.history.proofs.Walk.{walk-unbroken, rebuilt-is, walk-stands, walk-stopped, walk-lost}
 use Rattle.history.proofs.Sections.{Sized, volume-sized, most-high}

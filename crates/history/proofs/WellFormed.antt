@@ -21,7 +21,8 @@ use Rattle.model.specs.declared.{geometry.Geometry.Geometry, item.Note.Note, st
 use Rattle.model.specs.declared.state.State.{State}
 use Rattle.model.specs.declared.state.PendingNote.the-variants.{Absent, Present}
 use Rattle.history.proofs.Logs.{lastAt, lastOf, last-le, last-mono}
-use Rattle.history.proofs.Entries.{markAt, NoteOk, mark-ok, mark-past, entryFrom}
+use Rattle.history.proofs.Marks.{markAt, NoteOk, mark-ok, mark-past}
+use Rattle.history.proofs.Entries.{entryFrom}
 use Rattle.history.proofs.Records.{last-past}
 use Rattle.history.proofs.Inv.{PendingOk}
 use Rattle.history.proofs.Memory.{frame-count, memory-valid}

@@ -8,7 +8,7 @@ use native.Mathlib.Omega.{arith}
 use lib.Dec.{eqb, leb}
 use lib.ListN.{length, drop, getD, set, take, replicate, length-map, length-set, length-replicate, drop-of-length-le, List·getD-map, List·getD-eq-default}
 use lib.Seq.{drop-cons, map-set-same, take-suc-set, take-suc, take-all}
-use borrow.Author.Tests.{eq-eqb, ne-eqb, le-leb}
+use borrow.Author.Tests.{ne-eqb, le-leb}
 use Rattle.laws.proofs.Tables.{byCases, every-same, or-right}
 use Rattle.model.specs.Tables.{every}
 use Rattle.model.specs.Item.{isWritten}
@@ -17,15 +17,9 @@ use Rattle.model.specs.Scan.{logRecord, noteRecord, logIndex, runIndex, noteInd
 use Rattle.model.specs.declared.geometry.Geometry.{Geometry}
 use Rattle.model.specs.declared.item.Note.{Note}
 use Rattle.model.specs.declared.state.Entry.{Entry}
-use Rattle.index.specs.Columns.{lasts, durables, writtens, slotsIn, backups, Noted, Columns, Blank, columnRow, columnsOrdered, slotIn, Wide, Unwritten}
-
--- ---- a column
-
--- an entry set in the index is its field set in the column
-pub column-set : (f : Entry → ℕ) (l : List Entry) (i : ℕ) (x : Entry) → map f (set l i x) ≡ set (map f l) i (f x)
-column-set f [] i x = refl
-column-set f (y ∷ l) zero x = refl
-column-set f (y ∷ l) (suc i) x = ap (λ (r : List ℕ). f y ∷ r) (column-set f l i x)
+use Rattle.log_scan.specs.Rows.{lasts}
+use Rattle.index.specs.Columns.{durables, writtens, slotsIn, backups, Columns, Blank, columnRow, columnsOrdered, slotIn, Wide, Unwritten}
+use Rattle.log_scan.proofs.RowLaws.{column-set}
 
 -- ---- the slot's search
 
@@ -140,10 +134,10 @@ module _ (last written slots backup : List ℕ) where
   abbrev orderedAt : ℕ → Bool
   orderedAt i = leb (columnRow last written slots backup i .written) (columnRow last written slots backup i .last)
 
-  pub ordered-next : (i : ℕ) (kept : Bool) (e : Entry) → kept ≡ every i orderedAt → e ≡ columnRow last written slots backup i
-      → (kept && leb (e .written) (e .last)) ≡ every (i + 1) orderedAt
+  pub ordered-next : (i : ℕ) (sound : Bool) (e : Entry) → sound ≡ every i orderedAt → e ≡ columnRow last written slots backup i
+      → (sound && leb (e .written) (e .last)) ≡ every (i + 1) orderedAt
   unfolding every
-  ordered-next i kept e h q = rw (add-one, h, q)
+  ordered-next i sound e h q = rw (add-one, h, q)
 
   -- rows in which nothing is written
   ordered-past : (pages d : ℕ) → Unwritten pages written → every (pages + d) orderedAt ≡ every pages orderedAt
@@ -155,10 +149,10 @@ module _ (last written slots backup : List ℕ) where
       let t : orderedAt (pages + d) ≡ true = rw w (le-leb 0 (columnRow last written slots backup (pages + d) .last) (omega arith)) in
       rw (e, t) (and-unit (every (pages + d) orderedAt) ∙ ordered-past pages d u)
 
-  pub ordered-all : (pages : ℕ) → pages ≤ 64 → Unwritten pages written → (i : ℕ) (kept : Bool) → i ≡ pages → kept ≡ every i orderedAt
-      → kept ≡ columnsOrdered last written slots backup
+  pub ordered-all : (pages : ℕ) → pages ≤ 64 → Unwritten pages written → (i : ℕ) (sound : Bool) → i ≡ pages → sound ≡ every i orderedAt
+      → sound ≡ columnsOrdered last written slots backup
   unfolding columnsOrdered
-  ordered-all pages few u i kept e h =
+  ordered-all pages few u i sound e h =
       let s : 64 ≡ pages + (64 - pages) = omega arith in
       h ∙ ap (λ (n : ℕ). every n orderedAt) e ∙ sym (ordered-past pages (64 - pages) u) ∙ ap (λ (n : ℕ). every n orderedAt) (sym s)
 
@@ -189,10 +183,6 @@ module _ (g : Geometry) (v : List ℕ) (f : ℕ) where
       column-set (λ (e : Entry). e .durable) (logIndex g v f n) _ _
       ∙ ap (λ (l : List ℕ). set l (logRecord g v (f + n) .page - 1) (f + n)) (log-durable n)
       ∙ sym (column-set (λ (e : Entry). e .last) (logIndex g v f n) _ _)
-
-  pub log-none : lasts (logIndex g v f 0) ≡ replicate 64 0
-  unfolding logIndex emptyIndex
-  log-none = refl
 
   -- a note leaves the numbers of the records
   pub note-last : (k : ℕ) → lasts (noteIndex g v f k) ≡ lasts (runIndex g v)

@@ -1,29 +1,16 @@
--- Laws of the index: a page's row, and the search for a slot as a loop makes it.
+-- Laws of the index: the search for a slot as a loop makes it, and a note entered.
 use mathlib.Core.Path.{_≡_, _∙_}
 use mathlib.Core.Bool.{true, false}
 use mathlib.Core.List.{List}
 use Prim.Native.Nat.{ℕ, _+_, _-_, _≤_, _<_}
 use native.Mathlib.Numerals.{add-one}
-use native.Mathlib.Omega.{arith}
-use lib.Dec.{leb, lit<}
 use lib.ListN.{length, drop, getD, set, drop-of-length-le}
 use lib.Seq.{drop-cons}
-use borrow.Author.Tests.{le-leb, leb-true, eq-eqb, ne-eqb}
-use Rattle.laws.proofs.Tables.{byCases, when-true}
+use borrow.Author.Tests.{eq-eqb, ne-eqb}
 use Rattle.model.specs.Index.{emptyEntry, slotUsed, withNote, enterNote}
 use Rattle.model.specs.declared.{item.Note.Note, state.Entry.Entry}
-use Rattle.index.specs.Rows.{rowOf}
-
--- ---- a page's row
-
-pub row-below : (p : ℕ) → rowOf p < 64
-unfolding rowOf
-row-below p =
-    byCases (leb p 64) (λ t. let h : p ≤ 64 = leb-true p 64 t in rw t (omega arith)) (λ t. rw t (lit< tt))
-
-pub row-is : (p : ℕ) → p ≤ 64 → rowOf p ≡ p - 1
-unfolding rowOf
-row-is p h = when-true _ _ (le-leb p 64 h)
+use Rattle.log_scan.specs.Rows.{rowOf}
+use Rattle.log_scan.proofs.RowLaws.{row-is}
 
 -- ---- a slot in the index
 

@@ -11,8 +11,10 @@ use Rattle.model.specs.declared.geometry.Geometry.{Geometry}
 use Rattle.index.specs.Columns.{Columns, columnsOrdered, Unwritten}
 use Rattle.index.specs.Filled.{Filled, sweptCounts}
 use Rattle.index.specs.Scanned.{scanRefusal, columnIndex, countsOf}
-use Rattle.index.specs.Sections.{logRun, noteRun}
-use Rattle.index.specs.Swept.{Held, LogSwept, NotesSwept}
+use Rattle.log_scan.specs.LogSection.{logRun}
+use Rattle.index.specs.NoteSection.{noteRun}
+use Rattle.log_scan.specs.LogSwept.{LogCounts, LogSwept}
+use Rattle.index.specs.NotesSwept.{NotesSwept}
 use Rattle.index.specs.declared.Counts.{Counts}
 use Rattle.index.proofs.Whole.{refuses, notes-refused, scan-clean}
 
@@ -23,7 +25,7 @@ pub filled : (v : List ℕ) (r : Counts) (last written slots backup : List ℕ)
 filled v r last written slots backup h = record { refusal = h .0; counts = h .1 .0; columns = h .1 .1 }
 
 -- the number behind the last that a sweep found is at least 1
-pub log-next : (g : Geometry) (v : List ℕ) (f next : ℕ) → Held g v f next → 1 ≤ next
+pub log-next : (g : Geometry) (v : List ℕ) (f next : ℕ) → LogCounts g v f next → 1 ≤ next
 log-next g v f next h = omega (arith, h .count)
 
 pub notes-next : (g : Geometry) (v : List ℕ) (k : ℕ) (written slots backup : List ℕ) → NotesSwept g v k written slots backup → 1 ≤ k
@@ -35,7 +37,7 @@ module _ (v : List ℕ) (ok : validVolume v ≡ true) (g : Geometry) (eg : g ≡
   pub fast-refused : (r : Counts) → r .refusal ≡ 18 → o ≡ false → Filled v r last written slots backup
   fast-refused r e h =
       filled v r last written slots backup (refuses v (r .refusal) 18 e
-      (notes-refused v ok g eg true (sym (l .valid)) refl last written slots backup (λ t. l .last-is) true (sym (n .kept)) (λ t. n .noted)
+      (notes-refused v ok g eg true (sym (l .valid)) refl last written slots backup (λ t. l .last-is) true (sym (n .fit)) (λ t. n .noted)
       o eo h) (eqb-false 18 0 refl))
 
   -- the runs that two passes would find
@@ -53,5 +55,5 @@ module _ (v : List ℕ) (ok : validVolume v ≡ true) (g : Geometry) (eg : g ≡
   unfolding runs
   fast-clean r e h =
       rw (e ∙ counts-are) (filled v runs last written slots backup
-      (scan-clean v ok g eg true (sym (l .valid)) refl last written slots backup (λ t. l .last-is) true (sym (n .kept)) (λ t. n .noted)
+      (scan-clean v ok g eg true (sym (l .valid)) refl last written slots backup (λ t. l .last-is) true (sym (n .fit)) (λ t. n .noted)
       o eo h (logRun g v) (noteRun g v) refl refl))

@@ -16,16 +16,16 @@ use Rattle.model.specs.Item.{noteOf, noteLayout}
 use Rattle.model.specs.Index.{emptyEntry, entryRow, entryOf, withNote, enterNote, slotUsed}
 use Rattle.model.specs.Scan.{logRecord, noteRecord, durableCount, firstHeld, noteCount, firstNote, noteIndex, noteFollows, noteFits, endsIn, validNotes, indexOf}
 use Rattle.model.specs.declared.{geometry.Geometry.Geometry, item.Note.Note, state.Entry.Entry}
-use Rattle.index.specs.Rows.{rowOf}
+use Rattle.log_scan.specs.Rows.{rowOf}
 use Rattle.index.specs.Columns.{Noted, Blank, earlierEntry, slotIn}
-use Rattle.index.specs.Sections.{noteSection, noteRun, noteAfter, noteAgrees, notedIndex, notesKept}
+use Rattle.index.specs.NoteSection.{noteSection, noteRun, noteAfter, noteAgrees, notedIndex, notesFit}
 use Rattle.section.specs.Section.{slotsIn, frontIn}
 use Rattle.section.specs.declared.Run.{Run}
 use Rattle.section.specs.declared.Section.{Section}
-use Rattle.index.proofs.ColumnLaws.{column-set, slot-in, log-written, log-slots, log-backup, noted-written, noted-slot, noted-backup, Long, blank-long, long-set}
-use Rattle.index.proofs.EntryLaws.{row-is}
+use Rattle.log_scan.proofs.RowLaws.{column-set, row-is}
+use Rattle.index.proofs.ColumnLaws.{slot-in, log-written, log-slots, log-backup, noted-written, noted-slot, noted-backup, Long, blank-long, long-set}
 use Rattle.index.proofs.Located.{note-known, note-section, first-note-low, notes-some}
-use Rattle.index.proofs.Conjunctions.{guarded}
+use Rattle.log_scan.proofs.Conjunctions.{guarded}
 
 -- slot 0 is in no range, whatever a search says of it
 searched : (n s : ℕ) (used : Bool) → (within n s && not (leb 1 s && used)) ≡ (within n s && not used)
@@ -34,16 +34,16 @@ searched n (suc s) used = rw (le-leb 1 (suc s) (omega arith))
 
 module _ (g : Geometry) (v : List ℕ) where
   breaks : (i : ℕ) → let k = noteCount g v in let f = firstNote g v k in
-      i < suc k - f → noteFits g v (noteIndex g v f i) (f + i) ≡ false → notesKept g v ≡ false
-  unfolding notesKept
+      i < suc k - f → noteFits g v (noteIndex g v f i) (f + i) ≡ false → notesFit g v ≡ false
+  unfolding notesFit
   breaks i b h =
       let k = noteCount g v in
       let f = firstNote g v k in
       rw (every-fails (λ j. noteFits g v (noteIndex g v f j) (f + j)) (suc k - f) i b h)
 
   ends : let k = noteCount g v in let f = firstNote g v k in
-      every (suc k - f) (λ j. noteFits g v (noteIndex g v f j) (f + j)) ≡ true → endsIn v (slotsIn v (noteSection g)) f k ≡ notesKept g v
-  unfolding notesKept
+      every (suc k - f) (λ j. noteFits g v (noteIndex g v f j) (f + j)) ≡ true → endsIn v (slotsIn v (noteSection g)) f k ≡ notesFit g v
+  unfolding notesFit
   ends h = rw (h, note-section g v)
 
   -- the first i notes of a run from f on fit, and gave the columns
@@ -70,21 +70,21 @@ module _ (g : Geometry) (v : List ℕ) where
 
     -- a note does not fit
     pub notes-break : (i : ℕ) → i < suc (r .count) - r .first
-        → noteFits g v (noteIndex g v (r .first) i) (r .first + i) ≡ false → notesKept g v ≡ false
+        → noteFits g v (noteIndex g v (r .first) i) (r .first + i) ≡ false → notesFit g v ≡ false
     notes-break =
         subst (λ (x : Run). (i : ℕ) → i < suc (x .count) - x .first → noteFits g v (noteIndex g v (x .first) i) (x .first + i) ≡ false
-        → notesKept g v ≡ false)
+        → notesFit g v ≡ false)
         (sym er) breaks
 
     -- all fit
     module _ (i : ℕ) (written slots backup : List ℕ) (j : Entered (r .first) i written slots backup)
         (ei : i ≡ suc (r .count) - r .first) where
       pub notes-end : (s : Section) → s ≡ noteSection g → (b : Bool) → b ≡ endsIn v (slotsIn v s) (r .first) (r .count)
-          → b ≡ notesKept g v
+          → b ≡ notesFit g v
       notes-end s es b eb =
           eb ∙ ap (λ (x : Section). endsIn v (slotsIn v x) (r .first) (r .count)) es
           ∙ subst (λ (x : Run). every (suc (x .count) - x .first) (λ k. noteFits g v (noteIndex g v (x .first) k) (x .first + k)) ≡ true
-          → endsIn v (slotsIn v (noteSection g)) (x .first) (x .count) ≡ notesKept g v) (sym er) ends (rw ei at (j .held))
+          → endsIn v (slotsIn v (noteSection g)) (x .first) (x .count) ≡ notesFit g v) (sym er) ends (rw ei at (j .held))
 
       pub notes-columns : Noted (notedIndex g v) written slots backup
       notes-columns =
@@ -93,8 +93,8 @@ module _ (g : Geometry) (v : List ℕ) where
 
   -- the rule of the notes, with what is judged at the end
   pub notes-valid : validNotes g v
-      ≡ (notesKept g v && every 64 (λ i. leb (entryRow (indexOf g v) i .written) (entryRow (indexOf g v) i .last)))
-  unfolding validNotes notesKept
+      ≡ (notesFit g v && every 64 (λ i. leb (entryRow (indexOf g v) i .written) (entryRow (indexOf g v) i .last)))
+  unfolding validNotes notesFit
   notes-valid = refl
 
   -- the columns before any note

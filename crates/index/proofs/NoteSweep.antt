@@ -23,12 +23,12 @@ use Rattle.model.specs.Scan.{logRecord, durableCount, firstHeld}
 use Rattle.model.specs.declared.geometry.Geometry.{Geometry}
 use Rattle.model.specs.declared.item.Note.{Note}
 use Rattle.section.specs.Sweep.{begunOf}
-use Rattle.index.specs.Rows.{rowOf}
+use Rattle.log_scan.specs.Rows.{rowOf}
 use Rattle.index.specs.Columns.{slotIn}
 use Rattle.index.specs.NotesPassed.{Names, Belongs, rowAt, Follows, Enters, BackedUp}
-use Rattle.index.specs.Sections.{noteAfter, noteAgrees}
-use Rattle.index.specs.Swept.{Held}
-use Rattle.index.proofs.EntryLaws.{row-is}
+use Rattle.index.specs.NoteSection.{noteAfter, noteAgrees}
+use Rattle.log_scan.specs.LogSwept.{LogCounts}
+use Rattle.log_scan.proofs.RowLaws.{row-is}
 use Rattle.index.proofs.NotePass.{Entered, entered-more}
 
 -- ---- places
@@ -101,7 +101,7 @@ module _ (r : List ℕ) (b : (i : ℕ) → getD r i 0 < 256) (v : ℕ) (ev : v �
 
 -- ---- the record that a note names
 
-module _ (g : Geometry) (v : List ℕ) (f next : ℕ) (h : Held g v f next) (e : Note) (lt : e .lsn < next) where
+module _ (g : Geometry) (v : List ℕ) (f next : ℕ) (h : LogCounts g v f next) (e : Note) (lt : e .lsn < next) where
   known : 1 ≤ e .lsn → within (durableCount g v) (e .lsn) ≡ true
   known low = within-holds _ _ low (omega (arith, h .count))
 

@@ -1,6 +1,5 @@
 -- Laws of the notes' sweep: notes that were passed and are closed are the notes' run, and keep the restart rule.
 use mathlib.Core.Path.{_≡_, refl, sym, ap, _∙_, subst}
-use mathlib.Core.Logic.{⊎-elim}
 use mathlib.Core.Bool.{Bool, true, false, _&&_, _||_}
 use mathlib.Core.List.{List, [], _∷_}
 use Prim.Native.Nat.{ℕ, suc, _+_, _-_, _%_, _≤_, _<_}
@@ -8,7 +7,7 @@ use native.Mathlib.Omega.{arith}
 use native.Mathlib.Decide.{ℕ-discrete}
 use lib.Dec.{eqb, ltb}
 use borrow.Author.Tests.{eqb-true, ne-eqb}
-use Rattle.laws.proofs.Tables.{byCases, and-left, and-both, or-cases, all-at, every-none, every-at, when-true, when-false}
+use Rattle.laws.proofs.Tables.{byCases, and-both, all-at, every-none, every-at, when-true, when-false}
 use Rattle.model.specs.Tables.{every, within}
 use Rattle.model.specs.Bytes.{le, field}
 use Rattle.model.specs.Checksum.{sealed}
@@ -20,11 +19,12 @@ use Rattle.model.specs.declared.geometry.Geometry.{Geometry}
 use Rattle.section.specs.Section.{slotBytes, slotsIn}
 use Rattle.section.specs.Sweep.{Guessed, Swept, closedOf, begunOf}
 use Rattle.section.specs.declared.guess.Guess.{Guess}
-use Rattle.section.proofs.SweepLaws.{Closes, closes}
+use Rattle.section.proofs.SweepLaws.{Closes, closes, closed-none}
 use Rattle.index.specs.Columns.{Noted}
 use Rattle.index.specs.NotesPassed.{NotesPassed}
-use Rattle.index.specs.Sections.{Sized, noteSection, notedIndex, notesKept}
-use Rattle.index.specs.Swept.{NotesSwept}
+use Rattle.log_scan.specs.LogSection.{Sized}
+use Rattle.index.specs.NoteSection.{noteSection, notedIndex, notesFit}
+use Rattle.index.specs.NotesSwept.{NotesSwept}
 use Rattle.index.proofs.Located.{note-slot, note-section, note-placed}
 
 and-none : (a : Bool) → (a && false) ≡ false
@@ -106,13 +106,13 @@ module _ (g : Geometry) (v : List ℕ) (f : ℕ) where
             subst (λ (k : ℕ). P first k) (sym e) (subst (λ (k : ℕ). P k c) (sym b) h)
       ]
 
-      kept-from : ℕ → ℕ → Bool
-      kept-from n s = every (suc n - s) (λ i. noteFits g v (noteIndex g v s i) (s + i)) && endsIn v (noteSlots g v) s n
+      fit-from : ℕ → ℕ → Bool
+      fit-from n s = every (suc n - s) (λ i. noteFits g v (noteIndex g v s i) (s + i)) && endsIn v (noteSlots g v) s n
 
-      kept : notesKept g v ≡ true
-      unfolding notesKept kept-from
-      kept =
-          ap (λ (s : ℕ). kept-from (noteCount g v) s) first-is ∙ ap (λ (n : ℕ). kept-from n first) count-is
+      fit : notesFit g v ≡ true
+      unfolding notesFit fit-from
+      fit =
+          ap (λ (s : ℕ). fit-from (noteCount g v) s) first-is ∙ ap (λ (n : ℕ). fit-from n first) count-is
           ∙ and-both (run-is (λ s k. every k (λ i. noteFits g v (noteIndex g v s i) (s + i)) ≡ true) (p .held) (λ a b h. every-none _)) ends-is
 
       noted-is : Noted (notedIndex g v) written slots backup
@@ -123,18 +123,14 @@ module _ (g : Geometry) (v : List ℕ) (f : ℕ) where
           (run-is (λ s k. Noted (noteIndex g v s k) written slots backup) (p .noted) (λ a b h. h)))
 
       notes-swept : 1 ≤ f → NotesSwept g v next written slots backup
-      notes-swept low = record { kept = kept; count = omega (arith, count-is, p .order); noted = noted-is }
+      notes-swept low = record { fit = fit; count = omega (arith, count-is, p .order); noted = noted-is }
 
 -- notes that were passed from a guess on, and are closed
 pub sweeps : (g : Geometry) (v : List ℕ) → Sized g v → (u : Guess) → Guessed (noteSection g) u → (next : ℕ) (written slots backup : List ℕ)
     → NotesPassed g v (u .first) next written slots backup → closedOf v (noteSection g) (u .first) (next - u .first) ≡ true
     → NotesSwept g v next written slots backup
-unfolding closedOf
 sweeps g v s u h next written slots backup p t =
     let f = u .first in
     let d = closes v (noteSection g) f (next - f) (note-placed g v s) (h .some) (h .plain) (h .none) (swept g v f next written slots backup p) t in
-    let one : next ≡ f → f ≡ 1 = λ e. ⊎-elim
-    (λ q. h .none (omega (arith, eqb-true (next - f) (g .notes) q)))
-    (λ q. eqb-true f 1 (and-left (eqb f 1) _ q))
-    (or-cases (eqb (next - f) (g .notes)) _ t) in
+    let one : next ≡ f → f ≡ 1 = λ e. closed-none v (noteSection g) f (next - f) (h .none) t (omega arith) in
     notes-swept g v f next written slots backup p d one (h .some)

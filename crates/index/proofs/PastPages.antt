@@ -17,8 +17,9 @@ use Rattle.model.specs.Index.{entryOf, withNote, enterNote}
 use Rattle.model.specs.Scan.{endsIn, noteSlots, logRecord, noteRecord, durableCount, firstHeld, noteCount, firstNote, noteIndex, noteFollows, noteFits}
 use Rattle.model.specs.declared.{geometry.Geometry.Geometry, state.Entry.Entry}
 use Rattle.index.specs.Columns.{writtens, Noted, Unwritten}
-use Rattle.index.specs.Sections.{notedIndex, notesKept}
-use Rattle.index.proofs.ColumnLaws.{column-set, log-written}
+use Rattle.index.specs.NoteSection.{notedIndex, notesFit}
+use Rattle.log_scan.proofs.RowLaws.{column-set}
+use Rattle.index.proofs.ColumnLaws.{log-written}
 
 zero-row : (n i : ℕ) → _≡_ {A = ℕ} (getD (replicate n 0) i 0) 0
 zero-row n i = elim (decLt i n) [
@@ -54,9 +55,9 @@ module _ (g : Geometry) (v : List ℕ) (f : ℕ) where
       ∙ getD-set-other (writtens l) (e .page - 1) i _ 0 (λ q. omega (arith, w .0, w .1))
       ∙ row-past i h k (and-left (every k fitsAt) (fitsAt k) t)
 
-pub unwritten : (g : Geometry) (v written slots backup : List ℕ) → notesKept g v ≡ true → Noted (notedIndex g v) written slots backup
+pub unwritten : (g : Geometry) (v written slots backup : List ℕ) → notesFit g v ≡ true → Noted (notedIndex g v) written slots backup
     → Unwritten (g .pages) written
-unfolding notesKept
+unfolding notesFit
 unwritten g v written slots backup t n =
     let k = noteCount g v in
     let f = firstNote g v k in

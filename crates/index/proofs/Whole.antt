@@ -9,8 +9,10 @@ use Rattle.model.specs.Tables.{firstOf}
 use Rattle.model.specs.Geometry.{geometryOf, validVolume}
 use Rattle.model.specs.Scan.{validLog, durableCount, firstHeld, runIndex, validNotes, noteCount, firstNote}
 use Rattle.model.specs.declared.{geometry.Geometry.Geometry, state.Entry.Entry}
-use Rattle.index.specs.Columns.{lasts, Noted, Columns, columnRow, columnsOrdered, Unwritten}
-use Rattle.index.specs.Sections.{Sized, logRun, noteRun, notedIndex, notesKept}
+use Rattle.log_scan.specs.Rows.{lasts}
+use Rattle.index.specs.Columns.{Noted, Columns, columnRow, columnsOrdered, Unwritten}
+use Rattle.log_scan.specs.LogSection.{Sized, logRun}
+use Rattle.index.specs.NoteSection.{noteRun, notedIndex, notesFit}
 use Rattle.index.specs.Scanned.{scanRows, scanRefusal, columnIndex, scannedIndex, countsOf, foundOf, scannedOf}
 use Rattle.section.specs.declared.Run.{Run}
 use Rattle.index.specs.declared.Counts.{Counts}
@@ -75,7 +77,7 @@ module _ (v : List ℕ) (ok : validVolume v ≡ true) (g : Geometry) (eg : g ≡
     log-refused h = scan-from v true false _ ok (sym log-valid ∙ h) refl
 
     module _ (h : s ≡ true) (last written slots backup : List ℕ) (l : s ≡ true → last ≡ lasts (runIndex g v)) (k : Bool)
-        (ek : k ≡ notesKept g v)
+        (ek : k ≡ notesFit g v)
         (n : k ≡ true → Noted (notedIndex g v) written slots backup) (o : Bool)
         (eo : Unwritten (g .pages) written → o ≡ columnsOrdered last written slots backup) where
       columns-are : k ≡ true → Columns (notedIndex g v) last written slots backup

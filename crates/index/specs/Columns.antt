@@ -1,7 +1,7 @@
 -- The index by columns: a list for each field of its entries, as a scan fills them. A scan finds no pending record, so
 -- that one column holds the last and the durable numbers. The columns are those before a restart's last step, which is
 -- made with a row.
-use Prim.Native.Nat.{ℕ, _-_, _≤_}
+use Prim.Native.Nat.{ℕ, _≤_}
 use mathlib.Core.Path.{_≡_}
 use mathlib.Core.Bool.{Bool, false, cond, _||_}
 use mathlib.Core.List.{List, [], _∷_, map}
@@ -9,9 +9,7 @@ use lib.Dec.{eqb, leb}
 use lib.ListN.{length, getD, replicate}
 use Rattle.model.specs.Tables.{every}
 use Rattle.model.specs.declared.state.Entry.{Entry}
-
-abbrev pub lasts : List Entry → List ℕ
-lasts index = map (λ (e : Entry). e .last) index
+use Rattle.log_scan.specs.Rows.{lasts}
 
 abbrev pub durables : List Entry → List ℕ
 durables index = map (λ (e : Entry). e .durable) index

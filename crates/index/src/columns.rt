@@ -10,21 +10,9 @@ ghost use Rattle.model.specs.Index.{settled};
 ghost use Rattle.model.specs.declared.state.Entry as entries;
 ghost use Rattle.index.specs.Columns.{Columns, Wide, columnRow, columnsOrdered, slotIn, Unwritten};
 use crate::entries;
+use codec::number::one8;
+use codec::number::u8_u32;
 use model::state::Entry;
-
-// A slot's number.
-fn wide(x: u8) -> u32
-    ensures { λ r. ⌜ r ≡ x ⌝ }
-{
-    x as u32
-}
-
-// 1 where the test holds, to be counted.
-fn one(t: bool) -> u8
-    ensures { λ r. ⌜ (r ≡ cond t 1 0) × (r ≤ 1) ⌝ }
-{
-    if t { 1 } else { 0 }
-}
 
 // The slot is in the column: a count in a byte and 64 rows, so that the compiler makes a few wide compares of it.
 fn used(slots: &[u8], slot: u32) -> bool
@@ -34,7 +22,7 @@ fn used(slots: &[u8], slot: u32) -> bool
     let mut n: u8 = 0;
     let mut i: usize = 0;
     while i < 64 {
-        n = n + one(wide(slots[i]) == slot);
+        n = n + one8(u8_u32(slots[i]) == slot);
         i += 1;
     }
     n != 0
@@ -82,7 +70,7 @@ pub fn entry(last: &[u32], written: &[u32], slots: &[u8], backup: &[u32], page: 
         ≡ columnRow (now (last .entry)) (now (written .entry)) (now (slots .entry)) (now (backup .entry)) (page - 1) ⌝ }
 {
     if page <= 64 {
-        row(last, written, slots, backup, entries::row(page))
+        row(last, written, slots, backup, log_scan::row(page))
     } else {
         entries::EMPTY
     }
@@ -95,14 +83,14 @@ pub fn ordered(last: &[u32], written: &[u32], slots: &[u8], backup: &[u32], page
     ensures { λ r. ⌜ (Unwritten pages (now (written .entry)) → r
         ≡ columnsOrdered (now (last .entry)) (now (written .entry)) (now (slots .entry)) (now (backup .entry))) ⌝ }
 {
-    let mut kept = true;
+    let mut sound = true;
     let mut i: usize = 0;
     while i < pages {
         let e = row(last, written, slots, backup, i);
-        kept = kept & (e.written <= e.last);
+        sound = sound & (e.written <= e.last);
         i += 1;
     }
-    kept
+    sound
 }
 
 // All entries.

@@ -2,7 +2,6 @@
 ghost use mathlib.Core.Path.{_≡_};
 ghost use Prim.Native.Nat.{_≤_};
 ghost use Rattle.model.specs.Index.{entryOf, withNote, enterNote, slotUsed};
-ghost use Rattle.index.specs.Rows.{rowOf};
 use model::item::Note;
 use model::state::Entry;
 
@@ -15,22 +14,12 @@ pub const EMPTY: Entry = Entry {
     backup: 0,
 };
 
-// A page's row, counted from 0; row 0 for a page that has none.
-pub fn row(page: u32) -> usize
-    ensures { λ r. ⌜ r ≡ rowOf page ⌝ }
-{
-    if page == 0 {
-        return 0;
-    }
-    if page <= 64 { (page - 1) as usize } else { 0 }
-}
-
 // A page's entry.
 pub fn entry(index: [Entry; 64], page: u32) -> Entry
     ensures { λ r. ⌜ r ≡ entryOf index page ⌝ }
 {
     if page <= 64 {
-        let i = row(page);
+        let i = log_scan::row(page);
         index[i]
     } else {
         EMPTY
@@ -80,7 +69,7 @@ pub fn enter(mut index: [Entry; 64], n: Note) -> [Entry; 64]
     requires { ⌜ (1 ≤ n .page) × (n .page ≤ 64) ⌝ }
     ensures { λ r. ⌜ r ≡ enterNote index n ⌝ }
 {
-    let i = row(n.page as u32);
+    let i = log_scan::row(n.page as u32);
     let e = index[i];
     index[i] = noted(e, n);
     index

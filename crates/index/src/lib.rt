@@ -10,11 +10,10 @@ ghost use Rattle.index.specs.Scanned.{scanRefusal, columnIndex, foundOf,
 
 pub mod columns;
 pub mod entries;
-pub mod log;
 pub mod notes;
 
-use crate::log::Swept;
 use codec::part;
+use log_scan::Swept;
 use model::geometry::Geometry;
 use model::state::Entry;
 use section::guess;
@@ -128,7 +127,7 @@ fn fast(
         known: false,
         counts: no,
     };
-    let records = log::sweep(volume, g, last);
+    let records = log_scan::sweep(volume, g, last);
     if !records.clean {
         return unknown;
     }
@@ -163,13 +162,13 @@ fn slow(
     ensures { λ r. ⌜ Filled (now (volume .entry)) r (now (last .exit)) (now (written .exit)) (now (slots .exit))
         (now (backup .exit)) ⌝ }
 {
-    let records = log::run(volume, g);
-    if !log::scan(volume, g, records, last) {
+    let records = log_scan::run(volume, g);
+    if !log_scan::scan(volume, g, records, last) {
         return refused(17);
     }
     let numbers = notes::run(volume, g);
-    let kept = notes::scan(volume, g, records, numbers, written, slots, backup);
-    if !(kept & columns::ordered(last, written, slots, backup, g.pages as usize)) {
+    let fit = notes::scan(volume, g, records, numbers, written, slots, backup);
+    if !(fit & columns::ordered(last, written, slots, backup, g.pages as usize)) {
         return refused(18);
     }
     Counts {

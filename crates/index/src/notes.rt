@@ -6,18 +6,20 @@ ghost use lib.ListN.{length};
 ghost use Rattle.model.specs.Scan.{logRecord};
 ghost use Rattle.index.specs.Columns.{Blank, Noted, earlierEntry};
 ghost use Rattle.index.specs.NotesPassed.{NotesPassed};
-ghost use Rattle.index.specs.Sections.{Sized, noteSection, logRun, noteRun, noteAfter, noteAgrees, notedIndex, notesKept};
-ghost use Rattle.index.specs.Swept.{Held, NotesSwept};
+ghost use Rattle.log_scan.specs.LogSection.{Sized, logRun};
+ghost use Rattle.index.specs.NoteSection.{noteSection, noteRun, noteAfter, noteAgrees, notedIndex, notesFit};
+ghost use Rattle.log_scan.specs.LogSwept.{LogCounts};
+ghost use Rattle.index.specs.NotesSwept.{NotesSwept};
 ghost use Rattle.section.specs.Sweep.{Guessed};
 
 mod entering;
 
 use crate::columns;
 use crate::entries;
-use crate::log::Passed;
-use crate::log::Swept;
 use codec::field;
 use item::note;
+use log_scan::Passed;
+use log_scan::Swept;
 use model::geometry::Geometry;
 use model::item::Note;
 use model::state::Entry;
@@ -116,7 +118,7 @@ pub fn scan(
     requires { ⌜ Sized g (now volume) ⌝ }
     requires { ⌜ (log ≡ logRun g (now volume)) × (run ≡ noteRun g (now volume)) ⌝ }
     requires { ⌜ Blank (now written) (now slots) (now backup) ⌝ }
-    ensures kept { λ r. ⌜ r ≡ notesKept g (now (volume .entry)) ⌝ }
+    ensures fit { λ r. ⌜ r ≡ notesFit g (now (volume .entry)) ⌝ }
     ensures columns { λ r. ⌜ (r ≡ true
         → Noted (notedIndex g (now (volume .entry))) (now (written .exit)) (now (slots .exit)) (now (backup .exit))) ⌝ }
 {
@@ -127,7 +129,7 @@ pub fn scan(
         let k = section::nth(run.first, i);
         let r = section::item(volume, s, slot);
         let n = note::read(r);
-        let j = entries::row(n.page as u32);
+        let j = log_scan::row(n.page as u32);
         let was = earlier(written[j], slots[j], backup[j]);
         let follows = follows(was, n, g.slots, columns::taken(slots, n.slot as u32));
         let named = agrees(volume, g, log.first, n);
@@ -156,7 +158,7 @@ fn pass(
     backup: &mut [u32],
 ) -> Passed
     requires { ⌜ Sized g (now volume) ⌝ }
-    requires { ⌜ Held g (now volume) (log .first) (log .next) ⌝ }
+    requires { ⌜ LogCounts g (now volume) (log .first) (log .next) ⌝ }
     requires { ⌜ Guessed (noteSection g) u ⌝ }
     requires { ⌜ Blank (now written) (now slots) (now backup) ⌝ }
     ensures passed { λ r. ⌜ (r .clean ≡ true
@@ -214,7 +216,7 @@ pub fn sweep(
     backup: &mut [u32],
 ) -> Swept
     requires { ⌜ Sized g (now volume) ⌝ }
-    requires { ⌜ Held g (now volume) (log .first) (log .next) ⌝ }
+    requires { ⌜ LogCounts g (now volume) (log .first) (log .next) ⌝ }
     requires { ⌜ Blank (now written) (now slots) (now backup) ⌝ }
     ensures swept { λ r. ⌜ (r .clean ≡ true
         → NotesSwept g (now (volume .entry)) (r .next) (now (written .exit)) (now (slots .exit)) (now (backup .exit))) ⌝ }

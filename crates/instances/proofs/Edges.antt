@@ -4,11 +4,11 @@
 use Prim.Native.Nat.{ℕ, suc, _+_, _≤_, _<_}
 use mathlib.Core.Path.{_≡_, refl, sym, ap, _∙_}
 use mathlib.Core.Logic.{_≢_, _⊎_, inl, inr}
-use mathlib.Core.Bool.{Bool, true, false}
+use mathlib.Core.Bool.{true, false}
 use mathlib.Core.List.{List, [], _∷_, map}
 use native.Mathlib.Omega.{arith}
 use native.Mathlib.Decide.{decLt}
-use lib.Dec.{T, eqb→eq}
+use lib.Dec.{eqb→eq}
 use lib.ListN.{length, getD, replicate, length-replicate}
 use Rattle.laws.proofs.Parts.{splice-length, splice-at, splice-before, splice-after}
 use Rattle.reports_laws.proofs.Forecast.{forecast}
@@ -22,7 +22,7 @@ use Rattle.model.specs.Outcome.{volumeAfter}
 use Rattle.model.specs.Calls.{Call, outcomeOf}
 use Rattle.model.specs.Claim.{reached}
 use Rattle.model.specs.Demand1.{DiffersAt, AtMostOneItem, Arrays}
-use Rattle.reports.specs.Forecast.{forecastOf, forecastRow, JudgedAlike}
+use Rattle.reports.specs.Forecast.{forecastOf, JudgedAlike}
 use Rattle.model.specs.Precedence.{inspectExceptions, ordered}
 use Rattle.reports.specs.ReportsOrdered.{archiveExceptions}
 use Rattle.model.specs.declared.state.State.{State}
@@ -30,10 +30,7 @@ use Rattle.model.specs.declared.geometry.Heading.the-variants.{First, Second}
 use Rattle.cases.specs.Opened.{opened}
 use Rattle.cases.specs.Worked.{historyOf}
 use Rattle.cases.specs.Histories.{forcesCut}
-
-holds : (b : Bool) → T b → b ≡ true
-holds true t = refl
-holds false t = absurd t
+use Rattle.cases.proofs.Tests.{holds}
 
 -- ---- one item, and one byte more
 
@@ -170,11 +167,6 @@ images-differ e =
 taken : (validVolume v ≡ true) × (within (geometryOf v .pages) 1 ≡ true) × (length other ≡ 256)
 unfolding opened
 taken = (holds (validVolume v) tt, holds (within (geometryOf v .pages) 1) tt, eqb→eq (length other) 256 tt)
-
--- page 1 has one record to replay, and so it has with the other image in its place
-pub one-replayed : (forecastOf v .refusal ≡ 0) × (forecastRow v 1 .count ≡ 1)
-unfolding opened
-one-replayed = (eqb→eq (forecastOf v .refusal) 0 tt, eqb→eq (forecastRow v 1 .count) 1 tt)
 
 pub same-forecast : forecastOf (store (geometryOf v) v (pageAt 1) other) ≡ forecastOf v
 same-forecast = forecast .page v other 1 (taken .0) (taken .1) (taken .2) judged-alike

@@ -2,10 +2,10 @@
 -- shows the same; and one that is a beginning of the other, so a page that is not listed shows the same.
 use Prim.Native.Nat.{ℕ, _+_, _≤_}
 use mathlib.Core.Path.{_≡_, refl, ap, sym, _∙_}
-use mathlib.Core.Bool.{Bool, true, false, not}
+use mathlib.Core.Bool.{false}
 use mathlib.Core.List.{List, [], _∷_, append-nil}
 use native.Mathlib.Omega.{arith}
-use lib.Dec.{T, eqb→eq}
+use lib.Dec.{eqb→eq}
 use lib.ListN.{length, length-append}
 use Rattle.model.specs.AbstractLog.{Logged}
 use Rattle.model.specs.Claim.{History, reached, durableOf, Agree}
@@ -17,6 +17,7 @@ use Rattle.cases.specs.Opened.{opened}
 use Rattle.cases.specs.Worked.{historyOf}
 use Rattle.cases.specs.Histories.{forcesCut, backupReplaced, twoForced}
 use Rattle.cases.specs.Slides.{slid}
+use Rattle.cases.proofs.Tests.{fails}
 use Rattle.reports_theory.proofs.Mirror.{mirror}
 use Rattle.instances.proofs.Instances.{cut-computed, replaced-computed, forced-computed}
 
@@ -33,10 +34,6 @@ lacks Comparison.Agree e f = absurd (omega (arith, e))
 lacks (FirstLacks n) e f = ap FirstLacks f
 lacks (SecondLacks n) e f = absurd (omega (arith, e))
 lacks (Differs n) e f = absurd (omega (arith, e))
-
-none : (b : Bool) → T (not b) → b ≡ false
-none true t = absurd t
-none false t = refl
 
 abbrev replaced : History
 replaced = historyOf (backupReplaced First)
@@ -70,7 +67,7 @@ taken = ap mirrorRefusal first-lacks
 
 -- the answer is that of the two kept lists
 pub durable-lists : LongestCommon (commonOf (reached replaced .volume) (reached cut .volume)) (durableOf replaced) (durableOf cut)
-durable-lists = mirror .kept replaced cut (replaced-computed .legal) (cut-computed .legal) taken .0
+durable-lists = mirror .durable replaced cut (replaced-computed .legal) (cut-computed .legal) taken .0
 
 -- which have two changes in common; one is too short, though both lists begin with it, and three are too many
 pub common-two : commonOf (reached replaced .volume) (reached cut .volume) ≡ 2
@@ -95,7 +92,7 @@ one-more c =
 -- the record that is lacking is of page 1; page 2 is not listed
 unlisted : listed (reached replaced .volume) (reached cut .volume) 2 ≡ false
 unfolding opened
-unlisted = none (listed (reached replaced .volume) (reached cut .volume) 2) tt
+unlisted = fails (listed (reached replaced .volume) (reached cut .volume) 2) tt
 
 pub same-page : (x y : List ℕ) → length x ≡ 256 → length y ≡ 256 → Agree replaced cut x y 2
 same-page =

@@ -11,24 +11,21 @@ use borrow.Author.Tests.{leb-true}
 use Rattle.model.specs.Checksum.{sealed}
 use Rattle.model.specs.Geometry.{pageAt, slotAt, recordAt, noteAt, lengthFor, geometryOf, item}
 use Rattle.model.specs.Item.{noteOf}
-use Rattle.model.specs.State.{zeroState}
 use Rattle.model.specs.Outcome.{StoredItem, nothing, oneItem, newHeading, refusalOf}
 use Rattle.model.specs.Calls.{outcomeOf}
 use Rattle.model.specs.Restart.{makeOf}
 use Rattle.cases.specs.Calls.{note}
 use Rattle.model.specs.AbstractLog.{lastPlace}
-use Rattle.model.specs.History.{Power, off, on, damage, isOn, allAllowed}
+use Rattle.model.specs.History.{on, damage, allAllowed}
 use Rattle.model.specs.Claim.{History, Legal, fresh, reached, durableOf, inspection}
 use Rattle.model.specs.RingClaim.{ChangeOf, SpareRecord, SpareNote, runStart, Unrepairable}
 use Rattle.model.specs.declared.{geometry.Heading.the-variants.Second, state.State.State}
 use Rattle.cases.specs.Opened.{opened}
+use Rattle.cases.specs.Build.{memoryIn}
 use Rattle.cases.specs.Rings.{turned, notesTurn}
+use Rattle.cases.proofs.Tests.{holds, live, stateIn}
 use Rattle.history.proofs.Rings.{rings}
 use Rattle.instances.proofs.Rings.{ringHistory, legal}
-
-holds : (b : Bool) → T b → b ≡ true
-holds true t = refl
-holds false t = absurd t
 
 -- ---- record 1 has left, and is spare
 
@@ -70,18 +67,6 @@ turn-legal =
       events = holds (allAllowed (fresh notesTurned) (notesTurned .events)) tt;
     }
 
-abbrev memoryIn : Power → List ℕ
-memoryIn off = []
-memoryIn (on m s) = m
-
-abbrev stateIn : Power → State
-stateIn off = zeroState
-stateIn (on m s) = s
-
-power-is : (x : Power) → T (isOn x) → x ≡ on (memoryIn x) (stateIn x)
-power-is off t = absurd t
-power-is (on m s) t = refl
-
 abbrev bytesIn : StoredItem → List ℕ
 bytesIn nothing = []
 bytesIn (oneItem at xs) = xs
@@ -111,7 +96,7 @@ s = stateIn (reached notesTurned .power)
 
 turn-on : reached notesTurned .power ≡ on m s
 unfolding opened
-turn-on = power-is (reached notesTurned .power) tt
+turn-on = live (reached notesTurned .power) tt
 
 overwrites : outcomeOf note (reached notesTurned .volume) m s .stored
     ≡ oneItem (noteAt 1) (bytesIn (outcomeOf note (reached notesTurned .volume) m s .stored))

@@ -2,10 +2,9 @@
 -- replay of its three changes, by theorems C and B. So the hypotheses of the theorems are met by a ring that has turned.
 use Prim.Native.Nat.{ℕ}
 use mathlib.Core.Path.{_≡_, refl}
-use mathlib.Core.Bool.{Bool, true, false}
 use mathlib.Core.List.{List}
 use native.Mathlib.Omega.{arith}
-use lib.Dec.{T, eqb→eq}
+use lib.Dec.{eqb→eq}
 use lib.ListN.{length, replicate}
 use Rattle.model.specs.Geometry.{lengthFor}
 use Rattle.model.specs.Outcome.{refusalOf}
@@ -16,16 +15,13 @@ use Rattle.model.specs.Claim.{History, Legal, Gone, fresh, durableOf, ShowsRepl
 use Rattle.model.specs.declared.geometry.Heading.the-variants.{Second}
 use Rattle.cases.specs.Opened.{opened}
 use Rattle.cases.specs.Rings.{turned}
+use Rattle.cases.proofs.Tests.{holds}
 use Rattle.history.proofs.Theorem.{demand2}
 use Rattle.history.proofs.Lost.{undamaged-safe}
 
 abbrev pub ringHistory : History
 ringHistory =
     record { heading = Second; found = replicate (lengthFor 1 1 2 2) 0xDD; pages = 1; slots = 1; records = 2; notes = 2; events = turned }
-
-holds : (b : Bool) → T b → b ≡ true
-holds true t = refl
-holds false t = absurd t
 
 pub legal : Legal ringHistory
 unfolding opened

@@ -13,7 +13,7 @@ use Rattle.model.specs.Checksum.{sealed}
 use Rattle.model.specs.Geometry.{ring, most, item, logSlot}
 use Rattle.model.specs.Item.{recordOf, recordLayout, isFormat, firstIsFormat}
 use Rattle.model.specs.Scan.{firstHeld, firstIn}
-use Rattle.model.specs.Repair.{View, chainRecord, walkFrom, walkOf, ownStart, backupStart}
+use Rattle.model.specs.Repair.{chainRecord, walkFrom}
 use Rattle.model.specs.declared.geometry.Geometry.{Geometry}
 
 -- a record that may be read names a lower number
@@ -52,9 +52,3 @@ run-room g v n h = byCases (ring g)
 -- the run that a state of n durable records sees
 pub run-few : (g : Geometry) (v : List ℕ) (n : ℕ) → n ≤ most g → suc n - firstHeld g v n ≤ g .records
 run-few g v n h = omega (arith, run-room g v n (λ t. rw t at h))
-
-pub walk-few : (g : Geometry) (v : List ℕ) (n p : ℕ) (w : View) → n ≤ most g → w .durable ≤ n → w .first ≡ firstHeld g v n
-    → length (walkOf g p w .chain) ≤ g .records
-unfolding walkOf
-walk-few g v n p w h d e =
-    omega (arith, chain-few (w .durable) (w .log) (w .first) p (ownStart g p w) (backupStart g p w) (w .durable), run-few g v n h)

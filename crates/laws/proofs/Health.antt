@@ -9,6 +9,7 @@ use lib.Dec.{eqb, leb, ltb}
 use lib.ListN.{length}
 use borrow.Author.Tests.{eqb-true, eqb-false, eq-eqb, lt-ltb, not-false}
 use Rattle.laws.proofs.Tables.{byCases, none-at, all-at, within-bounds}
+use Rattle.laws.proofs.Walks.{step}
 use Rattle.laws.proofs.WellFormed.{ready}
 use Rattle.laws.proofs.Places.{valid-facts}
 use Rattle.model.specs.Tables.{Row, firstOf, within}
@@ -16,7 +17,7 @@ use Rattle.model.specs.Geometry.{geometryOf}
 use Rattle.model.specs.Item.{imageLsn, validImage, isFormat, recordOf}
 use Rattle.model.specs.Index.{entryOf}
 use Rattle.model.specs.Scan.{indexOf}
-use Rattle.model.specs.Repair.{View, Walk, stopAt, behind, walkOf, walkFrom, startOf, classOf, ownStart, backupStart, chainRecord, repairOf, stateView, scannedView}
+use Rattle.model.specs.Repair.{View, Walk, walkOf, walkFrom, startOf, classOf, ownStart, backupStart, chainRecord, repairOf, stateView, scannedView}
 use Rattle.model.specs.State.{frameCount, held, blank, lastNumber, entryFits, pageFits}
 use Rattle.model.specs.Refusals.{loadRows, inspectRows, frameBlocked}
 use Rattle.laws.proofs.Conditions.{chainBroken, chainBelow}
@@ -27,10 +28,8 @@ use Rattle.model.specs.Restart.{inspectOf}
 use Rattle.model.specs.Health.{Untouched, Health}
 use Rattle.model.specs.declared.{geometry.Geometry.Geometry, state.State.State, state.Entry.Entry, answer.Repair.Repair}
 use Rattle.model.specs.declared.answer.Class.the-variants.{Good, Behind, Stale, Failed, Ahead}
-use Rattle.model.specs.declared.answer.Stop.the-variants.{Broken, Below}
 use Rattle.model.specs.declared.answer.Answer.the-variants.{Refused, Repaired}
 use Rattle.model.specs.declared.answer.Start.the-variants as start
-use Rattle.model.specs.declared.answer.Stop.the-variants.{Own, Backup, Format}
 
 -- ---- the class
 
@@ -52,14 +51,9 @@ failed-test false b c d e = refl
 -- ---- the walk's first step
 
 -- a walk that stops at the own image and has passed no record stopped there at once
-abbrev stepped : Bool → Bool → Bool → Bool → Bool → ℕ → Walk → Walk
-stepped a b l c f n rest =
-    cond a (stopAt Own [])
-    (cond b (stopAt Backup [])
-    (cond l (stopAt Below []) (cond c (cond f (stopAt Format (n ∷ [])) (behind (n ∷ []) rest)) (stopAt Broken []))))
-
-first-step : (a b l c f : Bool) (n : ℕ) (rest : Walk) → startOf (stepped a b l c f n rest .stop) ≡ start.Own
-    → length (stepped a b l c f n rest .chain) ≡ 0 → a ≡ true
+first-step : (a b l c f : Bool) (n : ℕ) (rest : Walk) → startOf (step a b l c f n rest .stop) ≡ start.Own
+    → length (step a b l c f n rest .chain) ≡ 0 → a ≡ true
+unfolding step
 first-step true b l c f n rest e z = refl
 first-step false true l c f n rest e z = let q : _≡_ {A = ℕ} 0 1 = cc in absurd (omega arith)
 first-step false false true c f n rest e z = let q : _≡_ {A = ℕ} 0 1 = cc in absurd (omega arith)
@@ -90,7 +84,7 @@ module _ (g : Geometry) (p : ℕ) (w : View) where
       record { start = rw (d, own); count = rw (d, own) }
 
   untouched-good : (n : ℕ) → w .durable ≡ suc n → Untouched (repairOf g p w) → repairOf g p w .class ≡ Good
-  unfolding repairOf classOf walkOf walkFrom
+  unfolding repairOf classOf walkOf walkFrom step
   untouched-good n d u =
       let a = first-step (eqb (ownStart g p w) (suc n)) (eqb (backupStart g p w) (suc n)) (ltb (suc n) (w .first))
       (chainRecord p (suc n) (w .log (suc n))) (isFormat (recordOf (w .log (suc n)))) (suc n)

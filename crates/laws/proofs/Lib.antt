@@ -28,9 +28,9 @@ pub mod Restamped
 pub mod Progress
 pub mod FormedStates
 pub mod StaysFormed
+pub mod Walks
 pub mod Health
 pub mod Detection
-pub mod Walks
 pub mod Scans
 pub mod Scanned
 pub mod Refuses

@@ -230,36 +230,38 @@ module _ (v : List ℕ) (ok : validVolume v ≡ true) (at : Place) (xs : List �
   size = valid-facts v ok .size
 
   -- a field apart from the item
-  field-kept : (b : ℕ) → (b + 4 ≤ start (geometryOf v) at) ⊎ (start (geometryOf v) at + width at ≤ b) → field 4 b after ≡ field 4 b v
+  field-same : (b : ℕ) → (b + 4 ≤ start (geometryOf v) at) ⊎ (start (geometryOf v) at + width at ≤ b)
+      → field 4 b after ≡ field 4 b v
   unfolding after store
-  field-kept b d =
+  field-same b d =
       field-of-part 4 b (splice v (start (geometryOf v) at) xs)
       ∙ ap (le 4) (part-apart v (start (geometryOf v) at) xs b 4 (width at) e (place-fits (geometryOf v) v size at h) d)
       ∙ sym (field-of-part 4 b v)
 
-  four-kept : part after 0 4 ≡ part v 0 4
+  four-same : part after 0 4 ≡ part v 0 4
   unfolding after store
-  four-kept =
+  four-same =
       part-apart v (start (geometryOf v) at) xs 0 4 (width at) e (place-fits (geometryOf v) v size at h)
       (inl (omega (arith, place-after (geometryOf v) at h)))
 
-  counts-kept : (pagesOf after ≡ pagesOf v) × (slotsOf after ≡ slotsOf v) × (recordsOf after ≡ recordsOf v) × (notesOf after ≡ notesOf v)
+  counts-same : (pagesOf after ≡ pagesOf v) × (slotsOf after ≡ slotsOf v) × (recordsOf after ≡ recordsOf v)
+      × (notesOf after ≡ notesOf v)
   unfolding geometryOf
-  counts-kept =
-      same-counts v after (field-kept 4 (inl (place-after (geometryOf v) at h)))
-      (field-kept (slotCountAt (pagesOf v)) (clear-slots (geometryOf v) at h))
-      (field-kept (recordCountAt (pagesOf v) (slotsOf v)) (clear-records (geometryOf v) at h))
-      (field-kept (noteCountAt (pagesOf v) (slotsOf v) (recordsOf v)) (clear-notes (geometryOf v) at h))
+  counts-same =
+      same-counts v after (field-same 4 (inl (place-after (geometryOf v) at h)))
+      (field-same (slotCountAt (pagesOf v)) (clear-slots (geometryOf v) at h))
+      (field-same (recordCountAt (pagesOf v) (slotsOf v)) (clear-records (geometryOf v) at h))
+      (field-same (noteCountAt (pagesOf v) (slotsOf v) (recordsOf v)) (clear-notes (geometryOf v) at h))
 
-  tag-kept : byteAt after 3 ≡ byteAt v 3
-  tag-kept = sym (part-at after 0 4 3 (lit< tt)) ∙ ap (λ (l : List ℕ). getD l 3 0) four-kept ∙ part-at v 0 4 3 (lit< tt)
+  tag-same : byteAt after 3 ≡ byteAt v 3
+  tag-same = sym (part-at after 0 4 3 (lit< tt)) ∙ ap (λ (l : List ℕ). getD l 3 0) four-same ∙ part-at v 0 4 3 (lit< tt)
 
   -- the geometry stays
   pub geometry-store : geometryOf (store (geometryOf v) v at xs) ≡ geometryOf v
   unfolding geometryOf after
   geometry-store =
-      let c = counts-kept in
-      λ i. record { tag = tag-kept i; pages = c .0 i; slots = c .1 i; records = c .2 i; notes = c .3 i }
+      let c = counts-same in
+      λ i. record { tag = tag-same i; pages = c .0 i; slots = c .1 i; records = c .2 i; notes = c .3 i }
 
   counted : length v ≡ lengthFor (pagesOf v) (slotsOf v) (recordsOf v) (notesOf v)
   unfolding geometryOf
@@ -269,12 +271,12 @@ module _ (v : List ℕ) (ok : validVolume v ≡ true) (at : Place) (xs : List �
   pub valid-store : validVolume (store (geometryOf v) v at xs) ≡ true
   unfolding validVolume after part
   valid-store =
-      let c = counts-kept in
+      let c = counts-same in
       let f = valid-facts v ok in
       let s : knownMagic after ≡ true = rw (
-        starts-take (magic First) after v four-kept,
-        starts-take (magic Second) after v four-kept,
-        starts-take (magicOf carryTag) after v four-kept,
+        starts-take (magic First) after v four-same,
+        starts-take (magic Second) after v four-same,
+        starts-take (magicOf carryTag) after v four-same,
       ) (f .heading) in
       let n : length after ≡ length v = store-length (geometryOf v) v size at xs h e in
       let k : validCounts (pagesOf after) (slotsOf after) (recordsOf after) (notesOf after) ≡ true =

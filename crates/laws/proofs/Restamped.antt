@@ -1,7 +1,7 @@
 -- What a Restamp that is not refused finds and leaves: the first image that passes only the old sum, and every other as it was.
 use mathlib.Core.Path.{_≡_, refl, sym, ap, _∙_}
 use mathlib.Core.Logic.{_≢_}
-use mathlib.Core.Bool.{Bool, true, false, cond, _&&_, _||_, not}
+use mathlib.Core.Bool.{Bool, true, false, cond, _&&_, _||_, not, and-false}
 use mathlib.Core.List.{List, []}
 use Prim.Native.Nat.{ℕ, suc, _+_, _-_, _<_}
 use native.Mathlib.Omega.{arith}
@@ -193,11 +193,7 @@ module _ (v m : List ℕ) (s : State) where
 
     now-new : oldAt g after (s .index) first ≡ false
     now-new = ap (onlyOld g (s .index) at) read-new
-        ∙ (only-old g (s .index) at stamped here ∙ rw (restamp-bytes g (item g v at) old-size not-first) (never (wordsHold stamped)))
-      where
-        never : (w : Bool) → (w && false) ≡ false
-        never true = refl
-        never false = refl
+        ∙ (only-old g (s .index) at stamped here ∙ rw (restamp-bytes g (item g v at) old-size not-first) (and-false (wordsHold stamped)))
 
     pub one-less : countOf (imageCount g) (oldAt g v (s .index)) ≡ suc (countOf (imageCount g) (oldAt g after (s .index)))
     one-less = count-less (oldAt g v (s .index)) (oldAt g after (s .index)) (imageCount g) first b (found-old b) now-new

@@ -104,13 +104,16 @@ module _ (ring : Bool) (L n : ℕ) (W T S W′ T′ S′ : ℕ → Type 0) (up :
   pub run-new : ((i : ℕ) → i < n → n < i + L → W i → W′ i) → W′ n → ((i : ℕ) → i < suc n → n ≡ i + L → S′ i) → Run ring L (suc n) W′ T′ S′
   run-new w here spare =
       record {
-        held = λ i a b. kept i a (omega arith);
-        oldest = λ i b e. inl (kept i b (omega arith));
+        held = λ i a b. held i a (omega arith);
+        oldest = λ i b e. inl (held i b (omega arith));
         lost = λ i a. elim (ℕ-discrete n (i + L)) [ yes e ↦ spare i (omega arith) e | no z ↦ up i (omega arith) (r .lost i (omega arith)) ];
       }
     where
-      kept : (i : ℕ) → i < suc n → n < i + L → W′ i
-      kept i a b = elim (decLt i n) [ yes y ↦ w i y b (r .held i y b) | no z ↦ let e : i ≡ n = omega arith in rw e here ]
+      held : (i : ℕ) → i < suc n → n < i + L → W′ i
+      held i a b = elim (decLt i n) [
+        | yes y ↦ w i y b (r .held i y b)
+        | no z ↦ let e : i ≡ n = omega arith in rw e here
+      ]
 
   -- the next item's slot is left torn
   pub run-torn : ((i : ℕ) → i < n → n < i + L → W i → W′ i) → ((i : ℕ) → i < n → n ≡ i + L → (ring ≡ true) × T′ i)
@@ -166,9 +169,6 @@ pub run-start : (ring whole : Bool) (L n : ℕ) (W T S : ℕ → Type 0) → (1 
     → (f : ℕ) × (startFrom ring whole L n ≡ suc f) × Start L n f W S
 run-start ring whole L n W T S low r room is-whole is-torn = byCases ring in-ring no-ring
   where
-    kept : (i : ℕ) → i < n → n < i + L → W i
-    kept i a b = r .held i a b
-
     no-ring : ring ≡ false → (f : ℕ) × (startFrom ring whole L n ≡ suc f) × Start L n f W S
     no-ring e = (
       0,

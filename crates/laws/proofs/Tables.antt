@@ -25,6 +25,9 @@ and-right false b h = cc
 pub and-both : {a b : Bool} → a ≡ true → b ≡ true → (a && b) ≡ true
 and-both p q = rw (p, q)
 
+pub and-fails : (a : Bool) {b : Bool} → b ≡ false → (a && b) ≡ false
+and-fails a e = rw e (and-false a)
+
 pub or-cases : (a b : Bool) → (a || b) ≡ true → (a ≡ true) ⊎ (b ≡ true)
 or-cases true b h = inl refl
 or-cases false b h = inr h

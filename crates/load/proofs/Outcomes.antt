@@ -11,7 +11,7 @@ use Rattle.laws.proofs.Tables.{none-at, within-bounds}
 use Rattle.laws.proofs.Parts.{put-item, lent-length}
 use Rattle.laws.proofs.Places.{valid-facts}
 use Rattle.laws.proofs.Chain.{run-few}
-use Rattle.index.specs.Sections.{Sized}
+use Rattle.log_scan.specs.LogSection.{Sized}
 use Rattle.index.proofs.Whole.{sized}
 use Rattle.laws.proofs.WellFormed.{ready, frame-within}
 use Rattle.laws.proofs.Frames.{entry-of}

@@ -4,13 +4,13 @@ use mathlib.Core.Bool.{Bool, false, not, cond}
 use mathlib.Core.List.{List, []}
 use Prim.Native.Nat.{ℕ, _≤_}
 use native.Mathlib.Omega.{arith}
-use lib.Dec.{eqb, ltb}
+use lib.Dec.{ltb}
 use lib.ListN.{length, getD}
 use borrow.Author.Tests.{eq-eqb, ne-eqb, eqb-false, not-false}
 use Rattle.laws.proofs.Tables.{none-at, within-bounds}
 use Rattle.laws.proofs.Places.{valid-facts}
 use Rattle.laws.proofs.WellFormed.{ready, holder-low, holder-high}
-use Rattle.state.proofs.Fits.{refusal-then}
+use Rattle.state.proofs.Fits.{refusal-first, refusal-last}
 use Rattle.model.specs.Tables.{firstOf, within}
 use Rattle.model.specs.Geometry.{geometryOf}
 use Rattle.model.specs.State.{frameCount, holder}
@@ -31,13 +31,15 @@ release-own g s page f blocked a b k e ea eb ek = rw (ek, eb, ea, e)
 
 module _ (v m : List ℕ) (s : State) (page : ℕ) where
   -- the rows 1 and 2, then those
-  pub release-rows : (g : Geometry) (n f rest r : ℕ) → n ≡ firstOf (stateRows v m s []) → g ≡ geometryOf v → f ≡ holder s page
-      → rest ≡ firstOf (releaseTail g s page f)
-      → r ≡ cond (not (eqb n 0)) n rest
-      → r ≡ firstOf (releaseRows v m s page)
+  pub release-first : (n : ℕ) → n ≡ firstOf (stateRows v m s []) → (n ≡ 0 → ⊥) → n ≡ firstOf (releaseRows v m s page)
   unfolding releaseRows
-  release-rows g n f rest r e eg ef er ek =
-      ek ∙ refusal-then v m s (releaseTail (geometryOf v) s page (holder s page)) n rest e (er ∙ rw (ef, eg))
+  release-first n e = refusal-first v m s (releaseTail (geometryOf v) s page (holder s page)) n e
+
+  pub release-rows : (g : Geometry) (n f r : ℕ) → n ≡ firstOf (stateRows v m s []) → n ≡ 0 → g ≡ geometryOf v → f ≡ holder s page
+      → r ≡ firstOf (releaseTail g s page f) → r ≡ firstOf (releaseRows v m s page)
+  unfolding releaseRows
+  release-rows g n f r e z eg ef er =
+      refusal-last v m s (releaseTail (geometryOf v) s page (holder s page)) n r e z (er ∙ rw (ef, eg))
 
   pub release-refused : (n : ℕ) → n ≡ firstOf (releaseRows v m s page) → (n ≡ 0 → ⊥)
       → _≡_ {A = Reply} (record { answer = Refused n; state = s }) (replyOf (releaseOf v m s page))

@@ -8,7 +8,7 @@ use lib.ListN.{length}
 use borrow.Author.Tests.{eqb-false, eq-eqb, ne-eqb}
 use Rattle.laws.proofs.Tables.{Numbered, when-true, when-false}
 use Rattle.repair.proofs.Rows.{first-then}
-use Rattle.state.proofs.Fits.{refusal-then}
+use Rattle.state.proofs.Fits.{refusal-first, refusal-last}
 use Rattle.load.specs.Rows.{earlyRows}
 use Rattle.model.specs.Tables.{firstOf, within}
 use Rattle.model.specs.Geometry.{geometryOf}
@@ -31,16 +31,18 @@ pub own-is : (g : Geometry) (count : ℕ) (s : State) (page frame : ℕ) (none i
 own-is g count s page frame none in-frame blocked b c d e k en eh ef eb ec ed ee ek = rw (ek, ee, ed, ec, eb, ef, eh, en)
 
 -- the rows 1 and 2, then those
-pub early-is : (v m : List ℕ) (s : State) (n : ℕ) (g : Geometry) (size count page frame rest r : ℕ) → n ≡ firstOf (stateRows v m s [])
-    → g ≡ geometryOf v
-    → count ≡ frameCount size
-    → rest ≡ firstOf (loadTail g count s page frame)
-    → r ≡ cond (not (eqb n 0)) n rest
-    → length m ≡ size
-    → r ≡ firstOf (earlyRows v m s page frame)
-unfolding earlyRows
-early-is v m s n g size count page frame rest r e eg ec er ek en =
-    ek ∙ refusal-then v m s (loadTail (geometryOf v) (frameCount (length m)) s page frame) n rest e (er ∙ rw (ec, eg, ← en))
+module _ (v m : List ℕ) (s : State) (n : ℕ) (e : n ≡ firstOf (stateRows v m s [])) where
+  pub early-first : (page frame : ℕ) → (n ≡ 0 → ⊥) → n ≡ firstOf (earlyRows v m s page frame)
+  unfolding earlyRows
+  early-first page frame = refusal-first v m s (loadTail (geometryOf v) (frameCount (length m)) s page frame) n e
+
+  pub early-rows : (g : Geometry) (size count page frame r : ℕ) → n ≡ 0 → g ≡ geometryOf v → count ≡ frameCount size
+      → r ≡ firstOf (loadTail g count s page frame)
+      → length m ≡ size
+      → r ≡ firstOf (earlyRows v m s page frame)
+  unfolding earlyRows
+  early-rows g size count page frame r z eg ec er en =
+      refusal-last v m s (loadTail (geometryOf v) (frameCount (length m)) s page frame) n r e z (er ∙ rw (ec, eg, ← en))
 
 -- the rows behind the walk
 pub tail-is : (stop : Stop) (broken below : Bool) (a b : ℕ) → broken ≡ isBroken stop → below ≡ isBelow stop → a ≡ cond below 23 0

@@ -17,7 +17,6 @@ ghost use Rattle.model.specs.Outcome.{replyOf};
 ghost use Rattle.model.specs.Effects.{isGood};
 ghost use Rattle.model.specs.Calls.{loadOf};
 ghost use Rattle.repair.specs.Walked.{ReadyFor, viewFor, walkedOf};
-use index::log;
 use model::answer::Answer;
 use model::answer::Class;
 use model::answer::Repair;
@@ -55,10 +54,12 @@ fn refusal(s: State, no: u32, volume: &[u8], size: usize, page: u32, frame: u32)
     requires { ⌜ ((m : List ℕ) → length m ≡ size → no ≡ firstOf (stateRows (now volume) m s [])) ⌝ }
     ensures { λ r. ⌜ ((m : List ℕ) → length m ≡ size → r ≡ firstOf (earlyRows (now (volume .entry)) m s page frame)) ⌝ }
 {
+    if no != 0 {
+        return no;
+    }
     let g = heading::geometry(volume);
     let count = memory::frames(size);
-    let rest = own(g, count, s, page, frame);
-    rows::first(no != 0, no, rest)
+    own(g, count, s, page, frame)
 }
 
 // The refusal behind the walk: 19 where it breaks, 23 where it goes below the run.
@@ -119,7 +120,7 @@ pub fn load(s: State, no: u32, volume: &[u8], memory: &mut [u8], page: u32, fram
     }
     let g = heading::geometry(volume);
     let e = entries::entry(s, page);
-    let first = log::first(volume, g, s.durable);
+    let first = log_scan::first(volume, g, s.durable);
     let walked = walk::walk(volume, g, first, e, page);
     let stop = walked.stop;
     let stopped = walk_refusal(stop);

@@ -2,7 +2,6 @@
 ghost use mathlib.Core.Path.{_≡_};
 ghost use Rattle.model.specs.Tables.{firstOf};
 ghost use Rattle.model.specs.Refusals.{loadRows};
-use index::log;
 use model::state::State;
 use repair::walk;
 use state::entries;
@@ -21,7 +20,7 @@ pub fn refusal(s: State, volume: &[u8], memory: &[u8], page: u32, frame: u32) ->
     }
     let g = heading::geometry(volume);
     let e = entries::entry(s, page);
-    let first = log::first(volume, g, s.durable);
+    let first = log_scan::first(volume, g, s.durable);
     let walked = walk::walk(volume, g, first, e, page);
     let stop = walked.stop;
     crate::walk_refusal(stop)

@@ -29,10 +29,12 @@ fn refusal(s: State, no: u32, volume: &[u8], memory: &[u8], page: u32) -> u32
     requires { ⌜ no ≡ firstOf (stateRows (now volume) (now memory) s []) ⌝ }
     ensures { λ r. ⌜ r ≡ firstOf (releaseRows (now (volume .entry)) (now (memory .entry)) s page) ⌝ }
 {
+    if no != 0 {
+        return no;
+    }
     let g = heading::geometry(volume);
     let f = frames::holder(s, page);
-    let rest = own(s, g, page, f);
-    rows::first(no != 0, no, rest)
+    own(s, g, page, f)
 }
 
 // Empties the page's frame; its bytes stay, which the memory, lent for reading alone, shows.

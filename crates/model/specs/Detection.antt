@@ -1,4 +1,4 @@
--- What the byte sum detects, as types. States of document 02, section 3: "A change within one 16-bit word of such an
+-- What the byte sum detects, as types. States of document 02, §3: "A change within one 16-bit word of such an
 -- image, ahead of the check, must now always be caught". Stronger than asked: the two bytes may stand at any place,
 -- even or odd, and in an item of any size. The values of these types are proved in the crate `laws`.
 --

@@ -3,6 +3,7 @@ ghost use mathlib.Core.Path.{_≡_};
 ghost use Prim.Native.Nat.{ℕ, suc, _-_, _≤_};
 ghost use Rattle.planning.specs.Rehearsal.{pageRow, setRow, withLoad, withImage, withChange, plus, totalOf};
 ghost use Rattle.planning_model.specs.Bounds.{Small, Sums};
+use codec::number::u32_u64;
 use planning::rehearsal::Figures;
 use planning::rehearsal::Totals;
 
@@ -80,25 +81,18 @@ pub fn with_change(r: Figures, every: u32) -> Figures
     next
 }
 
-// A figure as a term of a total.
-fn wide(x: u32) -> u64
-    ensures { λ r. ⌜ (r ≡ x) × (r ≤ 4294967295) ⌝ }
-{
-    x as u64
-}
-
 // A total with one row more.
 fn add(a: Totals, r: Figures) -> Totals
     requires { ⌜ Sums 63 a ⌝ }
     ensures { λ x. ⌜ (x ≡ plus a r) × ((n : ℕ) → Sums n a → Sums (suc n) x) ⌝ }
 {
     Totals {
-        loads: a.loads + wide(r.loads),
-        records: a.records + wide(r.records),
-        images: a.images + wide(r.images),
-        backups: a.backups + wide(r.backups),
-        notes: a.notes + wide(r.notes),
-        replayed: a.replayed + wide(r.replayed),
+        loads: a.loads + u32_u64(r.loads),
+        records: a.records + u32_u64(r.records),
+        images: a.images + u32_u64(r.images),
+        backups: a.backups + u32_u64(r.backups),
+        notes: a.notes + u32_u64(r.notes),
+        replayed: a.replayed + u32_u64(r.replayed),
     }
 }
 

@@ -33,7 +33,7 @@ use Rattle.history.proofs.Leaf.{valid-page}
 use Rattle.history.proofs.Sections.{store-other}
 use Rattle.history.proofs.Context.{Ctx, sized, geo}
 use Rattle.history.proofs.Images.{lsn-is, sealed-size, sealed-valid}
-use Rattle.history.proofs.Keeps.{Backs, backs}
+use Rattle.history.proofs.Persists.{Backs, backs}
 use Rattle.planning_theory.proofs.Counts.{count-last}
 use Rattle.planning_theory.proofs.Play.{Run, Stage, call-stays, rows-none, run-as, ctx-as}
 use Rattle.planning_theory.proofs.Relation.{Arrived, Rows, row-twice, rows-same, sim-keep, all-is}

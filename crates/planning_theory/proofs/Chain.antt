@@ -19,7 +19,8 @@ use Rattle.model.specs.declared.{geometry.Geometry.Geometry, state.State.State}
 use Rattle.history.proofs.Logs.{at, lastAt, lastOf, last-le, last-page}
 use Rattle.history.proofs.Walk.{Law, walk-says, last-reaches}
 use Rattle.history.proofs.Records.{AllFair, recOf}
-use Rattle.history.proofs.Entries.{Mark, markAt, entryFrom, mark-ok}
+use Rattle.history.proofs.Marks.{Mark, markAt, mark-ok}
+use Rattle.history.proofs.Entries.{entryFrom}
 use Rattle.history.proofs.Views.{no-backup}
 use Rattle.history.proofs.LogScan.{first, first-is, started}
 use Rattle.history.proofs.Context.{Ctx, sized, fair, few}

@@ -35,7 +35,7 @@ use Rattle.planning.specs.declared.rehearsal.Settings.{Settings}
 use Rattle.planning.specs.declared.rehearsal.FrameUse.{FrameUse}
 use Rattle.planning.specs.declared.rehearsal.Figures.{Figures}
 use Rattle.history.proofs.Logs.{noLogged, at, lastOf, last-le, last-append, lenA, atA, lastN, number-miss}
-use Rattle.history.proofs.Entries.{mark-ok}
+use Rattle.history.proofs.Marks.{mark-ok}
 use Rattle.history.proofs.Context.{Ctx, sized, entry-is}
 use Rattle.planning_theory.proofs.Counts.{countAt, countOf, count-append, count-new, count-other}
 use Rattle.planning_theory.proofs.Chain.{Begun}

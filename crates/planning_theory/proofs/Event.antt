@@ -32,7 +32,8 @@ use Rattle.planning_theory.proofs.Searches.{holding-none, holding-one, 
 use Rattle.planning_theory.proofs.Play.{Run, Stage, call-stays}
 use Rattle.planning_theory.proofs.Relation.{DirtyIn, OnDisk, Mine, Sim, Backups, Arrived, Rows, last-is, is-blank, not-blank, one-row}
 use Rattle.planning_theory.proofs.LoadStep.{load-step}
-use Rattle.planning_theory.proofs.AwayStep.{Away, away-clean, away-release, away-write}
+use Rattle.planning_theory.proofs.AwayStep.{Away, away-clean, away-release}
+use Rattle.planning_theory.proofs.WriteStep.{away-write}
 
 -- ---- between events
 
@@ -42,6 +43,11 @@ pub record Full (t : Settings) (events : List ℕ) (mo : Rehearsal) (g : Geometr
   pub quiet : s .note ≡ Absent
   pub rows : Rows (mo .pages) k
   pub changes : (p : ℕ) → 1 ≤ p → p ≤ 64 → changesOf p events ≡ countOf p k
+
+-- what an event leaves
+pub record After (C : Type 0) (g : Geometry) (t : Settings) (events : List ℕ) (mo : Rehearsal) (r : Played) : Type 0 where
+  pub log : List Logged
+  pub stage : Stage C g r (mo .pages) log [] (λ v s. Full t events mo g v s log)
 
 pub stage-as : {C : Type 0} {g : Geometry} {r r′ : Played} {fs fs′ : List Figures} {k w : List Logged} {Q : List ℕ → State → Type 0}
     → r′ ≡ r → fs ≡ fs′ → Stage C g r fs k w Q → Stage C g r′ fs′ k w Q

@@ -1,22 +1,23 @@
--- One event, whole: a read, or a change with its Force and its backup.
+-- One event, whole: a change with its Force and its backup, or a read.
 use mathlib.Core.Path.{_≡_, refl, sym, ap, _∙_, subst}
 use mathlib.Core.Logic.{_≢_}
 use mathlib.Core.Bool.{Bool, true, false, not}
 use mathlib.Core.List.{List, [], _∷_, _++_}
-use Prim.Native.Nat.{ℕ, suc, _+_, _≤_, _<_}
+use Prim.Native.Nat.{ℕ, suc, _≤_, _<_}
 use native.Mathlib.Omega.{arith}
 use native.Mathlib.Decide.{ℕ-discrete}
 use lib.ListN.{length, set}
 use lib.Dec.{eqb}
-use borrow.Author.Tests.{eq-eqb, ne-eqb}
+use borrow.Author.Tests.{eq-eqb}
 use Rattle.laws.proofs.Tables.{byCases}
-use Rattle.model.specs.State.{frameRow, held, blank}
+use Rattle.model.specs.State.{frameRow, held}
 use Rattle.model.specs.Outcome.{StoredItem}
 use Rattle.model.specs.Calls.{Call, noPayload}
 use Rattle.model.specs.declared.{geometry.Geometry.Geometry, state.State.State}
 use Rattle.model.specs.declared.command.Command.the-variants.{Begin, Load, Force}
 use Rattle.model.specs.AbstractLog.{Logged}
-use Rattle.planning.specs.Rehearsal.{accessOf, pageIn, victimWritten, pageRow, setRow, withChange, evicted, broughtIn, foundIn, touched, changed, stepOn}
+use Rattle.planning.specs.Rehearsal.{accessOf, pageIn, victimWritten, pageRow, setRow, withChange, evicted, broughtIn}
+use Rattle.planning.specs.Rehearsal.{touched, changed, stepOn}
 use Rattle.planning.specs.RehearsalRun.{Choice, evictionCalls, backUp, callsOf, Played, playCall, playCalls}
 use Rattle.planning.specs.declared.rehearsal.Settings.{Settings}
 use Rattle.planning.specs.declared.rehearsal.Access.{Access}
@@ -24,19 +25,15 @@ use Rattle.planning.specs.declared.rehearsal.Access.the-variants.{Read, Change}
 use Rattle.planning.specs.declared.rehearsal.Figures.{Figures}
 use Rattle.planning.specs.declared.rehearsal.Rehearsal.{Rehearsal}
 use Rattle.history.proofs.Context.{Ctx}
-use Rattle.planning_theory.proofs.Counts.{countOf, count-none, count-new, count-other}
+use Rattle.planning_theory.proofs.Counts.{countOf, count-new, count-other}
 use Rattle.planning_theory.proofs.Play.{Run, Stage, call-stays, calls-stay}
-use Rattle.planning_theory.proofs.Relation.{Arrived, Rows, alike-idle, sim-used}
-use Rattle.planning_theory.proofs.Event.{Full, in-frame, blank-yes, blank-not, row-count, fo, f16, low, touched-found, arrived-found, row, row-low, alike, touched-missing, eviction-stage, loaded}
-use Rattle.planning_theory.proofs.Backed.{changes-read, changes-hit, changes-miss, page-high, backed}
-use Rattle.planning_theory.proofs.EventCalls.{putOf, putLogged, beginLogged, put-on, found-calls, read-calls, loaded-calls, begun-calls, begin-on}
-
--- ---- the event
-
--- what an event leaves
-pub record After (C : Type 0) (g : Geometry) (t : Settings) (events : List ℕ) (mo : Rehearsal) (r : Played) : Type 0 where
-  pub log : List Logged
-  pub stage : Stage C g r (mo .pages) log [] (λ v s. Full t events mo g v s log)
+use Rattle.planning_theory.proofs.Relation.{Arrived, Rows, sim-used}
+use Rattle.planning_theory.proofs.Event.{Full, After, fo, low, touched-found, arrived-found, row, row-low}
+use Rattle.planning_theory.proofs.Event.{touched-missing, eviction-stage, loaded}
+use Rattle.planning_theory.proofs.Backed.{changes-hit, changes-miss, page-high, backed}
+use Rattle.planning_theory.proofs.EventCalls.{putOf, putLogged, beginLogged, put-on, found-calls, loaded-calls}
+use Rattle.planning_theory.proofs.EventCalls.{begun-calls, begin-on}
+use Rattle.planning_theory.proofs.ReadEvent.{read-event}
 
 module _ {C : Type 0} {g : Geometry} {v m : List ℕ} {past : List StoredItem} {s : State} {k : List Logged}
     (x : Ctx C g v m past s k []) (ok : C) (t : Settings)
@@ -48,34 +45,6 @@ module _ {C : Type 0} {g : Geometry} {v m : List ℕ} {past : List StoredItem} {
 
   abbrev run : Played
   run = Run v m past s (mo .pages)
-
-  -- the end of a read
-  read-end : (ea : accessOf e ≡ Read p) (r : Played) (f : ℕ) (d : Bool) (l : List Figures) → f < t .frames
-      → touched t i mo p false ≡ record { frames = set (mo .frames) f (record { page = p; used = i; dirty = d }); pages = l }
-      → Stage C g r l k [] (λ v′ s′. Arrived t events (mo .frames) g v′ s′ k f p d × Rows l k)
-      → After C g t (e ∷ events) (touched t i mo p false) r
-  read-end ea r f d l b q a =
-      subst (λ (y : Rehearsal). After C g t (e ∷ events) y r) (sym q) (record {
-        log = k;
-        stage = record {
-          volume = a .volume;
-          memory = a .memory;
-          past = a .past;
-          state = a .state;
-          run-is = a .run-is;
-          ctx = a .ctx;
-          holds =
-              let h = a .holds .0 in
-              record {
-                sim = sim-used t events (mo .frames) g (a .volume) (a .state) k e p f d (ap pageIn ea) (omega arith) (h .row-is)
-                    (h .alone) (h .sim) (h .mine);
-                backs = h .backs;
-                quiet = h .quiet;
-                rows = a .holds .1;
-                changes = λ q a₁ b₁. changes-read e p events q ea ∙ full .changes q a₁ b₁;
-              };
-        };
-      })
 
   -- the end of a change
   change-end : (ea : accessOf e ≡ Change p) (r : Played) (f : ℕ) (l : List Figures) (ch : Logged) → ch .page ≡ p → f < t .frames
@@ -112,36 +81,6 @@ module _ {C : Type 0} {g : Geometry} {v m : List ℕ} {past : List StoredItem} {
               };
         };
       })
-
-  -- a read of a page without a change
-  read-blank : (ea : accessOf e ≡ Read p) → countOf p k ≡ 0 → After C g t (e ∷ events) mo run
-  read-blank ea z =
-      record {
-        log = k;
-        stage = record {
-          volume = v;
-          memory = m;
-          past = past;
-          state = s;
-          run-is = refl;
-          ctx = x;
-          holds = record {
-            sim = record {
-              frames = alike-idle events (mo .frames) s e (full .sim .frames)
-                  (λ j b q. in-frame x ok t F1 F16 K1 events mo full p lo hi j b (q ∙ ap pageIn ea) .1 (count-none p k (length k) z));
-              inside = full .sim .inside;
-              begun = full .sim .begun;
-              disk = full .sim .disk;
-            };
-            backs = full .backs;
-            quiet = full .quiet;
-            rows = full .rows;
-            changes = λ q a b. changes-read e p events q ea ∙ full .changes q a b;
-          };
-        };
-      }
-
-  -- ---- a change
 
   abbrev put : Call
   put = putOf c p
@@ -241,62 +180,6 @@ module _ {C : Type 0} {g : Geometry} {v m : List ℕ} {past : List StoredItem} {
     change-event =
         byCases (held s p) change-found (λ h. elim (ℕ-discrete (countOf p k) 0) [ yes z ↦ change-begun h z | no z ↦ change-loaded h z ])
 
-  -- ---- a read
-
-  module _ (ea : accessOf e ≡ Read p) (nr : playCalls (Run v m past s (mo .pages)) (callsOf t c events s (Read p)) .refused ≡ false) where
-    abbrev Ends : Played → Type 0
-    Ends r = After C g t (e ∷ events) (touched t i mo p false) r
-
-    ends-as : (r : Played) → playCalls run (callsOf t c events s (Read p)) ≡ r → (r .refused ≡ false → Ends r)
-        → Ends (playCalls run (callsOf t c events s (Read p)))
-    ends-as r q f = subst (λ (y : Played). Ends y) (sym q) (f (subst (λ (y : Played). y .refused ≡ false) q nr))
-
-    read-found : countOf p k ≢ 0 → (h : held s p ≡ true) → Ends (playCalls (Run v m past s (mo .pages)) (callsOf t c events s (Read p)))
-    unfolding callsOf playCalls
-    read-found nz h =
-        let f = fo x ok t F1 F16 K1 events mo full p lo hi h .row in
-        let nb : blank s p ≡ false = blank-not x ok t F1 F16 K1 events mo full p lo hi nz in
-        ends-as run (rw (nb, h)) (λ n. read-end ea run f (frameRow s f .dirty) (mo .pages) (low x ok t F1 F16 K1 events mo full p lo hi h)
-        (touched-found x ok t F1 F16 K1 events mo full p lo hi h i false
-        ∙ same (fo x ok t F1 F16 K1 events mo full p lo hi h .row) (f16 x ok t F1 F16 K1 events mo full p lo hi h))
-        (record {
-          volume = v;
-          memory = m;
-          past = past;
-          state = s;
-          run-is = refl;
-          ctx = x;
-          holds = (arrived-found x ok t F1 F16 K1 events mo full p lo hi h, full .rows);
-        }))
-      where
-        same : (f : ℕ) → f < 16 → foundIn i mo p false f
-            ≡ record { frames = set (mo .frames) f (record { page = p; used = i; dirty = frameRow s f .dirty }); pages = mo .pages }
-        same f b = rw (alike x ok t F1 F16 K1 events mo full p lo hi f b)
-
-    read-loaded : countOf p k ≢ 0 → (h : held s p ≡ false) → Ends (playCalls (Run v m past s (mo .pages)) (callsOf t c events s (Read p)))
-    read-loaded nz h =
-        let f = row x ok t F1 F16 K1 events mo full p lo hi h in
-        let r = playCall (playCalls run (evictionCalls t (frameRow s f))) (Load p (suc f), noPayload) in
-        ends-as r (read-calls x ok t F1 F16 K1 events mo full p lo hi c pays h nz)
-        (λ n. read-end ea r f (not (victimWritten (t .victim))) (broughtIn t (evicted t mo f) p)
-        (row-low x ok t F1 F16 K1 events mo full p lo hi h)
-        (touched-missing x ok t F1 F16 K1 events mo full p lo hi h i false) (loaded x ok t F1 F16 K1 events mo full p lo hi h nz n))
-
-    pub read-event : After C g t (e ∷ events) (stepOn t i mo (Read p))
-        (playCalls (Run v m past s (mo .pages)) (callsOf t c events s (Read p)))
-    unfolding stepOn callsOf playCalls
-    read-event = elim (ℕ-discrete (countOf p k) 0) [
-      | yes z ↦
-          let y : eqb (pageRow (mo .pages) p .records) 0 ≡ true =
-          eq-eqb (pageRow (mo .pages) p .records) 0 (row-count x ok t F1 F16 K1 events mo full p lo hi ∙ z) in
-          let b : blank s p ≡ true = blank-yes x ok t F1 F16 K1 events mo full p lo hi z in
-          rw (y, b) (read-blank ea z)
-      | no nz ↦
-          let y : eqb (pageRow (mo .pages) p .records) 0 ≡ false =
-          ne-eqb (pageRow (mo .pages) p .records) 0 (λ q. nz (sym (row-count x ok t F1 F16 K1 events mo full p lo hi) ∙ q)) in
-          rw y (byCases (held s p) (read-found nz) (read-loaded nz))
-    ]
-
   pub event : (a : Access) → accessOf e ≡ a → pageIn a ≡ p
       → playCalls (Run v m past s (mo .pages)) (callsOf t c events s a) .refused ≡ false
       → After C g t (e ∷ events) (stepOn t i mo a) (playCalls (Run v m past s (mo .pages)) (callsOf t c events s a))
@@ -304,7 +187,8 @@ module _ {C : Type 0} {g : Geometry} {v m : List ℕ} {past : List StoredItem} {
   event (Read q) ea qp nr =
       let ea′ : accessOf e ≡ Read p = ea ∙ ap Read qp in
       subst (λ (r : ℕ). After C g t (e ∷ events) (stepOn t i mo (Read r)) (playCalls run (callsOf t c events s (Read r)))) (sym qp)
-      (read-event ea′ (subst (λ (r : ℕ). playCalls run (callsOf t c events s (Read r)) .refused ≡ false) qp nr))
+      (read-event x ok t F1 F16 K1 events mo full p lo hi e c pays ea′
+      (subst (λ (r : ℕ). playCalls run (callsOf t c events s (Read r)) .refused ≡ false) qp nr))
   event (Change q) ea qp nr =
       let ea′ : accessOf e ≡ Change p = ea ∙ ap Change qp in
       subst (λ (r : ℕ). After C g t (e ∷ events) (stepOn t i mo (Change r)) (playCalls run (callsOf t c events s (Change r)))) (sym qp)

@@ -38,7 +38,7 @@ use Rattle.history.proofs.Leaf.{valid-page}
 use Rattle.history.proofs.Inv.{PendingOk}
 use Rattle.history.proofs.Context.{Ctx, sized, geo}
 use Rattle.history.proofs.Images.{sealed-valid}
-use Rattle.history.proofs.Keeps.{backs}
+use Rattle.history.proofs.Persists.{backs}
 use Rattle.planning_theory.proofs.Play.{Run, run-as, ctx-as}
 use Rattle.planning_theory.proofs.Relation.{row-same}
 use Rattle.planning_theory.proofs.Taken.{taken-call, note-free, force-free}

@@ -9,9 +9,11 @@ pub mod StoreSteps
 pub mod ChangeStep
 pub mod BackupStep
 pub mod AwayStep
+pub mod WriteStep
 pub mod Event
 pub mod Backed
 pub mod EventCalls
+pub mod ReadEvent
 pub mod EventStep
 pub mod Totals
 pub mod Slots

@@ -6,13 +6,13 @@ use mathlib.Core.List.{List, [], _∷_, _++_, append-nil}
 use Prim.Native.Nat.{ℕ, zero, suc, _+_, _-_, _%_, _≤_, _<_}
 use native.Mathlib.Omega.{arith}
 use native.Mathlib.Decide.{ℕ-discrete, decLt}
-use lib.ListN.{length, set, length-set, List·getD-eq-default}
+use lib.ListN.{length, set, length-set}
 use lib.Seq.{getD-set-same, getD-set-other, set-out}
 use borrow.Author.Tests.{eq-eqb, ne-eqb}
 use Rattle.model.specs.Geometry.{pageAt, item}
 use Rattle.model.specs.Item.{imageLsn, validImage}
 use Rattle.model.specs.Index.{emptyEntry, entryOf, setEntry}
-use Rattle.model.specs.State.{emptyFrame, frameRow, blank}
+use Rattle.model.specs.State.{frameRow, blank}
 use Rattle.model.specs.Outcome.{StoredItem}
 use Rattle.model.specs.AbstractLog.{Logged}
 use Rattle.planning.specs.Rehearsal.{accessOf, pageIn, unused, noFigures, pageRow, setRow}
@@ -276,7 +276,3 @@ module _ {C : Type 0} {g : Geometry} {v m : List ℕ} {past : List StoredItem} {
   one-row i j a b nz q =
       let nj : frameRow s j .page ≢ 0 = λ z. nz (sym q ∙ z) in
       x .al .frames .once j i (x .al .frames .inside j b nj) (x .al .frames .inside i a nz) nj q
-
--- past the table there is no page
-pub no-row : (s : State) (j : ℕ) → length (s .frames) ≡ 16 → 16 ≤ j → frameRow s j ≡ emptyFrame
-no-row s j e h = List·getD-eq-default (s .frames) emptyFrame {n = j} (omega arith)

@@ -22,10 +22,11 @@ use Rattle.model.specs.declared.state.State.{State}
 use Rattle.planning.specs.declared.rehearsal.Settings.{Settings}
 use Rattle.planning.specs.declared.rehearsal.Figures.{Figures}
 use Rattle.planning.specs.declared.rehearsal.Rehearsal.{Rehearsal}
-use Rattle.history.proofs.Entries.{Mark, markAt, mark-zero}
+use Rattle.history.proofs.Marks.{Mark, markAt, mark-zero}
 use Rattle.history.proofs.Reached.{Undamaged, madeWith}
 use Rattle.planning_theory.proofs.Play.{Run}
-use Rattle.planning_theory.proofs.EventStep.{After, event}
+use Rattle.planning_theory.proofs.Event.{After}
+use Rattle.planning_theory.proofs.EventStep.{event}
 use Rattle.planning_theory.proofs.Totals.{Grows, step-grows, play-grows, records-grow, notes-grow, backed-grows, backed-low, grows-trans}
 use Rattle.planning_theory.proofs.Slots.{free-slot, slotted-backed}
 use Rattle.planning_theory.proofs.Tally.{PendingCounted, Tally, tally-free}

@@ -35,7 +35,7 @@ use Rattle.history.proofs.Sections.{store-other, notes-high}
 use Rattle.history.proofs.Inv.{PendingOk}
 use Rattle.history.proofs.LogSteps.{oldest-is, oldest-fair}
 use Rattle.history.proofs.Context.{Ctx, sized, geo, len, few}
-use Rattle.history.proofs.Keeps.{some-pending}
+use Rattle.history.proofs.Forces.{some-pending}
 use Rattle.planning_theory.proofs.Play.{Run, Stage, rows-none, run-as, ctx-as}
 use Rattle.planning_theory.proofs.Relation.{backup-same}
 use Rattle.model.specs.declared.command.Command.the-variants.{Note as NoteCall}

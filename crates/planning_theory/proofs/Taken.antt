@@ -1,14 +1,14 @@
 -- A call that has room is taken: no row of its table holds.
 use mathlib.Core.Path.{_≡_, ap, _∙_}
 use mathlib.Core.Logic.{_≢_}
-use mathlib.Core.Bool.{Bool, true, false, not, _&&_, and-false}
+use mathlib.Core.Bool.{true, false, not, and-false}
 use mathlib.Core.List.{List, []}
 use Prim.Native.Nat.{ℕ, suc, _+_, _-_, _*_, _≤_, _<_}
 use native.Mathlib.Omega.{arith}
 use lib.ListN.{length}
 use lib.Dec.{eqb, leb}
 use borrow.Author.Tests.{eq-eqb, ne-eqb, eqb-false, le-ltb, lt-leb}
-use Rattle.laws.proofs.Tables.{byCases, and-both, or-left, or-right, within-holds, first-none}
+use Rattle.laws.proofs.Tables.{byCases, and-both, and-fails, or-left, or-right, within-holds, first-none}
 use Rattle.laws.proofs.Frames.{is-held}
 use Rattle.model.specs.Tables.{firstOf, within}
 use Rattle.model.specs.Change.{fits}
@@ -32,8 +32,9 @@ use Rattle.planning.specs.declared.rehearsal.Figures.{Figures}
 use Rattle.history.proofs.Logs.{lastAt, lastOf, last-le}
 use Rattle.history.proofs.Leaf.{frame-lsn}
 use Rattle.history.proofs.Sections.{Sized}
-use Rattle.history.proofs.Entries.{markAt, entryFrom}
-use Rattle.history.proofs.NoteScan.{index-is}
+use Rattle.history.proofs.Marks.{markAt}
+use Rattle.history.proofs.Entries.{entryFrom}
+use Rattle.history.proofs.NoteIndex.{index-is}
 use Rattle.history.proofs.Memory.{frame-count}
 use Rattle.history.proofs.Context.{Ctx, sized, geo, sum, few, body-size, last-entry, found-frame}
 use Rattle.history.proofs.Loads.{load-unbroken, load-granted}
@@ -65,9 +66,6 @@ module _ (g : Geometry) (z : Sized g) (v : List ℕ) (s : State) where
       lt-leb (mostNotes g) (s .notes) (byCases (ring g) (λ t. rw t (omega (arith, z .n-high))) (λ t. rw t b)) in
       let c : leb (g .notes) (s .notes) ≡ false = lt-leb (g .notes) (s .notes) b in
       rw (n, a, c) (and-false (ring g))
-
-either-false : (d b : Bool) → b ≡ false → (d && b) ≡ false
-either-false d b e = rw e (and-false d)
 
 -- ---- the tests that several calls share
 
@@ -147,12 +145,10 @@ module _ {C : Type 0} {g : Geometry} {v m : List ℕ} {past : List StoredItem} {
           (
             held-free x p f b e,
             (
-              either-false (pageDirty s p) (notePending (s .note))
-                  (ap notePending quiet),
+              and-fails (pageDirty s p) (ap notePending quiet),
               (
-                either-false (pageDirty s p) (notesFull (geometryOf v) v s)
-                    (last-free n),
-                (either-false (pageDirty s p) (notDurable m s p) (durable-free p f lo b e), tt),
+                and-fails (pageDirty s p) (last-free n),
+                (and-fails (pageDirty s p) (durable-free p f lo b e), tt),
               ),
             ),
           ),

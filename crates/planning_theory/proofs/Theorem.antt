@@ -36,7 +36,8 @@ use Rattle.planning_theory.proofs.Counts.{count-zero}
 use Rattle.planning_theory.proofs.Play.{Run, events-stay}
 use Rattle.planning_theory.proofs.Relation.{OnDisk}
 use Rattle.planning_theory.proofs.ChangeStep.{backup-low}
-use Rattle.planning_theory.proofs.EventStep.{After, event}
+use Rattle.planning_theory.proofs.Event.{After}
+use Rattle.planning_theory.proofs.EventStep.{event}
 
 -- ---- the events, one after the other
 

@@ -1,6 +1,7 @@
 // What a list costs, by frames, victim and backup habit.
 ghost use Prim.Native.Nat.{_≤_};
 use crate::lists::List;
+use codec::number::one64;
 use model::answer::Answer;
 use planning::rehearsal::Figures;
 use planning::rehearsal::Rehearsed;
@@ -44,19 +45,13 @@ fn bar(n: u64, mark: &[u8], each: u64) {
     }
 }
 
-fn one(holds: bool) -> u64
-    ensures { λ r. ⌜ r ≤ 1 ⌝ }
-{
-    if holds { 1 } else { 0 }
-}
-
 // How many pages were backed up.
 fn backed_up(pages: [Figures; 64]) -> u64
     ensures { λ r. ⌜ r ≤ 64 ⌝ }
 {
     let mut n: u64 = 0;
     for i in 0..64usize {
-        n = n + one(0 < pages[i].backups);
+        n = n + one64(0 < pages[i].backups);
     }
     n
 }

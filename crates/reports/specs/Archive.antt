@@ -27,20 +27,20 @@ abbrev pub joined : List (List ℕ) → List ℕ
 joined [] = []
 joined (r ∷ rs) = r ++ joined rs
 
--- a section: "after its count (4 bytes), the records inside by number"
-unfoldable pub sectionBytes : List (List ℕ) → List ℕ
-sectionBytes rs = bytesOf 4 (length rs) ++ joined rs
+-- a segment (document 02: a section): "after its count (4 bytes), the records inside by number"
+unfoldable pub segmentBytes : List (List ℕ) → List ℕ
+segmentBytes rs = bytesOf 4 (length rs) ++ joined rs
 
 -- an archive: "one section per page in page order"
 unfoldable pub archiveBytes : List (List (List ℕ)) → List ℕ
 archiveBytes [] = []
-archiveBytes (rs ∷ ss) = sectionBytes rs ++ archiveBytes ss
+archiveBytes (rs ∷ ss) = segmentBytes rs ++ archiveBytes ss
 
 -- ---- the length and the writer
 
--- the sections of "the durable records a restart finds"
-abbrev pub sectionsOf : List ℕ → List (List (List ℕ))
-sectionsOf v = tabulate (geometryOf v .pages) (λ i. heldRecords v (suc i))
+-- the segments of "the durable records a restart finds"
+abbrev pub segmentsOf : List ℕ → List (List (List ℕ))
+segmentsOf v = tabulate (geometryOf v .pages) (λ i. heldRecords v (suc i))
 
 -- "The exact length is told beforehand"
 abbrev pub archiveLength : List ℕ → ℕ
@@ -64,48 +64,48 @@ filledBy rows buffer done =
     (record { answer = Answer.Refused (firstOf rows); buffer = buffer })
 
 unfoldable pub archiveOf : List ℕ → List ℕ → Filled
-archiveOf v buffer = filledBy (archiveRows v (length buffer)) buffer (archiveBytes (sectionsOf v))
+archiveOf v buffer = filledBy (archiveRows v (length buffer)) buffer (archiveBytes (segmentsOf v))
 
 -- ---- the reader
 
--- a record of page p's section that may stand behind number `last` (0: none): it is linked as in a run from 1 on, and
+-- a record of page p's segment that may stand behind number `last` (0: none): it is linked as in a run from 1 on, and
 -- its number is above
-abbrev pub inSection : ℕ → ℕ → List ℕ → Bool
-inSection p last r =
+abbrev pub inSegment : ℕ → ℕ → List ℕ → Bool
+inSegment p last r =
     let e = recordOf r in
     all (sealed 60 r ∷ recordLayout r ∷ eqb (e .page) p ∷ linked 1 last e ∷ ltb last (e .lsn) ∷ [])
 
-unfoldable pub validSection : ℕ → ℕ → List (List ℕ) → Bool
-validSection p last [] = true
-validSection p last (r ∷ rs) = inSection p last r && validSection p (recordOf r .lsn) rs
+unfoldable pub validSegment : ℕ → ℕ → List (List ℕ) → Bool
+validSegment p last [] = true
+validSegment p last (r ∷ rs) = inSegment p last r && validSegment p (recordOf r .lsn) rs
 
--- the next n records, the section at the front, and what stands behind it
+-- the next n records, the segment at the front, and what stands behind it
 unfoldable pub recordsFrom : ℕ → List ℕ → List (List ℕ)
 recordsFrom zero a = []
 recordsFrom (suc n) a = take 64 a ∷ recordsFrom n (drop 64 a)
 
-abbrev pub frontSection : List ℕ → List (List ℕ)
-frontSection a = recordsFrom (le 4 a) (drop 4 a)
+abbrev pub frontSegment : List ℕ → List (List ℕ)
+frontSegment a = recordsFrom (le 4 a) (drop 4 a)
 
-abbrev pub pastSection : List ℕ → List ℕ
-pastSection a = drop (4 + 64 * le 4 a) a
+abbrev pub pastSegment : List ℕ → List ℕ
+pastSegment a = drop (4 + 64 * le 4 a) a
 
--- a section's count and its records fit what is left
-abbrev pub sectionFits : List ℕ → Bool
-sectionFits a = leb 4 (length a) && leb (64 * le 4 a) (length a - 4)
+-- a segment's count and its records fit what is left
+abbrev pub segmentFits : List ℕ → Bool
+segmentFits a = leb 4 (length a) && leb (64 * le 4 a) (length a - 4)
 
 -- an archive of k pages from page p on
 unfoldable pub validFrom : ℕ → ℕ → List ℕ → Bool
 validFrom zero p a = eqb (length a) 0
 validFrom (suc k) p a =
-    let rest = validFrom k (suc p) (pastSection a) in
-    all (sectionFits a ∷ validSection p 0 (frontSection a) ∷ rest ∷ [])
+    let rest = validFrom k (suc p) (pastSegment a) in
+    all (segmentFits a ∷ validSegment p 0 (frontSegment a) ∷ rest ∷ [])
 
 unfoldable pub partedFrom : ℕ → List ℕ → List (List (List ℕ))
 partedFrom zero a = []
-partedFrom (suc k) a = frontSection a ∷ partedFrom k (pastSection a)
+partedFrom (suc k) a = frontSegment a ∷ partedFrom k (pastSegment a)
 
--- a page from its section: replayed on zeros, "check bytes zero", "zeros for a blank page"
+-- a page from its segment: replayed on zeros, "check bytes zero", "zeros for a blank page"
 unfoldable pub replayRecords : List (List ℕ) → List ℕ → List ℕ
 replayRecords [] body = body
 replayRecords (r ∷ rs) body = replayRecords rs (applyRecord r body)
@@ -114,13 +114,13 @@ unfoldable pub lastNumberIn : ℕ → List (List ℕ) → ℕ
 lastNumberIn n [] = n
 lastNumberIn n (r ∷ rs) = lastNumberIn (recordOf r .lsn) rs
 
-abbrev pub sectionImage : ℕ → List (List ℕ) → List ℕ
-sectionImage p [] = replicate 256 0
-sectionImage p (r ∷ rs) = frameImage p (lastNumberIn 0 (r ∷ rs)) (replayRecords (r ∷ rs) zeroBody)
+abbrev pub segmentImage : ℕ → List (List ℕ) → List ℕ
+segmentImage p [] = replicate 256 0
+segmentImage p (r ∷ rs) = frameImage p (lastNumberIn 0 (r ∷ rs)) (replayRecords (r ∷ rs) zeroBody)
 
 unfoldable pub areaFrom : ℕ → List (List (List ℕ)) → List ℕ
 areaFrom p [] = []
-areaFrom p (rs ∷ ss) = sectionImage p rs ++ areaFrom (suc p) ss
+areaFrom p (rs ∷ ss) = segmentImage p rs ++ areaFrom (suc p) ss
 
 -- "2 if its length isn't 256 times 1 to 64"
 abbrev pub validArea : ℕ → Bool
@@ -135,27 +135,27 @@ readOf a area = filledBy (readRows a (length area)) area (areaFrom 1 (partedFrom
 
 -- ---- the number of pages, for a program that has no P
 
--- k sections were cut off: what is left is cut into at most s more; 0 where a section does not fit or something is left
+-- k segments were cut off: what is left is cut into at most s more; 0 where a segment does not fit or something is left
 unfoldable pub pagesFrom : ℕ → ℕ → List ℕ → ℕ
 pagesFrom zero k a = cond (eqb (length a) 0) k 0
 pagesFrom (suc s) k a =
-    let rest = pagesFrom s (suc k) (pastSection a) in
-    cond (eqb (length a) 0) k (cond (sectionFits a) rest 0)
+    let rest = pagesFrom s (suc k) (pastSegment a) in
+    cond (eqb (length a) 0) k (cond (segmentFits a) rest 0)
 
 abbrev pub archivePages : List ℕ → ℕ
 archivePages a = pagesFrom 64 0 a
 
--- the counts cut an archive into k sections, and nothing is left
+-- the counts cut an archive into k segments, and nothing is left
 unfoldable pub cutInto : ℕ → List ℕ → Bool
 cutInto zero a = eqb (length a) 0
-cutInto (suc k) a = sectionFits a && cutInto k (pastSection a)
+cutInto (suc k) a = segmentFits a && cutInto k (pastSegment a)
 
 -- ---- the claims, on any bytes
 
--- sections that obey the reader's rules
-unfoldable pub validSections : ℕ → List (List (List ℕ)) → Bool
-validSections p [] = true
-validSections p (rs ∷ ss) = validSection p 0 rs && validSections (suc p) ss
+-- segments that obey the reader's rules
+unfoldable pub validSegments : ℕ → List (List (List ℕ)) → Bool
+validSegments p [] = true
+validSegments p (rs ∷ ss) = validSegment p 0 rs && validSegments (suc p) ss
 
 abbrev pub imageAt : List ℕ → ℕ → List ℕ
 imageAt area p = part area (256 * (p - 1)) 256
@@ -168,18 +168,18 @@ sizeRefusal (Size.Bytes n) = 0
 -- (by which tables the calls are refused: `ReadingClaim`)
 pub record ArchiveClaim : Type 0 where
   -- "what the writer wrote must read back to the same records": as long as was told, taken by the reader, and cut into
-  -- the same sections
+  -- the same segments
   pub back : (v buffer : List ℕ) → archiveOf v buffer .answer ≡ Done
-      → (archiveOf v buffer .buffer ≡ archiveBytes (sectionsOf v))
+      → (archiveOf v buffer .buffer ≡ archiveBytes (segmentsOf v))
       × (length (archiveOf v buffer .buffer) ≡ archiveLength v)
       × (validFrom (geometryOf v .pages) 1 (archiveOf v buffer .buffer) ≡ true)
-      × (partedFrom (geometryOf v .pages) (archiveOf v buffer .buffer) ≡ sectionsOf v)
-  -- an archive that is taken is the bytes of its sections (of bytes: a count's four numbers are below 256), and fits
+      × (partedFrom (geometryOf v .pages) (archiveOf v buffer .buffer) ≡ segmentsOf v)
+  -- an archive that is taken is the bytes of its segments (of bytes: a count's four numbers are below 256), and fits
   -- one number of pages only
   pub only : (k : ℕ) (a : List ℕ) → Octets a → validFrom k 1 a ≡ true
-      → (archiveBytes (partedFrom k a) ≡ a) × (length (partedFrom k a) ≡ k) × (validSections 1 (partedFrom k a) ≡ true)
+      → (archiveBytes (partedFrom k a) ≡ a) × (length (partedFrom k a) ≡ k) × (validSegments 1 (partedFrom k a) ≡ true)
   pub pages : (j k : ℕ) (a : List ℕ) → validFrom j 1 a ≡ true → validFrom k 1 a ≡ true → j ≡ k
-  -- the number of pages is told: it is k exactly where the counts cut the archive into k sections, and so for an
+  -- the number of pages is told: it is k exactly where the counts cut the archive into k segments, and so for an
   -- archive that is taken
   pub cut : (k : ℕ) (a : List ℕ) → 1 ≤ k → k ≤ 64 → (archivePages a ≡ k) ↔ (cutInto k a ≡ true)
   pub told : (k : ℕ) (a : List ℕ) → 1 ≤ k → k ≤ 64 → validFrom k 1 a ≡ true → archivePages a ≡ k

@@ -184,8 +184,8 @@ pub record LongestCommon (k : ℕ) (xs ys : List Logged) : Type 0 where
 
 -- the two volumes that histories leave, compared and not refused; the counts of pages and all others may differ
 pub record MirrorHistory : Type 0 where
-  -- the answer is the comparison of the two kept lists
-  pub kept : (h k : History) → Legal h → Legal k
+  -- the answer is the comparison of the two lists of durable changes
+  pub durable : (h k : History) → Legal h → Legal k
       → mirrorRefusal (mirrorOf (reached h .volume) (reached k .volume) .answer) ≡ 0
       → LongestCommon (commonOf (reached h .volume) (reached k .volume)) (durableOf h) (durableOf k)
       × (durableIn (reached h .volume) ≡ length (durableOf h)) × (durableIn (reached k .volume) ≡ length (durableOf k))

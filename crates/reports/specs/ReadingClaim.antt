@@ -11,8 +11,10 @@ use Rattle.model.specs.Outcome.{refusalOf}
 use Rattle.model.specs.Demand1.{ByTable, Refuses}
 use Rattle.reports.specs.Examine.{examineRows, examineOf}
 use Rattle.reports.specs.Forecast.{counted, forecastOf, tellRows, tellForecast}
+use Rattle.reports.specs.Room.{noSpace, roomOf}
 use Rattle.reports.specs.Archive.{sizeOf, sizeRefusal, archiveRows, archiveOf, readRows, readOf}
 use Rattle.reports.specs.Mirror.{mirrorRows, mirrorOf, mirrorRefusal, compareRows, compareOf}
+use Rattle.reports.specs.declared.reading.Space.{Space}
 
 pub record ReadingClaim : Type 0 where
   pub forecast : (v : List ℕ)
@@ -20,6 +22,8 @@ pub record ReadingClaim : Type 0 where
   -- for C
   pub tells : (v figures : List ℕ)
       → Refuses (tellRows v (length figures)) (tellForecast v figures .refusal) (tellForecast v figures .figures) figures
+  pub room : (v : List ℕ)
+      → Refuses {A = Space × Space} (scanRows v) (roomOf v .refusal) (roomOf v .log, roomOf v .notes) (noSpace, noSpace)
   pub size : (v : List ℕ) → ByTable (wholeRows v []) (sizeRefusal (sizeOf v))
   pub writes : (v buffer : List ℕ)
       → Refuses (archiveRows v (length buffer)) (refusalOf (archiveOf v buffer .answer)) (archiveOf v buffer .buffer)

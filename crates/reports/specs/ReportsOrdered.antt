@@ -19,7 +19,7 @@ archiveExceptions = (24, 21) ∷ []
 pub record ReportsOrdered : Type 0 where
   -- inspection for C, with class, start and count
   pub examine : (v : List ℕ) (page size count : ℕ) → ordered inspectExceptions (examineRows v page size count) ≡ true
-  -- the forecast, and the same for C
+  -- the forecast and the room left, and the forecast for C
   pub forecast : (v : List ℕ) → ordered [] (scanRows v) ≡ true
   pub tell : (v : List ℕ) (size : ℕ) → ordered [] (tellRows v size) ≡ true
   -- the archive's length, writer and reader

@@ -14,7 +14,6 @@ use Rattle.model.specs.Scan.{logRecord, noteRecord}
 use Rattle.model.specs.State.{lastNumber, logFull, notesFull}
 use Rattle.model.specs.Restart.{restartState}
 use Rattle.reports.specs.Reading.{scanRows, Restarts}
-use Rattle.model.specs.Demand1.{ByTable}
 use Rattle.model.specs.declared.{geometry.Geometry.Geometry, state.State.State}
 use Rattle.reports.specs.declared.reading.Space.{Space}
 use Rattle.reports.specs.declared.reading.Room.{Room}
@@ -117,9 +116,8 @@ pub record Appended (v : List ℕ) (i : ℕ) (w : List ℕ) (s : State) : Type 0
   pub slot : (p : ℕ) → entryOf (s .index) p .slot ≡ entryOf (restartState v .index) p .slot
   pub backup : (p : ℕ) → entryOf (s .index) p .backup ≡ entryOf (restartState v .index) p .backup
 
+-- (by which table it is refused: `ReadingClaim`)
 pub record RoomClaim : Type 0 where
-  -- "refused 1, 17 and 18 as a restart is"
-  pub table : (v : List ℕ) → ByTable (scanRows v) (roomOf v .refusal)
   -- so many are taken, and then, short of a whole turn, the next one is refused
   pub records : (v : List ℕ) (i : ℕ) → Restarts v → i < roomOf v .log .count
       → logFullAfter (geometryOf v) v (restartState v) i ≡ false

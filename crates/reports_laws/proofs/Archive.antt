@@ -1,5 +1,5 @@
 -- The archive of a volume that restarts and whose record 1 is there: as long as was told, taken by the reader, and cut into the same
--- sections. The proof of `ArchiveClaim`.
+-- segments. The proof of `ArchiveClaim`.
 use mathlib.Core.Path.{_≡_, refl, sym, ap, _∙_, subst}
 use mathlib.Core.Bool.{Bool, true, false, cond, not}
 use mathlib.Core.List.{List, [], _∷_, _++_, append-nil}
@@ -14,25 +14,25 @@ use Rattle.laws.proofs.Tabulated.{tabulate-length}
 use Rattle.laws.proofs.Places.{valid-facts, item-length}
 use Rattle.laws.proofs.Ring.{slot-in}
 use Rattle.laws.proofs.Scanned.{Fit, newest, down, firstLsn, held-low, whole-start, whole-run, whole-few, whole-fits}
-use Rattle.reports_laws.proofs.ArchiveSections.{pages-one, valid-cut, counted-cut, Laid, section-length, parted-back, valid-back, only}
+use Rattle.reports_laws.proofs.ArchiveSegments.{pages-one, valid-cut, counted-cut, Laid, segment-length, parted-back, valid-back, only}
 use Rattle.model.specs.Tables.{Row, firstOf, tabulate}
 use Rattle.model.specs.Geometry.{geometryOf, validVolume, recordAt, slotOf, item, logSlot}
 use Rattle.model.specs.Item.{recordOf}
 use Rattle.model.specs.Scan.{logRecord, durableCount, firstHeld, gone, linked, validLog, validNotes}
 use Rattle.reports.specs.Reading.{wholeRows, pageRecords, heldRecords}
-use Rattle.reports.specs.Archive.{sectionBytes, archiveBytes, sectionsOf, archiveLength, archiveRows, filledBy, archiveOf, inSection, validSection, validFrom, partedFrom, lastNumberIn, validSections, ArchiveClaim}
+use Rattle.reports.specs.Archive.{segmentBytes, archiveBytes, segmentsOf, archiveLength, archiveRows, filledBy, archiveOf, inSegment, validSegment, validFrom, partedFrom, lastNumberIn, validSegments, ArchiveClaim}
 use Rattle.model.specs.declared.{geometry.Geometry.Geometry, answer.Answer.the-variants.Done}
 
--- ---- one section
+-- ---- one segment
 
--- a section with one record more
-valid-snoc : (p last : ℕ) (xs : List (List ℕ)) (r : List ℕ) → validSection p last xs ≡ true → inSection p (lastNumberIn last xs) r ≡ true
-    → validSection p last (xs ++ (r ∷ [])) ≡ true
-unfolding validSection lastNumberIn
+-- a segment with one record more
+valid-snoc : (p last : ℕ) (xs : List (List ℕ)) (r : List ℕ) → validSegment p last xs ≡ true → inSegment p (lastNumberIn last xs) r ≡ true
+    → validSegment p last (xs ++ (r ∷ [])) ≡ true
+unfolding validSegment lastNumberIn
 valid-snoc p last [] r h k = and-both k refl
 valid-snoc p last (x ∷ xs) r h k =
-    and-both (and-left (inSection p last x) (validSection p (recordOf x .lsn) xs) h)
-    (valid-snoc p (recordOf x .lsn) xs r (and-right (inSection p last x) (validSection p (recordOf x .lsn) xs) h) k)
+    and-both (and-left (inSegment p last x) (validSegment p (recordOf x .lsn) xs) h)
+    (valid-snoc p (recordOf x .lsn) xs r (and-right (inSegment p last x) (validSegment p (recordOf x .lsn) xs) h) k)
 
 pub last-snoc : (last : ℕ) (xs : List (List ℕ)) (r : List ℕ) → lastNumberIn last (xs ++ (r ∷ [])) ≡ recordOf r .lsn
 unfolding lastNumberIn
@@ -47,8 +47,8 @@ size-snoc (x ∷ xs) r h e zero l = h 0 (omega arith)
 size-snoc (x ∷ xs) r h e (suc i) l = size-snoc xs r (λ j m. h (suc j) (omega (arith, m))) e i (omega (arith, l))
 
 -- what page p's records among 1 to c are
-pub record Section (g : Geometry) (v : List ℕ) (p c : ℕ) : Type 0 where
-  pub valid : validSection p 0 (pageRecords g v p 1 c) ≡ true
+pub record Segment (g : Geometry) (v : List ℕ) (p c : ℕ) : Type 0 where
+  pub valid : validSegment p 0 (pageRecords g v p 1 c) ≡ true
   pub last : lastNumberIn 0 (pageRecords g v p 1 c) ≡ firstLsn (down g v p 1 c)
   pub size : (i : ℕ) → i < length (pageRecords g v p 1 c) → length (getD (pageRecords g v p 1 c) i []) ≡ 64
   pub few : length (pageRecords g v p 1 c) ≤ c
@@ -88,7 +88,7 @@ module _ (v : List ℕ) (h : Whole v) where
   module _ (p : ℕ) (low : 1 ≤ p) where
     -- record c + 1, of page p, may follow
     follows : (c : ℕ) → c < n → logRecord g v (1 + c) .page ≡ p
-        → inSection p (firstLsn (down g v p 1 c)) (item g v (logSlot g (1 + c))) ≡ true
+        → inSegment p (firstLsn (down g v p 1 c)) (item g v (logSlot g (1 + c))) ≡ true
     follows c b q =
         let f = ok c b in
         let e = logRecord g v (1 + c) in
@@ -98,23 +98,23 @@ module _ (v : List ℕ) (h : Whole v) where
         and-both (f .sealed-is)
         (and-both (f .layout) (and-both (eq-eqb (e .page) p q) (and-both l (lt-ltb (firstLsn (down g v p 1 c)) (e .lsn) rises))))
 
-    section : (c : ℕ) → c ≤ n → Section g v p c
-    unfolding pageRecords down firstLsn lastNumberIn validSection
-    section zero b = record { valid = refl; last = refl; size = λ i l. absurd (omega (arith, l)); few = omega arith }
-    section (suc c) b =
+    segment : (c : ℕ) → c ≤ n → Segment g v p c
+    unfolding pageRecords down firstLsn lastNumberIn validSegment
+    segment zero b = record { valid = refl; last = refl; size = λ i l. absurd (omega (arith, l)); few = omega arith }
+    segment (suc c) b =
         let r : List ℕ = item g v (logSlot g (1 + c)) in
         let xs : List (List ℕ) = pageRecords g v p 1 c in
         let ds : List (List ℕ) = down g v p 1 c in
-        let k = section c (omega (arith, b)) in
+        let k = segment c (omega (arith, b)) in
         byCases (eqb (logRecord g v (1 + c) .page) p)
         (λ t.
         let e : xs ++ cond (eqb (logRecord g v (1 + c) .page) p) (r ∷ []) [] ≡ xs ++ (r ∷ []) =
         ap (λ (l : List (List ℕ)). xs ++ l) (when-true (r ∷ []) [] t) in
         let d : cond (eqb (logRecord g v (1 + c) .page) p) (r ∷ ds) ds ≡ r ∷ ds = when-true (r ∷ ds) ds t in
-        let in-place : inSection p (lastNumberIn 0 xs) r ≡ true =
-        subst (λ (i : ℕ). inSection p i r ≡ true) (sym (k .last)) (follows c b (eqb-true _ p t)) in
+        let in-place : inSegment p (lastNumberIn 0 xs) r ≡ true =
+        subst (λ (i : ℕ). inSegment p i r ≡ true) (sym (k .last)) (follows c b (eqb-true _ p t)) in
         record {
-          valid = ap (λ (l : List (List ℕ)). validSection p 0 l) e ∙ valid-snoc p 0 xs r (k .valid) in-place;
+          valid = ap (λ (l : List (List ℕ)). validSegment p 0 l) e ∙ valid-snoc p 0 xs r (k .valid) in-place;
           last = ap (λ (l : List (List ℕ)). lastNumberIn 0 l) e ∙ last-snoc 0 xs r ∙ sym (ap firstLsn d);
           size = subst (λ (l : List (List ℕ)). (i : ℕ) → i < length l → length (getD l i []) ≡ 64) (sym e)
               (size-snoc xs r (k .size) (long c));
@@ -126,7 +126,7 @@ module _ (v : List ℕ) (h : Whole v) where
         ap (λ (l : List (List ℕ)). xs ++ l) (when-false (r ∷ []) [] t) ∙ append-nil xs in
         let d : cond (eqb (logRecord g v (1 + c) .page) p) (r ∷ ds) ds ≡ ds = when-false (r ∷ ds) ds t in
         record {
-          valid = ap (λ (l : List (List ℕ)). validSection p 0 l) e ∙ k .valid;
+          valid = ap (λ (l : List (List ℕ)). validSegment p 0 l) e ∙ k .valid;
           last = ap (λ (l : List (List ℕ)). lastNumberIn 0 l) e ∙ k .last ∙ sym (ap firstLsn d);
           size = subst (λ (l : List (List ℕ)). (i : ℕ) → i < length l → length (getD l i []) ≡ 64) (sym e) (k .size);
           few = subst (λ (l : List (List ℕ)). length l ≤ suc c) (sym e) (omega (arith, k .few));
@@ -135,13 +135,13 @@ module _ (v : List ℕ) (h : Whole v) where
     -- of the whole log
     laid : Laid (heldRecords v p)
     laid =
-        let k = section n (omega arith) in
+        let k = segment n (omega arith) in
         rw (held-is p) (record { size = k .size; few = omega (arith, k .few, whole-few g v (h .here), valid-facts v (h .volume) .l-high) })
 
-    in-order : validSection p 0 (heldRecords v p) ≡ true
-    in-order = rw (held-is p) (section n (omega arith) .valid)
+    in-order : validSegment p 0 (heldRecords v p) ≡ true
+    in-order = rw (held-is p) (segment n (omega arith) .valid)
 
--- ---- all sections
+-- ---- all segments
 
 tabulate-laid : (n : ℕ) (f : ℕ → List (List ℕ)) → ((i : ℕ) → Laid (f i)) → (i : ℕ) → i < length (tabulate n f)
     → Laid (getD (tabulate n f) i [])
@@ -150,27 +150,27 @@ tabulate-laid zero f h i l = absurd (omega (arith, l))
 tabulate-laid (suc n) f h zero l = h 0
 tabulate-laid (suc n) f h (suc i) l = tabulate-laid n (λ j. f (suc j)) (λ j. h (suc j)) i (omega (arith, l))
 
-tabulate-valid : (n p : ℕ) (f : ℕ → List (List ℕ)) → ((i : ℕ) → validSection (p + i) 0 (f i) ≡ true) → validSections p (tabulate n f) ≡ true
-unfolding tabulate validSections
+tabulate-valid : (n p : ℕ) (f : ℕ → List (List ℕ)) → ((i : ℕ) → validSegment (p + i) 0 (f i) ≡ true) → validSegments p (tabulate n f) ≡ true
+unfolding tabulate validSegments
 tabulate-valid zero p f h = refl
 tabulate-valid (suc n) p f h =
     let z : p + 0 ≡ p = omega arith in
-    and-both (subst (λ (i : ℕ). validSection i 0 (f 0) ≡ true) z (h 0))
+    and-both (subst (λ (i : ℕ). validSegment i 0 (f 0) ≡ true) z (h 0))
     (tabulate-valid n (suc p) (λ i. f (suc i))
-    (λ i. let e : p + suc i ≡ suc p + i = omega arith in subst (λ (j : ℕ). validSection j 0 (f (suc i)) ≡ true) e (h (suc i))))
+    (λ i. let e : p + suc i ≡ suc p + i = omega arith in subst (λ (j : ℕ). validSegment j 0 (f (suc i)) ≡ true) e (h (suc i))))
 
 pub written-back : (v : List ℕ) → Whole v
-    → (validFrom (geometryOf v .pages) 1 (archiveBytes (sectionsOf v)) ≡ true)
-    × (partedFrom (geometryOf v .pages) (archiveBytes (sectionsOf v)) ≡ sectionsOf v)
+    → (validFrom (geometryOf v .pages) 1 (archiveBytes (segmentsOf v)) ≡ true)
+    × (partedFrom (geometryOf v .pages) (archiveBytes (segmentsOf v)) ≡ segmentsOf v)
 written-back v h =
     let f : ℕ → List (List ℕ) = λ i. heldRecords v (suc i) in
     let k = tabulate-laid (geometryOf v .pages) f (λ i. laid v h (suc i) (omega arith)) in
     let s = tabulate-valid (geometryOf v .pages) 1 f
-    (λ i. let e : suc i ≡ 1 + i = omega arith in subst (λ (j : ℕ). validSection j 0 (f i) ≡ true) e (in-order v h (suc i) (omega arith))) in
+    (λ i. let e : suc i ≡ 1 + i = omega arith in subst (λ (j : ℕ). validSegment j 0 (f i) ≡ true) e (in-order v h (suc i) (omega arith))) in
     let n = tabulate-length (geometryOf v .pages) f in
-    (rw n at (valid-back 1 (sectionsOf v) k s), rw n at (parted-back (sectionsOf v) k))
+    (rw n at (valid-back 1 (segmentsOf v) k s), rw n at (parted-back (segmentsOf v) k))
 
--- ---- the length: each record is in one section
+-- ---- the length: each record is in one segment
 
 -- the sum of f below n
 sum : ℕ → (ℕ → ℕ) → ℕ
@@ -233,11 +233,11 @@ archive-long : (n : ℕ) (f : ℕ → List (List ℕ)) → ((i : ℕ) → Laid (
 unfolding archiveBytes tabulate sum
 archive-long zero f h = refl
 archive-long (suc n) f h =
-    let a = section-length (f 0) (h 0) [] in
+    let a = segment-length (f 0) (h 0) [] in
     let b = archive-long n (λ i. f (suc i)) (λ i. h (suc i)) in
-    length-append (sectionBytes (f 0)) (archiveBytes (tabulate n (λ i. f (suc i)))) ∙ omega (arith, a, b)
+    length-append (segmentBytes (f 0)) (archiveBytes (tabulate n (λ i. f (suc i)))) ∙ omega (arith, a, b)
 
-pub long-as-told : (v : List ℕ) → Whole v → length (archiveBytes (sectionsOf v)) ≡ archiveLength v
+pub long-as-told : (v : List ℕ) → Whole v → length (archiveBytes (segmentsOf v)) ≡ archiveLength v
 long-as-told v h =
     let g = geometryOf v in
     let n = durableCount g v in
@@ -256,11 +256,11 @@ module _ (rows : List Row) (numbered : Numbered rows) (buffer done : List ℕ) w
       (λ t. rw t (λ e. let z : _≡_ {A = ℕ} 0 1 = cc in absurd (omega arith)))
 
 -- a writer that is not refused: record 1 is there, and the buffer holds the archive
-pub wrote : (v x : List ℕ) → archiveOf v x .answer ≡ Done → Whole v × (archiveOf v x .buffer ≡ archiveBytes (sectionsOf v))
+pub wrote : (v x : List ℕ) → archiveOf v x .answer ≡ Done → Whole v × (archiveOf v x .buffer ≡ archiveBytes (segmentsOf v))
 unfolding archiveOf archiveRows
 wrote v x h =
     let rows = wholeRows v ((not (eqb (length x) (archiveLength v)), 21) ∷ []) in
-    let d = filled-done rows (omega arith) x (archiveBytes (sectionsOf v)) h in
+    let d = filled-done rows (omega arith) x (archiveBytes (segmentsOf v)) h in
     let none = none-at rows (omega arith) (d .0) in
     (record { volume = not-false _ (none 0); log = not-false _ (none 1); notes = not-false _ (none 2); here = none 3 }, d .1)
 

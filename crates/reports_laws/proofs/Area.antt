@@ -1,4 +1,4 @@
--- The area that the reader fills: image p is that of section p, whatever archive is taken.
+-- The area that the reader fills: image p is that of segment p, whatever archive is taken.
 use mathlib.Core.Path.{_≡_, refl, sym, ap, _∙_}
 use mathlib.Core.Bool.{true, not}
 use mathlib.Core.List.{List, [], _∷_, _++_}
@@ -12,7 +12,7 @@ use Rattle.laws.proofs.Tables.{byCases, all-at, none-at, and-left, and-right, w
 use Rattle.laws.proofs.Parts.{part-length}
 use Rattle.laws.proofs.Items.{frameImage-length}
 use Rattle.laws.proofs.Changes.{Fits, fits-facts}
-use Rattle.reports_laws.proofs.ArchiveSections.{here-fits, here-valid, rest-valid, fits-left}
+use Rattle.reports_laws.proofs.ArchiveSegments.{here-fits, here-valid, rest-valid, fits-left}
 use Rattle.reports_laws.proofs.Archive.{filled-done}
 use Rattle.model.specs.Tables.{Row}
 use Rattle.model.specs.Bytes.{le, part, allZero, byteAt}
@@ -20,7 +20,7 @@ use Rattle.model.specs.Checksum.{sealed}
 use Rattle.model.specs.Change.{zeroBody, changeOf, changeFits, applyChange}
 use Rattle.model.specs.Item.{recordOf, recordLayout, payloadOf, applyRecord}
 use Rattle.model.specs.Scan.{linked}
-use Rattle.reports.specs.Archive.{inSection, validSection, recordsFrom, frontSection, pastSection, validFrom, partedFrom, replayRecords, lastNumberIn, sectionImage, areaFrom, validArea, readRows, readOf, imageAt}
+use Rattle.reports.specs.Archive.{inSegment, validSegment, recordsFrom, frontSegment, pastSegment, validFrom, partedFrom, replayRecords, lastNumberIn, segmentImage, areaFrom, validArea, readRows, readOf, imageAt}
 use Rattle.model.specs.declared.answer.Answer.the-variants.{Done}
 
 -- ---- the length of an image
@@ -50,20 +50,20 @@ record-long r body h l e =
 abbrev pub Sized : List (List ℕ) → Type 0
 Sized rs = (i : ℕ) → i < length rs → length (getD rs i []) ≡ 64
 
-replay-long : (p last : ℕ) (rs : List (List ℕ)) (body : List ℕ) → validSection p last rs ≡ true → Sized rs → length body ≡ 244
+replay-long : (p last : ℕ) (rs : List (List ℕ)) (body : List ℕ) → validSegment p last rs ≡ true → Sized rs → length body ≡ 244
     → length (replayRecords rs body) ≡ 244
-unfolding validSection replayRecords
+unfolding validSegment replayRecords
 replay-long p last [] body h s e = e
 replay-long p last (r ∷ rs) body h s e =
     let x = recordOf r in
-    let t = and-left (inSection p last r) (validSection p (x .lsn) rs) h in
+    let t = and-left (inSegment p last r) (validSegment p (x .lsn) rs) h in
     let l = all-at (sealed 60 r ∷ recordLayout r ∷ eqb (x .page) p ∷ linked 1 last x ∷ ltb last (x .lsn) ∷ []) 1 t in
-    replay-long p (x .lsn) rs (applyRecord r body) (and-right (inSection p last r) (validSection p (x .lsn) rs) h)
+    replay-long p (x .lsn) rs (applyRecord r body) (and-right (inSegment p last r) (validSegment p (x .lsn) rs) h)
     (λ i b. s (suc i) (omega arith)) (record-long r body l (s 0 (omega arith)) e)
 
-section-long : (p : ℕ) (rs : List (List ℕ)) → validSection p 0 rs ≡ true → Sized rs → length (sectionImage p rs) ≡ 256
-section-long p [] h s = length-replicate {A = ℕ} 256 0
-section-long p (r ∷ rs) h s =
+segment-long : (p : ℕ) (rs : List (List ℕ)) → validSegment p 0 rs ≡ true → Sized rs → length (segmentImage p rs) ≡ 256
+segment-long p [] h s = length-replicate {A = ℕ} 256 0
+segment-long p (r ∷ rs) h s =
     frameImage-length p (lastNumberIn 0 (r ∷ rs)) (replayRecords (r ∷ rs) zeroBody)
     (replay-long p 0 (r ∷ rs) zeroBody h s (length-replicate {A = ℕ} 244 0))
 
@@ -83,40 +83,40 @@ part-front : (x rest : List ℕ) → length x ≡ 256 → part (x ++ rest) 0 256
 unfolding part
 part-front x rest e = take-at x rest 256 e
 
--- image i of an area whose sections' images have their length
-area-at : (q : ℕ) (ss : List (List (List ℕ))) → ((i : ℕ) → i < length ss → length (sectionImage (q + i) (getD ss i [])) ≡ 256)
-    → (i : ℕ) → i < length ss → part (areaFrom q ss) (256 * i) 256 ≡ sectionImage (q + i) (getD ss i [])
+-- image i of an area whose segments' images have their length
+area-at : (q : ℕ) (ss : List (List (List ℕ))) → ((i : ℕ) → i < length ss → length (segmentImage (q + i) (getD ss i [])) ≡ 256)
+    → (i : ℕ) → i < length ss → part (areaFrom q ss) (256 * i) 256 ≡ segmentImage (q + i) (getD ss i [])
 unfolding areaFrom
 area-at q [] h i b = absurd (omega arith)
 area-at q (rs ∷ ss) h zero b =
     let z : q + 0 ≡ q = omega arith in
-    let e : length (sectionImage q rs) ≡ 256 = rw z at (h 0 (omega arith)) in
-    rw z (part-front (sectionImage q rs) (areaFrom (suc q) ss) e)
+    let e : length (segmentImage q rs) ≡ 256 = rw z at (h 0 (omega arith)) in
+    rw z (part-front (segmentImage q rs) (areaFrom (suc q) ss) e)
 area-at q (rs ∷ ss) h (suc i) b =
     let z : q + 0 ≡ q = omega arith in
     let m : 256 * suc i ≡ 256 + 256 * i = omega arith in
     let s : q + suc i ≡ suc q + i = omega arith in
-    let e : length (sectionImage q rs) ≡ 256 = rw z at (h 0 (omega arith)) in
-    rw (m, s) (part-behind (sectionImage q rs) (areaFrom (suc q) ss) (256 * i) e
+    let e : length (segmentImage q rs) ≡ 256 = rw z at (h 0 (omega arith)) in
+    rw (m, s) (part-behind (segmentImage q rs) (areaFrom (suc q) ss) (256 * i) e
     ∙ area-at (suc q) ss (λ j c. let t : q + suc j ≡ suc q + j = omega arith in rw t at (h (suc j) (omega arith))) i (omega arith))
 
 parted-long : (k p : ℕ) (a : List ℕ) → validFrom k p a ≡ true → (i : ℕ) → i < k
-    → length (sectionImage (p + i) (getD (partedFrom k a) i [])) ≡ 256
+    → length (segmentImage (p + i) (getD (partedFrom k a) i [])) ≡ 256
 unfolding partedFrom
 parted-long zero p a h i b = absurd (omega arith)
 parted-long (suc k) p a h zero b =
     let z : p + 0 ≡ p = omega arith in
     let f = fits-left a (here-fits k p a h) in
-    rw z (section-long p (frontSection a) (here-valid k p a h)
+    rw z (segment-long p (frontSegment a) (here-valid k p a h)
     (records-sized (le 4 a) (drop 4 a) (simp length-drop (omega (arith, f .0, f .1)))))
 parted-long (suc k) p a h (suc i) b =
     let s : p + suc i ≡ suc p + i = omega arith in
-    rw s (parted-long k (suc p) (pastSection a) (rest-valid k p a h) i (omega arith))
+    rw s (parted-long k (suc p) (pastSegment a) (rest-valid k p a h) i (omega arith))
 
 pub parted-length : (k : ℕ) (a : List ℕ) → length (partedFrom k a) ≡ k
 unfolding partedFrom
 parted-length zero a = refl
-parted-length (suc k) a = ap suc (parted-length k (pastSection a))
+parted-length (suc k) a = ap suc (parted-length k (pastSegment a))
 
 -- ---- a reader that is not refused
 
@@ -138,9 +138,9 @@ module _ (k : ℕ) (a area : List ℕ) (size : length area ≡ 256 * k) where
       let v : validFrom (length area / 256) 1 a ≡ true = not-false _ (none 1) in
       (rw pages-are at v, d .1 ∙ ap (λ (j : ℕ). areaFrom 1 (partedFrom j a)) pages-are)
 
-  -- image p is that of section p
+  -- image p is that of segment p
   pub read-image : readOf a area .answer ≡ Done → (p : ℕ) → 1 ≤ p → p ≤ k
-      → imageAt (readOf a area .buffer) p ≡ sectionImage p (getD (partedFrom k a) (p - 1) [])
+      → imageAt (readOf a area .buffer) p ≡ segmentImage p (getD (partedFrom k a) (p - 1) [])
   read-image e p low high =
       let r = read-valid e in
       let m : 1 + (p - 1) ≡ p = omega arith in

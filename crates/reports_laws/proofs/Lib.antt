@@ -1,6 +1,6 @@
 pub mod Scans
 pub mod Forecast
-pub mod ArchiveSections
+pub mod ArchiveSegments
 pub mod Archive
 pub mod Area
 pub mod Mirror

@@ -17,11 +17,14 @@ use Rattle.model.specs.Demand1.{ByTable, Refuses}
 use Rattle.reports.specs.Reading.{scanRows, wholeRows}
 use Rattle.reports.specs.Examine.{Examined, examineRows, examineOf}
 use Rattle.reports.specs.Forecast.{counted, forecastOf, Told, tellRows, tellForecast}
+use Rattle.reports.specs.Room.{noSpace, roomOf}
 use Rattle.reports.specs.Archive.{sizeOf, sizeRefusal, Filled, archiveRows, archiveOf, readRows, readOf}
 use Rattle.reports.specs.Mirror.{mirrorRows, mirrorOf, mirrorRefusal, CompareReport, compareRows, compareOf}
 use Rattle.reports.specs.ReadingClaim.{ReadingClaim}
 use Rattle.reports.specs.declared.reading.Forecast.{Forecast}
+use Rattle.reports.specs.declared.reading.Room.{Room}
 use Rattle.reports.specs.declared.reading.Size.{Size}
+use Rattle.reports.specs.declared.reading.Space.{Space}
 use Rattle.laws.proofs.Refuses.{by-rows}
 
 forecasts : (v : List ℕ) → Refuses (scanRows v) (forecastOf v .refusal) (forecastOf v .pages) (replicate 64 (counted 0))
@@ -31,6 +34,13 @@ forecasts v = by-rows (scanRows v) (omega arith) (λ (r : Forecast). r .refusal)
 tells : (v x : List ℕ) → Refuses (tellRows v (length x)) (tellForecast v x .refusal) (tellForecast v x .figures) x
 unfolding tellForecast
 tells v x = by-rows (tellRows v (length x)) (omega arith) (λ (r : Told). r .refusal) (λ (r : Told). r .figures) _ _ _ refl refl refl
+
+rooms : (v : List ℕ)
+    → Refuses {A = Space × Space} (scanRows v) (roomOf v .refusal) (roomOf v .log, roomOf v .notes) (noSpace, noSpace)
+unfolding roomOf
+rooms v =
+    by-rows {A = Space × Space} (scanRows v) (omega arith) (λ (r : Room). r .refusal) (λ (r : Room). (r .log, r .notes)) _ _
+    (noSpace, noSpace) refl refl refl
 
 sizes : (v : List ℕ) → ByTable (wholeRows v []) (sizeRefusal (sizeOf v))
 unfolding sizeOf
@@ -77,6 +87,7 @@ readings =
     record {
       forecast = forecasts;
       tells = tells;
+      room = rooms;
       size = sizes;
       writes = writes;
       reads = reads;

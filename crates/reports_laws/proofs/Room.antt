@@ -1,12 +1,11 @@
 -- What room a volume has: the first refused number, and the claims.
 use Prim.Native.Nat.{ℕ, suc, _+_, _-_, _≤_, _<_}
-use mathlib.Core.Path.{_≡_, refl, sym}
+use mathlib.Core.Path.{_≡_, refl}
 use mathlib.Core.Bool.{true, false}
 use mathlib.Core.List.{List}
 use native.Mathlib.Omega.{arith}
-use lib.Dec.{eqb, leb}
-use borrow.Author.Tests.{eq-eqb, eqb-true, leb-true}
-use Rattle.laws.proofs.Decided.{by-table}
+use lib.Dec.{leb}
+use borrow.Author.Tests.{eq-eqb, leb-true}
 use Rattle.laws.proofs.Tables.{byCases}
 use Rattle.laws.proofs.Search.{first-from}
 use Rattle.model.specs.Tables.{firstOf}
@@ -67,10 +66,6 @@ module _ (v w : List ℕ) (s : State) (i : ℕ) (few : i < geometryOf v .records
 
 -- ---- the claims
 
-number-told : (v : List ℕ) → roomOf v .refusal ≡ firstOf (scanRows v)
-unfolding roomOf
-number-told v = byCases (eqb (firstOf (scanRows v)) 0) (λ t. rw t (sym (eqb-true (firstOf (scanRows v)) 0 t))) (λ t. rw t)
-
 records : (v : List ℕ) (i : ℕ) → Restarts v → i < roomOf v .log .count → logFullAfter (geometryOf v) v (restartState v) i ≡ false
 records v i h l = first-from (logFullAfter (geometryOf v) v (restartState v)) (geometryOf v .records) 0 .before i (omega arith) (rw (count-is v h) at l)
 
@@ -92,7 +87,6 @@ filled v h l =
 pub room : RoomClaim
 room =
     record {
-      table = λ v. by-table (scanRows v) (omega arith) (roomOf v .refusal) (number-told v);
       records = records;
       full = full;
       notes = notes;

@@ -1,4 +1,4 @@
--- Two volumes that restart and have the same page: what inspection answers is the same, and the page's section of the archive. The end of
+-- Two volumes that restart and have the same page: what inspection answers is the same, and the page's segment of the archive. The end of
 -- the proof of `NeighboursClaim`.
 use mathlib.Core.Path.{_≡_, sym, ap, _∙_}
 use mathlib.Core.Logic.{_≢_, inl, inr, _↔_}
@@ -152,12 +152,12 @@ module _ (v w : List ℕ) (hv : Restarts v) (hw : Restarts w) (low : SameLowest 
       (sym (writer-number w y hw))) in
       writer-answer v x ∙ (ap answered q ∙ sym (writer-answer w y))
 
--- ---- its sections
+-- ---- its segments
 
--- section p as it is cut from what the writer wrote
-section-cut : (v x : List ℕ) (p : ℕ) → 1 ≤ p → p ≤ geometryOf v .pages → archiveOf v x .answer ≡ Done
+-- segment p as it is cut from what the writer wrote
+segment-cut : (v x : List ℕ) (p : ℕ) → 1 ≤ p → p ≤ geometryOf v .pages → archiveOf v x .answer ≡ Done
     → getD (partedFrom (geometryOf v .pages) (archiveOf v x .buffer)) (p - 1) [] ≡ heldRecords v p
-section-cut v x p lo hi e =
+segment-cut v x p lo hi e =
     let q = wrote v x e in
     let m : suc (p - 1) ≡ p = omega arith in
     rw (q .1, written-back v (q .0) .1, tabulate-at (geometryOf v .pages) (p - 1) (λ i. heldRecords v (suc i)) [] (omega arith), m)
@@ -167,9 +167,9 @@ neighbours =
     record {
       inspect = λ v w hv hw p same x y size. (answers v w hv hw p same x y size, buffers v w hv hw p same x y size);
       refusals = λ v w hv hw p same low. (sizes-alike v w hv hw low, writers-alike v w hv hw low);
-      section = λ v w p same lo hi x y a b.
+      segment = λ v w p same lo hi x y a b.
           let hi′ : p ≤ geometryOf w .pages = rw (same .pages) at hi in
-          section-cut v x p lo hi a ∙ same .chain ∙ sym (section-cut w y p lo hi′ b);
+          segment-cut v x p lo hi a ∙ same .chain ∙ sym (segment-cut w y p lo hi′ b);
       image = λ j k p a b area room sa sb da db lo hj hk e.
           read-image j a area sa da p lo hj ∙ rw e (sym (read-image k b room sb db p lo hk));
     }

@@ -1,4 +1,4 @@
--- The archive after a history: each section is the page's kept changes, so what is rebuilt from it is the page's replay, as inspection
+-- The archive after a history: each segment is the page's kept changes, so what is rebuilt from it is the page's replay, as inspection
 -- shows.
 use mathlib.Core.Path.{_≡_, refl, sym, ap, _∙_}
 use mathlib.Core.Logic.{_≢_}
@@ -24,7 +24,7 @@ use Rattle.model.specs.Scan.{logRecord, gone}
 use Rattle.reports.specs.Reading.{pageRecords, heldRecords}
 use Rattle.model.specs.AbstractLog.{Logged, lastPlace, replay}
 use Rattle.model.specs.Claim.{History, Legal, reached, durableOf, inspection, Gone, Inspects}
-use Rattle.reports.specs.Archive.{archiveBytes, sectionsOf, archiveOf, replayRecords, lastNumberIn, sectionImage, readOf, imageAt, Rebuilds, ArchiveHistory}
+use Rattle.reports.specs.Archive.{archiveBytes, segmentsOf, archiveOf, replayRecords, lastNumberIn, segmentImage, readOf, imageAt, Rebuilds, ArchiveHistory}
 use Rattle.model.specs.declared.{geometry.Geometry.Geometry, item.LogRecord.LogRecord, item.Note.Note}
 use Rattle.model.specs.declared.answer.Answer.the-variants.{Done}
 use Rattle.history.proofs.Logs.{at, lastAt, replayAt, last-hit, last-miss, replay-hit, replay-miss, replay-is, last-is}
@@ -34,7 +34,7 @@ use Rattle.history.proofs.LogScan.{first, started, rec-at, durable-count, not-g
 use Rattle.history.proofs.Reached.{present, tied}
 use Rattle.history.proofs.Theorem.{demand2}
 
--- ---- a section with one record more
+-- ---- a segment with one record more
 
 replay-snoc : (xs : List (List ℕ)) (r body : List ℕ) → replayRecords (xs ++ (r ∷ [])) body ≡ applyRecord r (replayRecords xs body)
 unfolding replayRecords
@@ -89,12 +89,12 @@ module _ {C : Type 0} (g : Geometry) (v : List ℕ) (k : List Logged) (h : Holds
         some = λ z. i .some (λ e. z (l ∙ e));
       })))
 
--- the image of a section that is empty, and of one that is not
-image-none : (p : ℕ) (rs : List (List ℕ)) → length rs ≡ 0 → sectionImage p rs ≡ replicate 256 0
+-- the image of a segment that is empty, and of one that is not
+image-none : (p : ℕ) (rs : List (List ℕ)) → length rs ≡ 0 → segmentImage p rs ≡ replicate 256 0
 image-none p [] e = refl
 image-none p (r ∷ rs) e = absurd (omega arith)
 
-image-some : (p : ℕ) (rs : List (List ℕ)) → 1 ≤ length rs → sectionImage p rs ≡ frameImage p (lastNumberIn 0 rs) (replayRecords rs zeroBody)
+image-some : (p : ℕ) (rs : List (List ℕ)) → 1 ≤ length rs → segmentImage p rs ≡ frameImage p (lastNumberIn 0 rs) (replayRecords rs zeroBody)
 image-some p [] e = absurd (omega arith)
 image-some p (r ∷ rs) e = refl
 
@@ -116,15 +116,15 @@ module _ (p n : ℕ) (body : List ℕ) (size : length body ≡ 244) where
 -- ---- a history
 
 module _ (h : History) (legal : Legal h) (x : List ℕ) (done : archiveOf (reached h .volume) x .answer ≡ Done) where
-  written : Whole (reached h .volume) × (archiveOf (reached h .volume) x .buffer ≡ archiveBytes (sectionsOf (reached h .volume)))
+  written : Whole (reached h .volume) × (archiveOf (reached h .volume) x .buffer ≡ archiveBytes (segmentsOf (reached h .volume)))
   written = wrote (reached h .volume) x done
 
   heading : geometryOf (reached h .volume) ≡ present h
   heading = tied h legal .holds .vol .geo
 
-  -- page p's section holds its changes
-  section-is : (p : ℕ) → Replayed p (durableOf h) (length (durableOf h)) (heldRecords (reached h .volume) p)
-  section-is p =
+  -- page p's segment holds its changes
+  segment-is : (p : ℕ) → Replayed p (durableOf h) (length (durableOf h)) (heldRecords (reached h .volume) p)
+  segment-is p =
       let i = tied h legal in
       let w : gone (present h) (reached h .volume) ≡ false = rw heading at (written .0 .here) in
       let n = durable-count (present h) (reached h .volume) (durableOf h) (i .holds) (i .ns) (i .noted) in
@@ -139,12 +139,12 @@ module _ (h : History) (legal : Legal h) (x : List ℕ) (done : archiveOf (reach
     reads =
         let f = valid-facts (reached h .volume) (written .0 .volume) in
         rw (written .1) (read-done (geometryOf (reached h .volume) .pages)
-        (archiveBytes (sectionsOf (reached h .volume))) area sized (f .p-low) (f .p-high)
+        (archiveBytes (segmentsOf (reached h .volume))) area sized (f .p-low) (f .p-high)
         (written-back (reached h .volume) (written .0) .0))
 
     module _ (p : ℕ) (lo : 1 ≤ p) (hi : p ≤ h .pages) where
       image-is : imageAt (readOf (archiveOf (reached h .volume) x .buffer) area .buffer) p
-          ≡ sectionImage p (heldRecords (reached h .volume) p)
+          ≡ segmentImage p (heldRecords (reached h .volume) p)
       image-is =
           let w = reached h .volume in
           let P = geometryOf w .pages in
@@ -156,13 +156,13 @@ module _ (h : History) (legal : Legal h) (x : List ℕ) (done : archiveOf (reach
 
       blank-image : lastPlace p (durableOf h) ≡ 0
           → imageAt (readOf (archiveOf (reached h .volume) x .buffer) area .buffer) p ≡ replicate 256 0
-      blank-image z = image-is ∙ image-none p (heldRecords (reached h .volume) p) (section-is p .none (sym (last-is p (durableOf h)) ∙ z))
+      blank-image z = image-is ∙ image-none p (heldRecords (reached h .volume) p) (segment-is p .none (sym (last-is p (durableOf h)) ∙ z))
 
       durable-image : lastPlace p (durableOf h) ≢ 0
           → imageAt (readOf (archiveOf (reached h .volume) x .buffer) area .buffer) p
           ≡ frameImage p (lastPlace p (durableOf h)) (replay p (durableOf h))
       durable-image z =
-          let s = section-is p in
+          let s = segment-is p in
           image-is
           ∙ (image-some p (heldRecords (reached h .volume) p) (s .some (λ e. z (last-is p (durableOf h) ∙ e)))
           ∙ rw (s .body-is, s .last-of, last-is p (durableOf h), replay-is p (durableOf h)))

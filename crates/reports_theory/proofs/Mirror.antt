@@ -1,122 +1,34 @@
--- Two histories whose logs are held against each other: the records that are the same change are the same kept changes, and a page that is
--- not listed has the same replay in both.
+-- Two histories whose logs are held against each other: the records that are the same change are the same kept changes,
+-- and a page that is not listed has the same replay in both.
 use mathlib.Core.Path.{_≡_, refl, sym, ap, _∙_}
 use mathlib.Core.Logic.{_≢_, _⊎_, inl, inr}
 use mathlib.Core.Bool.{true, false}
-use mathlib.Core.List.{List, [], _∷_, _++_}
+use mathlib.Core.List.{List, [], _∷_}
 use Prim.Native.Nat.{ℕ, zero, suc, _+_, _-_, _≤_, _<_}
 use native.Mathlib.Omega.{arith}
 use native.Mathlib.Decide.{decLt, ℕ-discrete}
 use lib.ListN.{length, take, drop, length-append, List·getD-append, take-append-drop}
-use lib.Seq.{length-take-le, take-all}
+use lib.Seq.{length-take-le}
 use lib.Dec.{eqb}
 use borrow.Author.Tests.{eqb-true}
 use Rattle.laws.proofs.Tables.{byCases, true-not-false}
-use Rattle.laws.proofs.Parts.{same-bytes, bytes-same}
-use Rattle.laws.proofs.Checksums.{withSum-length}
-use Rattle.laws.proofs.Items.{with-part}
-use Rattle.laws.proofs.Changes.{fits-facts, change-back, padded-bytes, Encodes, encoded-length, encoded-back, encoded-payload}
-use Rattle.reports_laws.proofs.Mirror.{common, Both, both, answer-is, listed-exact, field-same, byte-same, payload-same}
-use Rattle.model.specs.Bytes.{bytesOf, part}
-use Rattle.model.specs.Checksum.{checksum, withChecksum}
+use Rattle.reports_laws.proofs.Mirror.{common, Both, both, answer-is, listed-exact}
 use Rattle.model.specs.Geometry.{topNumber, geometryOf}
-use Rattle.model.specs.Change.{kindOf, lengthOf, offsetOf, fillOf}
-use Rattle.model.specs.Item.{recordOf, recordFor, payloadOf, padded, recordBytes, encodeChange}
 use Rattle.model.specs.Scan.{logRecord, gone}
 use Rattle.model.specs.AbstractLog.{Logged, lastPlace, replay}
 use Rattle.model.specs.Claim.{History, Legal, reached, durableOf, inspection, ShowsReplay, Agree, Begins}
-use Rattle.reports.specs.Mirror.{sameChange, recordIn, durableIn, commonOf, comparison, mirrorOf, mirrorRefusal, listed, LongestCommon, MirrorHistory}
-use Rattle.model.specs.declared.{change.Change.Change, item.LogRecord.LogRecord}
+use Rattle.reports.specs.Mirror.{sameChange, recordIn, durableIn, commonOf, comparison, mirrorOf, mirrorRefusal, listed}
+use Rattle.reports.specs.Mirror.{LongestCommon, MirrorHistory}
 use Rattle.reports.specs.declared.reading.Comparison.{Comparison}
-use Rattle.history.proofs.Logs.{noLogged, at, lastAt, lastOf, replayAt, bodyOf, last-agree, replay-agree, last-miss, replay-miss, last-le, last-is, replay-is}
+use Rattle.history.proofs.Logs.{noLogged, at, lastAt, lastOf, replayAt, bodyOf, last-agree, replay-agree, last-miss}
+use Rattle.history.proofs.Logs.{replay-miss, last-is, replay-is}
 use Rattle.history.proofs.Records.{Fair, recOf}
 use Rattle.history.proofs.Sections.{volume-sized, most-high}
 use Rattle.history.proofs.LogScan.{durable-count}
 use Rattle.reports_theory.proofs.Archive.{stands, page-read}
 use Rattle.history.proofs.Reached.{present, tied}
 use Rattle.history.proofs.Theorem.{demand2}
-
--- ---- the record of a change
-
--- bytes 8 to 59 hold what stands behind the two numbers
-front-part : (n m : ℕ) (rest : List ℕ) → length (withChecksum (bytesOf 4 n ++ (bytesOf 4 m ++ rest))) ≡ 64
-    → part (withChecksum (bytesOf 4 n ++ (bytesOf 4 m ++ rest))) 8 52 ≡ take 52 rest
-unfolding part bytesOf
-front-part n m rest e =
-    let xs : List ℕ = bytesOf 4 n ++ (bytesOf 4 m ++ rest) in
-    let l : length xs ≡ 60 = omega (arith, withSum-length checksum xs, e) in
-    with-part checksum 8 52 60 xs l (omega arith)
-
-encode-part : (n m m′ p : ℕ) (c : Change) (bytes : List ℕ) → length (encodeChange n m p c bytes) ≡ 64
-    → length (encodeChange n m′ p c bytes) ≡ 64
-    → part (encodeChange n m p c bytes) 8 52 ≡ part (encodeChange n m′ p c bytes) 8 52
-unfolding encodeChange recordBytes
-encode-part n m m′ p c bytes e e′ =
-    let rest : List ℕ = bytesOf 2 p ++ (kindOf c ∷ lengthOf c ∷ (bytesOf 2 (offsetOf c) ++ (fillOf c ∷ 0 ∷ padded (lengthOf c) bytes))) in
-    front-part n m rest e ∙ sym (front-part n m′ rest e′)
-
-module _ (P : ℕ) (few : P ≤ 64) (l : List Logged) (i : ℕ) (low : i < topNumber) (f : Fair P l i) (m : ℕ) (below : m ≤ i) where
-  encodes : Encodes (suc i) m (at l i .page) (at l i .change) (at l i .bytes)
-  encodes = record { lsn = omega arith; prev = omega arith; page = omega (arith, f .high); obeys = f .fit; bytes = omega (arith, f .whole) }
-
-  long : length (encodeChange (suc i) m (at l i .page) (at l i .change) (at l i .bytes)) ≡ 64
-  long = encoded-length (suc i) m (at l i .page) (at l i .change) (at l i .bytes) encodes
-
-  fields : recordOf (encodeChange (suc i) m (at l i .page) (at l i .change) (at l i .bytes)) ≡ recordFor (suc i) m
-      (at l i .page) (at l i .change)
-  fields = encoded-back (suc i) m (at l i .page) (at l i .change) (at l i .bytes) encodes
-
-  own-bytes : take (lengthOf (at l i .change))
-      (payloadOf (encodeChange (suc i) m (at l i .page) (at l i .change) (at l i .bytes))) ≡ at l i .bytes
-  own-bytes =
-      let c = at l i .change in
-      let k = fits-facts (kindOf c) (lengthOf c) (offsetOf c) (fillOf c) (f .fit) in
-      rw (encoded-payload (suc i) m (at l i .page) c (at l i .bytes) encodes)
-      (padded-bytes (lengthOf c) (at l i .bytes) (k .length) (omega (arith, f .whole))
-      ∙ take-all (lengthOf c) (at l i .bytes) (omega (arith, f .whole)))
-
--- two records that hold the same change hold the same logged change
-module _ (P Q : ℕ) (fewP : P ≤ 64) (fewQ : Q ≤ 64) (l k : List Logged) (i : ℕ) (low : i < topNumber) (f : Fair P l i) (g : Fair Q k i) where
-  last-low : (l : List Logged) → lastAt (at l i .page) l i ≤ i
-  last-low l = last-le (at l i .page) l i
-
-  pub logged-same : sameChange (recOf l i) (recOf k i) ≡ true → at l i ≡ at k i
-  unfolding recOf recordOf
-  logged-same t =
-      let m = lastAt (at l i .page) l i in
-      let n = lastAt (at k i .page) k i in
-      let r : List ℕ = encodeChange (suc i) m (at l i .page) (at l i .change) (at l i .bytes) in
-      let s : List ℕ = encodeChange (suc i) n (at k i .page) (at k i .change) (at k i .bytes) in
-      let e : part r 8 52 ≡ part s 8 52 = same-bytes (part r 8 52) (part s 8 52) t in
-      let a : recordOf r ≡ recordFor (suc i) m (at l i .page) (at l i .change) = fields P fewP l i low f m (last-low l) in
-      let b : recordOf s ≡ recordFor (suc i) n (at k i .page) (at k i .change) = fields Q fewQ k i low g n (last-low k) in
-      let page : at l i .page ≡ at k i .page =
-      sym (ap (λ (x : LogRecord). x .page) a) ∙ field-same r s e 2 0 (omega arith) ∙ ap (λ (x : LogRecord). x .page) b in
-      let kind : kindOf (at l i .change) ≡ kindOf (at k i .change) =
-      sym (ap (λ (x : LogRecord). x .kind) a) ∙ byte-same r s e 2 (omega arith) ∙ ap (λ (x : LogRecord). x .kind) b in
-      let size : lengthOf (at l i .change) ≡ lengthOf (at k i .change) =
-      sym (ap (λ (x : LogRecord). x .length) a) ∙ byte-same r s e 3 (omega arith) ∙ ap (λ (x : LogRecord). x .length) b in
-      let offset : offsetOf (at l i .change) ≡ offsetOf (at k i .change) =
-      sym (ap (λ (x : LogRecord). x .offset) a) ∙ field-same r s e 2 4 (omega arith) ∙ ap (λ (x : LogRecord). x .offset) b in
-      let fill : fillOf (at l i .change) ≡ fillOf (at k i .change) =
-      sym (ap (λ (x : LogRecord). x .fill) a) ∙ byte-same r s e 6 (omega arith) ∙ ap (λ (x : LogRecord). x .fill) b in
-      let change : at l i .change ≡ at k i .change = sym (change-back (at l i .change))
-      ∙ rw (kind, size, offset, fill) (change-back (at k i .change)) in
-      let bytes : at l i .bytes ≡ at k i .bytes =
-      sym (own-bytes P fewP l i low f m (last-low l)) ∙ rw (size, payload-same r s e) (own-bytes Q fewQ k i low g n (last-low k)) in
-      λ j. record { page = page j; change = change j; bytes = bytes j }
-
-  pub change-same : at l i ≡ at k i → sameChange (recOf l i) (recOf k i) ≡ true
-  unfolding recOf
-  change-same e =
-      let m = lastAt (at l i .page) l i in
-      let n = lastAt (at l i .page) k i in
-      let c = at l i in
-      let d : at k i ≡ c = sym e in
-      let q : length (encodeChange (suc i) n (at l i .page) (at l i .change) (at l i .bytes)) ≡ 64 =
-      long P fewP l i low f n (last-le (at l i .page) k i) in
-      rw (d, encode-part (suc i) m n (c .page) (c .change) (c .bytes) (long P fewP l i low f m (last-low l)) q)
-      (bytes-same (part (encodeChange (suc i) n (c .page) (c .change) (c .bytes)) 8 52))
+use Rattle.reports_theory.proofs.SameChange.{logged-same, change-same}
 
 -- ---- lists
 
@@ -225,8 +137,8 @@ module _ (h k : History) (lh : Legal h) (lk : Legal k)
   same-at : (i : ℕ) → i < n → at (durableOf h) i ≡ at (durableOf k) i
   same-at i c = alike i (omega (arith, few .0)) (omega (arith, few .1)) .0 (common v w .same (suc i) (omega arith) c)
 
-  pub kept : LongestCommon n (durableOf h) (durableOf k)
-  kept =
+  pub longest-common : LongestCommon n (durableOf h) (durableOf k)
+  longest-common =
       record {
         front = take n (durableOf h);
         size = length-take-le n (durableOf h) (few .0);
@@ -308,9 +220,9 @@ module _ (h k : History) (lh : Legal h) (lk : Legal k)
 pub mirror : MirrorHistory
 mirror =
     record {
-      kept = λ h k lh lk z.
+      durable = λ h k lh lk z.
           let b = both (reached h .volume) (reached k .volume) z in
-          (kept h k lh lk z, count-is h lh (b .here .0), count-is k lk (b .here .1));
+          (longest-common h k lh lk z, count-is h lh (b .here .0), count-is k lk (b .here .1));
       same = agrees;
       agreed = agreed;
     }

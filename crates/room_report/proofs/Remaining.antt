@@ -2,7 +2,7 @@
 use mathlib.Core.Path.{_≡_, sym, ap, _∙_}
 use mathlib.Core.Bool.{Bool, true, false, _&&_}
 use mathlib.Core.List.{List}
-use Prim.Native.Nat.{ℕ, suc, _+_, _-_, _≤_, _<_}
+use Prim.Native.Nat.{ℕ, _+_, _-_, _≤_, _<_}
 use native.Mathlib.Numerals.{add-one}
 use native.Mathlib.Omega.{arith}
 use lib.Dec.{eqb, leb, ltb}
@@ -19,7 +19,6 @@ use Rattle.model.specs.declared.{geometry.Geometry.Geometry, item.LogRecord.Log
 use Rattle.model.specs.declared.state.State.{State}
 use Rattle.index.specs.Scanned.{scanRows, scanRefusal, scannedOf}
 use Rattle.index.specs.declared.Scanned.{Scanned}
-use Rattle.model.specs.Passes.{firstFrom}
 use Rattle.reports.specs.Room.{
   afterRecords,
   logFullAfter,
@@ -37,22 +36,6 @@ use Rattle.reports.specs.Room.{
 use Rattle.state.specs.Resumed.{resumedState}
 use Rattle.reports.specs.declared.reading.Space.{Space}
 use Rattle.reports.specs.declared.reading.Room.{Room}
-
-module _ (p : ℕ → Bool) where
-  pub first-end : (i n : ℕ) → n ≤ i → firstFrom (n - i) p i ≡ i
-  unfolding firstFrom
-  first-end i n h = let e : n - i ≡ 0 = omega arith in rw e
-
-  pub first-here : (i n : ℕ) → i < n → p i ≡ true → firstFrom (n - i) p i ≡ i
-  unfolding firstFrom
-  first-here i n l h = let e : n - i ≡ suc (n - (i + 1)) = omega arith in rw (e, h)
-
-  pub first-later : (i n : ℕ) → i < n → p i ≡ false → firstFrom (n - (i + 1)) p (i + 1) ≡ firstFrom (n - i) p i
-  unfolding firstFrom
-  first-later i n l h =
-      let e : n - i ≡ suc (n - (i + 1)) = omega arith in
-      let z : i + 1 ≡ suc i = omega arith in
-      rw (e, h, z)
 
 module _ (g : Geometry) (v : List ℕ) (s : State) where
   -- ---- the log

@@ -1,7 +1,7 @@
 // What a script works on, apart from its four buffers: the store, and how much of each buffer is lent to a call; and
 // what is printed of a cell.
-ghost use Prim.Native.Nat.{_≤_};
 use crate::hash;
+use codec::number::least;
 use model::answer::Answer;
 use print::number;
 use print::phrase;
@@ -22,13 +22,6 @@ pub struct Session {
 pub struct Turn {
     pub skipped: bool,
     pub session: Session,
-}
-
-// The smaller one.
-pub fn least(a: usize, b: usize) -> usize
-    ensures { λ r. ⌜ (r ≤ a) × (r ≤ b) ⌝ }
-{
-    if a < b { a } else { b }
 }
 
 // The session at the start: a state of zeros, the smallest memory and a buffer for a page.

@@ -5,6 +5,7 @@ use crate::session;
 use crate::session::Session;
 use crate::session::Turn;
 use codec::field;
+use codec::number::least;
 use codec::part;
 use store::Store;
 
@@ -13,17 +14,17 @@ fn sizes(b: Session, c: &[u8], volume: usize, memory: usize, lent: usize) -> Tur
     let store = b.store;
     session::done(Session {
         store,
-        volume: session::least(cell::first(c) as usize, volume),
-        memory: session::least(cell::second(c) as usize, memory),
-        lent: session::least(cell::count(c, 0) as usize, lent),
+        volume: least(cell::first(c) as usize, volume),
+        memory: least(cell::second(c) as usize, memory),
+        lent: least(cell::count(c, 0) as usize, lent),
         second: b.second,
     })
 }
 
 // Copies the first n bytes of a buffer to the front of another, as many as both have, and says how many.
 fn carry(dst: &mut [u8], src: &[u8], n: usize) -> usize {
-    let most = session::least(n, src.len());
-    let k = session::least(most, dst.len());
+    let most = least(n, src.len());
+    let k = least(most, dst.len());
     part::copy(&mut dst[0..k], &src[0..k]);
     k
 }
@@ -35,7 +36,7 @@ fn take(b: Session, c: &[u8], volume: &[u8], lent: &[u8], second: &mut [u8]) -> 
         0 => session::done(session::with_second(b, carry(second, volume, b.volume))),
         1 => session::done(session::with_second(b, carry(second, lent, b.lent))),
         2 => {
-            let n = session::least(cell::first(c) as usize, second.len());
+            let n = least(cell::first(c) as usize, second.len());
             session::done(session::with_second(b, n))
         }
         _ => session::skipped(b),
@@ -52,7 +53,7 @@ fn put(buffer: &mut [u8], at: usize, x: u8) {
 // Writes payload bytes anywhere in a buffer; what falls outside is dropped.
 fn write(c: &[u8], buffer: &mut [u8]) {
     let at = cell::first(c) as usize;
-    let n = session::least(cell::length(c) as usize, 44);
+    let n = least(cell::length(c) as usize, 44);
     let mut i: usize = 0;
     while i < n {
         put(buffer, at + i, field::byte(c, 16 + i));

@@ -10,7 +10,8 @@ use lib.Dec.{eqb}
 use lib.ListN.{length, take, drop, drop-of-length-le}
 use borrow.Author.Tests.{le-leb, lt-leb}
 use Rattle.laws.proofs.Checksums.{run-none, run-stops, run-goes, run-most}
-use Rattle.laws.proofs.Parts.{part-lent}
+use Rattle.laws.proofs.Parts.{part-lent, part-length, part-part}
+use Rattle.laws.proofs.Zeros.{zeros, zero-is, part-zeros, zero-fails}
 use Rattle.model.specs.Bytes.{le, field, part, allZero}
 use Rattle.model.specs.Checksum.{sealed, sealedRun, sumHolds, checksumFrom}
 use Rattle.model.specs.Tables.{larger}
@@ -225,3 +226,26 @@ module _ (v : List ℕ) (s : Section) where
       let q : w ≡ sealed (s .size) (slotBytes v s n) = ew ∙ ap (λ (k : ℕ). sealed (s .size) (slotBytes v s k)) (mod-eq-of-lt h) in
       let z : suc n - 1 ≡ n = omega arith in
       rw (lt-leb (s .slots) n h, z, q, er)
+
+-- ---- the slots past a run
+
+-- a slot in what is zero is not whole
+pub zero-torn : (c count n i at : ℕ) (v : List ℕ) → at + (c + 4) * count ≤ length v → n < i → i < count
+    → restZero (c + 4) count v at n ≡ true → sealed c (part v (at + (c + 4) * i) (c + 4)) ≡ false
+unfolding restZero
+zero-torn c count n i at v room above below h =
+    let w : ℕ = c + 4 in
+    let m : ℕ = w * (count - (n + 1)) in
+    let j : ℕ = w * (i - (n + 1)) in
+    let em : m ≡ w * count - w * (n + 1) = mul-sub w count (n + 1) in
+    let ej : j ≡ w * i - w * (n + 1) = mul-sub w i (n + 1) in
+    let fi : w * (n + 1) ≤ w * i = mul-le-mul-left w (omega arith) in
+    let fc : w * i + w ≤ w * count = seat-room w count i below in
+    let r : List ℕ = part v (at + w * (n + 1)) m in
+    let l : length r ≡ m = part-length v (at + w * (n + 1)) m (omega arith) in
+    let z : r ≡ zeros m = zero-is r h ∙ ap zeros l in
+    let e : at + w * (n + 1) + j ≡ at + w * i = omega arith in
+    let p : part v (at + w * i) w ≡ zeros w =
+    ap (λ (k : ℕ). part v k w) (sym e) ∙ sym (part-part v (at + w * (n + 1)) m j w (omega arith))
+    ∙ ap (λ (x : List ℕ). part x j w) z ∙ part-zeros m j w (omega arith) in
+    ap (sealed c) p ∙ zero-fails c w (omega arith)

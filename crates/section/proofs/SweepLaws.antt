@@ -1,20 +1,19 @@
 -- A closed sweep is the run: the numbers that one pass found, where these are all that the section holds, are those
 -- that the two passes find.
 use mathlib.Core.Path.{_≡_, refl, sym, ap, _∙_}
+use mathlib.Core.Logic.{⊎-elim}
 use mathlib.Core.Bool.{Bool, true, false, _&&_, _||_}
 use mathlib.Core.List.{List}
 use Prim.Native.Nat.{ℕ, zero, suc, _+_, _-_, _*_, _%_, _≤_, _<_}
-use native.Mathlib.Nat.{mod-lt, mod-eq-of-lt, mul-le-mul-left, mul-sub}
+use native.Mathlib.Nat.{mod-lt, mod-eq-of-lt, add-mod-right}
 use native.Mathlib.Omega.{arith}
 use native.Mathlib.Decide.{decLt, ℕ-discrete}
-use lib.Dec.{eqb}
+use lib.Dec.{eqb, ltb}
 use lib.ListN.{length}
-use borrow.Author.Tests.{eq-eqb, ne-eqb, eqb-true}
-use Rattle.laws.proofs.Tables.{byCases, and-left, and-right, or-other, true-not-false}
-use Rattle.laws.proofs.Parts.{part-length, part-part}
-use Rattle.laws.proofs.Zeros.{zeros, zero-is, part-zeros, zero-fails}
+use borrow.Author.Tests.{eq-eqb, ne-eqb, eqb-true, ltb-true}
+use Rattle.laws.proofs.Tables.{byCases, and-left, and-right, or-cases, or-other, true-not-false}
 use Rattle.laws.proofs.Ring.{Seat, seat, highest-le, highest-ge}
-use Rattle.model.specs.Bytes.{le, field, part}
+use Rattle.model.specs.Bytes.{le, field}
 use Rattle.model.specs.Checksum.{sealed, sealedRun}
 use Rattle.model.specs.Geometry.{slotOf}
 use Rattle.model.specs.Scan.{highest, restZero, countIn, firstIn, endsIn}
@@ -22,56 +21,39 @@ use Rattle.model.specs.Scan as scan
 use Rattle.section.specs.declared.Section.{Section}
 use Rattle.section.specs.Section.{Placed, slotBytes, slotsIn, highestAt}
 use Rattle.section.specs.Sweep.{Swept, closedOf, begunOf}
-use Rattle.section.proofs.SectionLaws.{none, Whole, whole-none, whole-all, whole-stops, whole-on, seat-room, none-whole}
-use Rattle.section.proofs.SectionLaws.{count-ring, count-run, first-one, first-whole, first-torn, ends-past, ends-here}
+use Rattle.section.proofs.SectionLaws.{none, Whole, whole-none, whole-all, whole-stops, whole-on, none-whole}
+use Rattle.section.proofs.SectionLaws.{count-ring, count-run, first-one, first-whole, first-torn, ends-past, ends-here, zero-torn}
 
--- ---- the slots past a run
+-- ---- a ring whose slots, or all but the one behind them, hold the numbers from f on
 
--- a slot in what is zero is not whole
-pub zero-torn : (c count n i at : ℕ) (v : List ℕ) → at + (c + 4) * count ≤ length v → n < i → i < count
-    → restZero (c + 4) count v at n ≡ true → sealed c (part v (at + (c + 4) * i) (c + 4)) ≡ false
-unfolding restZero
-zero-torn c count n i at v room above below h =
-    let w : ℕ = c + 4 in
-    let m : ℕ = w * (count - (n + 1)) in
-    let j : ℕ = w * (i - (n + 1)) in
-    let em : m ≡ w * count - w * (n + 1) = mul-sub w count (n + 1) in
-    let ej : j ≡ w * i - w * (n + 1) = mul-sub w i (n + 1) in
-    let fi : w * (n + 1) ≤ w * i = mul-le-mul-left w (omega arith) in
-    let fc : w * i + w ≤ w * count = seat-room w count i below in
-    let r : List ℕ = part v (at + w * (n + 1)) m in
-    let l : length r ≡ m = part-length v (at + w * (n + 1)) m (omega arith) in
-    let z : r ≡ zeros m = zero-is r h ∙ ap zeros l in
-    let e : at + w * (n + 1) + j ≡ at + w * i = omega arith in
-    let p : part v (at + w * i) w ≡ zeros w =
-    ap (λ (k : ℕ). part v k w) (sym e) ∙ sym (part-part v (at + w * (n + 1)) m j w (omega arith))
-    ∙ ap (λ (x : List ℕ). part x j w) z ∙ part-zeros m j w (omega arith) in
-    ap (sealed c) p ∙ zero-fails c w (omega arith)
-
--- ---- a ring that is full: its slots hold the numbers from f on
-
-module _ (s : scan.Section) (f : ℕ) (low : 1 ≤ f) (some : 1 ≤ s .slots) (w : Swept s f (s .slots)) where
-  -- the number in a slot is one of these
-  full-most : (i : ℕ) → i < s .slots → field 4 0 (s .slot (suc i)) ≤ f + s .slots - 1
-  full-most i h =
+module _ (s : scan.Section) (f c : ℕ) (low : 1 ≤ f) (some : 1 ≤ c) (near : s .slots ≤ suc c) (w : Swept s f c) where
+  -- the number in a whole slot is one of these
+  run-most : (i : ℕ) → i < s .slots → sealed (s .size) (s .slot (suc i)) ≡ true → field 4 0 (s .slot (suc i)) ≤ f + c - 1
+  run-most i h whole =
       let L : ℕ = s .slots in
       let t : Seat L (L + (f - 1)) i = seat L i h (f - 1) in
       let d : ℕ = suc (t .place) - f in
       let e : f + d ≡ suc (t .place) = omega (arith, t .near) in
       let q : slotOf L (f + d) ≡ suc i = ap (slotOf L) e ∙ t .slot-of in
       let below : d < L = omega (arith, t .below) in
-      let n : field 4 0 (s .slot (suc i)) ≡ f + d = ap (λ (k : ℕ). field 4 0 (s .slot k)) (sym q) ∙ w .numbered d below in
-      omega arith
+      elim (decLt d c) [
+        | yes y ↦
+            let n : field 4 0 (s .slot (suc i)) ≡ f + d = ap (λ (k : ℕ). field 4 0 (s .slot k)) (sym q) ∙ w .numbered d y in
+            omega arith
+        | no z ↦
+            let b : suc i ≡ slotOf L (f + c) = sym q ∙ ap (λ (k : ℕ). slotOf L (f + k)) (omega arith) in
+            absurd (true-not-false whole (ap (λ (k : ℕ). sealed (s .size) (s .slot k)) b ∙ w .torn (omega arith)))
+      ]
 
-  pub full-highest : highest (s .size) (s .slot) (s .slots) ≡ f + s .slots - 1
-  full-highest =
+  pub run-highest : highest (s .size) (s .slot) (s .slots) ≡ f + c - 1
+  run-highest =
       let L : ℕ = s .slots in
-      let i : ℕ = (f + (L - 1) - 1) % L in
-      let up : highest (s .size) (s .slot) L ≤ f + L - 1 =
-      highest-le (s .size) (s .slot) (f + L - 1) L (λ k h t. full-most k h) in
-      let here : field 4 0 (s .slot (suc i)) ≡ f + (L - 1) = w .numbered (L - 1) (omega arith) in
+      let i : ℕ = (f + (c - 1) - 1) % L in
+      let have : 1 ≤ L = omega (arith, w .few) in
+      let up : highest (s .size) (s .slot) L ≤ f + c - 1 = highest-le (s .size) (s .slot) (f + c - 1) L run-most in
+      let here : field 4 0 (s .slot (suc i)) ≡ f + (c - 1) = w .numbered (c - 1) (omega arith) in
       let down : field 4 0 (s .slot (suc i)) ≤ highest (s .size) (s .slot) L =
-      highest-ge (s .size) (s .slot) L i (mod-lt (f + (L - 1) - 1) some) (w .whole (L - 1) (omega arith)) in
+      highest-ge (s .size) (s .slot) L i (mod-lt (f + (c - 1) - 1) have) (w .whole (c - 1) (omega arith)) in
       omega arith
 
 -- ---- numbers from 1 on: number i + 1 is in slot i, counted from 0
@@ -150,23 +132,46 @@ pub record Closes (v : List ℕ) (s : Section) (f c : ℕ) : Type 0 where
   pub ends : endsIn v (slotsIn v s) (begunOf (s .ring) f c) (f + c - 1) ≡ true
 
 module _ (v : List ℕ) (s : Section) (p : Placed v s) where
-  -- a ring that is full
-  closes-full : (f : ℕ) → 1 ≤ f → s .ring ≡ true → 1 ≤ s .slots → Swept (slotsIn v s) f (s .slots) → Closes v s f (s .slots)
-  closes-full f low t some w =
-      let L : ℕ = s .slots in
-      let n : ℕ = f + L - 1 in
-      let e : f - 1 ≡ n - L = omega arith in
-      let q : (f + 0 - 1) % L ≡ (f - 1) % L = ap (λ (k : ℕ). k % L) (omega arith) in
-      let q′ : slotOf L (f + 0) - 1 ≡ (f - 1) % L = omega arith in
-      let h : true ≡ sealed (s .size) (slotBytes v s ((f - 1) % L)) =
-      sym (w .whole 0 (omega arith)) ∙ ap (λ (k : ℕ). sealed (s .size) (slotBytes v s k)) q′ in
-      let g : f - 1 + 1 ≡ f = omega arith in
-      let b : f ≡ begunOf (s .ring) f L = rw (t, ne-eqb L 0 (λ z. omega arith)) in
-      record {
-        count = sym (count-ring v s n (sym (full-highest (slotsIn v s) f low some w)) t);
-        first = sym (first-whole v s n (f - 1) true e h t refl) ∙ g ∙ b;
-        ends = sym (ends-past v s _ n (omega arith));
-      }
+  -- a ring that turned: the numbers from f on fill its slots, or all but the one behind them
+  module _ (f c : ℕ) (t : s .ring ≡ true) (low : 1 ≤ f) (some : 1 ≤ c) (w : Swept (slotsIn v s) f c) where
+    turned-count : s .slots ≤ suc c → countIn v (slotsIn v s) ≡ f + c - 1
+    turned-count near = sym (count-ring v s (f + c - 1) (sym (run-highest (slotsIn v s) f c low some near w)) t)
+
+    turned-begun : f ≡ begunOf (s .ring) f c
+    turned-begun = rw (t, ne-eqb c 0 (λ z. omega arith))
+
+    closes-full : c ≡ s .slots → Closes v s f c
+    closes-full all =
+        let L : ℕ = s .slots in
+        let n : ℕ = f + c - 1 in
+        let e : f - 1 ≡ n - L = omega arith in
+        let q : (f + 0 - 1) % L ≡ (f - 1) % L = ap (λ (k : ℕ). k % L) (omega arith) in
+        let q′ : slotOf L (f + 0) - 1 ≡ (f - 1) % L = omega arith in
+        let h : true ≡ sealed (s .size) (slotBytes v s ((f - 1) % L)) =
+        sym (w .whole 0 (omega arith)) ∙ ap (λ (k : ℕ). sealed (s .size) (slotBytes v s k)) q′ in
+        let g : f - 1 + 1 ≡ f = omega arith in
+        record {
+          count = turned-count (omega arith);
+          first = sym (first-whole v s n (f - 1) true e h t refl) ∙ g ∙ turned-begun;
+          ends = sym (ends-past v s _ n (omega arith));
+        }
+
+    -- the slot behind them is that of number f - 1, which a store that was cut displaced
+    closes-torn : 2 ≤ f → suc c ≡ s .slots → Closes v s f c
+    closes-torn above but-one =
+        let L : ℕ = s .slots in
+        let n : ℕ = f + c - 1 in
+        let e : f - 2 ≡ n - L = omega arith in
+        let q : (f + c - 1) % L ≡ (f - 2) % L = ap (λ (k : ℕ). k % L) (omega arith) ∙ add-mod-right (f - 2) L in
+        let q′ : slotOf L (f + c) - 1 ≡ (f - 2) % L = omega arith in
+        let h : false ≡ sealed (s .size) (slotBytes v s ((f - 2) % L)) =
+        sym (w .torn (omega arith)) ∙ ap (λ (k : ℕ). sealed (s .size) (slotBytes v s k)) q′ in
+        let g : f - 2 + 2 ≡ f = omega arith in
+        record {
+          count = turned-count (omega arith);
+          first = sym (first-torn v s n (f - 2) false e h t refl) ∙ g ∙ turned-begun;
+          ends = sym (ends-past v s _ n (omega arith));
+        }
 
   -- a ring without slots
   closes-empty : s .ring ≡ true → s .slots ≡ 0 → Closes v s 1 0
@@ -232,12 +237,20 @@ module _ (v : List ℕ) (s : Section) (p : Placed v s) where
     all-slots e =
         let u : Swept (slotsIn v s) f (s .slots) = rw e at w in
         byCases (s .ring) (λ t. elim (decLt 0 (s .slots)) [
-          | yes y ↦ rw e (closes-full f low t y u)
+          | yes y ↦ closes-full f c t low (omega arith) w e
           | no z ↦
               let n : s .slots ≡ 0 = omega arith in
               let m : c ≡ 0 = omega arith in
               rw (m, empty n) (closes-empty t n)
         ]) (λ t. let one : f ≡ 1 = plain t in rw (e, one) (closes-plain t (rw one at u)))
+
+    all-but-one : (ltb 1 f && (ltb 0 c && eqb (suc c) (s .slots))) ≡ true → Closes v s f c
+    all-but-one h =
+        let above : 1 < f = ltb-true 1 f (and-left (ltb 1 f) _ h) in
+        let both : (ltb 0 c && eqb (suc c) (s .slots)) ≡ true = and-right (ltb 1 f) _ h in
+        let some : 0 < c = ltb-true 0 c (and-left (ltb 0 c) _ both) in
+        let e : suc c ≡ s .slots = eqb-true (suc c) (s .slots) (and-right (ltb 0 c) _ both) in
+        byCases (s .ring) (λ t. closes-torn f c t low (omega arith) w (omega arith) e) (λ t. absurd (omega (arith, plain t)))
 
     some-slots : c < s .slots → (eqb f 1 && restZero (s .size + 4) (s .slots) v (s .at) c) ≡ true → Closes v s f c
     some-slots h t =
@@ -249,7 +262,18 @@ pub closes : (v : List ℕ) (s : Section) (f c : ℕ) → Placed v s → 1 ≤ f
 unfolding closedOf
 closes v s f c p low plain empty w closed = elim (ℕ-discrete c (s .slots)) [
   | yes e ↦ all-slots v s p f c low plain empty w e
-  | no z ↦
-      some-slots v s p f c low plain empty w (omega (arith, w .few, z))
-      (or-other (eqb c (s .slots)) _ closed (ne-eqb c (s .slots) z))
+  | no z ↦ ⊎-elim (all-but-one v s p f c low plain empty w) (some-slots v s p f c low plain empty w (omega (arith, w .few, z)))
+      (or-cases (ltb 1 f && (ltb 0 c && eqb (suc c) (s .slots))) _
+      (or-other (eqb c (s .slots)) _ closed (ne-eqb c (s .slots) z)))
 ]
+
+-- no numbers that are all that the section holds start at 1
+pub closed-none : (v : List ℕ) (s : Section) (f c : ℕ) → (s .slots ≡ 0 → f ≡ 1) → closedOf v s f c ≡ true → c ≡ 0 → f ≡ 1
+unfolding closedOf
+closed-none v s f c empty closed z = ⊎-elim
+    (λ h. empty (omega (arith, eqb-true c (s .slots) h)))
+    (λ h. ⊎-elim
+    (λ u. absurd (omega (arith, ltb-true 0 c (and-left (ltb 0 c) _ (and-right (ltb 1 f) _ u)))))
+    (λ u. eqb-true f 1 (and-left (eqb f 1) _ u))
+    (or-cases (ltb 1 f && (ltb 0 c && eqb (suc c) (s .slots))) _ h))
+    (or-cases (eqb c (s .slots)) _ closed)

@@ -4,6 +4,7 @@ ghost use Prim.Native.Nat.{_-_, _<_};
 ghost use Rattle.model.specs.State.{frameOf, holderFrom, holder, held};
 ghost use Rattle.model.specs.Refusals.{frameBlocked};
 use crate::entries;
+use codec::number::u16_u32;
 use model::state::State;
 
 // The row of frame f, counted from 1; past the table an empty one.
@@ -27,7 +28,7 @@ pub fn search(table: [model::state::Frame; 16], page: u32) -> u32
 {
     let mut i = 0;
     while i < 16 {
-        if crate::wide(table[i].page) == page {
+        if u16_u32(table[i].page) == page {
             return i as u32 + 1;
         }
         i += 1;
@@ -55,7 +56,7 @@ pub fn blocked(s: State, f: u32) -> bool
     ensures { λ r. ⌜ r ≡ frameBlocked s f ⌝ }
 {
     let row = frame(s, f);
-    let page = crate::wide(row.page);
+    let page = u16_u32(row.page);
     let e = entries::entry(s, page);
     (page != 0) & (e.durable < e.last)
 }

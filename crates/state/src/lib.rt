@@ -14,10 +14,3 @@ pub fn row(n: u32) -> usize
 {
     if 1 <= n { n as usize - 1 } else { 0 }
 }
-
-// A page number of a row as a wider number.
-pub fn wide(x: u16) -> u32
-    ensures { λ r. ⌜ r ≡ x ⌝ }
-{
-    x as u32
-}

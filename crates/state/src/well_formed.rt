@@ -8,6 +8,7 @@ ghost use Rattle.state.specs.Clauses.{firstIn, soleIn, frameClauses};
 ghost use Rattle.state.specs.Clauses.{entryClauses, settledClauses, pageClauses, countClauses};
 ghost use Rattle.model.specs.declared.state.PendingNote.the-variants.{Present};
 use crate::frames;
+use codec::number::u16_u32;
 use item::note;
 use model::geometry::Geometry;
 use model::item::Note;
@@ -154,7 +155,7 @@ pub fn well_formed(s: State, g: Geometry, count: usize) -> bool
         let f = table[i];
         if (f.page != 0) | f.dirty {
             let only = sole(table, i);
-            let k = crate::row(crate::wide(f.page));
+            let k = crate::row(u16_u32(f.page));
             let e = s.index[k % 64];
             let last = rows::first(k < 64, e.last, 0);
             if !frame_fits(g, count, i, f, only, last) {

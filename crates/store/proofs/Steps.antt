@@ -1,7 +1,7 @@
 -- What a call does not touch: Begin, Load, Change and Release leave the volume as it was, Force, Write, Backup, Release, Note and the
 -- three that carry a volume over the memory.
 use Prim.Native.Nat.{ℕ}
-use mathlib.Core.Path.{_≡_, refl, sym, _∙_}
+use mathlib.Core.Path.{_≡_, refl, _∙_}
 use mathlib.Core.Bool.{Bool, cond}
 use mathlib.Core.List.{List}
 use lib.Dec.{eqb, ltb}

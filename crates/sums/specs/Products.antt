@@ -8,12 +8,12 @@ use lib.IntN.{ℤ, pos, negsuc}
 use Rattle.model.specs.Bytes.{field, part}
 
 -- an integer is p - n
-abbrev pub Held : ℤ → ℕ → ℕ → Type 0
-Held (pos a) p n = a + n ≡ p
-Held (negsuc a) p n = p + suc a ≡ n
+abbrev pub Difference : ℤ → ℕ → ℕ → Type 0
+Difference (pos a) p n = a + n ≡ p
+Difference (negsuc a) p n = p + suc a ≡ n
 
 pub record Minus (z : ℤ) (p n : ℕ) : Type 0 where
-  pub held : Held z p n
+  pub difference : Difference z p n
 
 -- the first n of the weights top, top - 1, .., added up
 unfoldable pub weights : ℕ → ℕ → ℕ

@@ -7,6 +7,8 @@ ghost use Rattle.model.specs.Checksum.{byteSumFrom};
 ghost use Rattle.sums.specs.Sums.{Summed};
 ghost use Rattle.sums.specs.Quads as quads;
 use crate::partial::Sums;
+use codec::number::u8_u16;
+use codec::number::u16_u64;
 
 pub struct Quad {
     pub x0: u16,
@@ -30,13 +32,6 @@ const NONE: Quad = Quad {
     z3: 0,
 };
 
-// A byte as a term of a lane.
-fn narrow(x: u8) -> u16
-    ensures { λ r. ⌜ (r ≡ x) × (r ≤ 255) ⌝ }
-{
-    x as u16
-}
-
 // Four bytes, k behind a place.
 fn step(l: Quad, s: &[u8], at: usize, k: usize) -> Quad
     requires { ⌜ (at + k + 4 ≤ length (now s)) × (k ≤ 112) ⌝ }
@@ -46,10 +41,10 @@ fn step(l: Quad, s: &[u8], at: usize, k: usize) -> Quad
 {
     let i = at + k;
     Quad {
-        x0: l.x0 + narrow(s[i]),
-        x1: l.x1 + narrow(s[i + 1]),
-        x2: l.x2 + narrow(s[i + 2]),
-        x3: l.x3 + narrow(s[i + 3]),
+        x0: l.x0 + u8_u16(s[i]),
+        x1: l.x1 + u8_u16(s[i + 1]),
+        x2: l.x2 + u8_u16(s[i + 2]),
+        x3: l.x3 + u8_u16(s[i + 3]),
         z0: l.z0 + l.x0,
         z1: l.z1 + l.x1,
         z2: l.z2 + l.x2,
@@ -57,26 +52,19 @@ fn step(l: Quad, s: &[u8], at: usize, k: usize) -> Quad
     }
 }
 
-// A lane's number as a term of the sums.
-fn wide(x: u16) -> u64
-    ensures { λ r. ⌜ (r ≡ x) × (r ≤ 65535) ⌝ }
-{
-    x as u64
-}
-
 // What four lanes add to the first sum.
 fn low(l: Quad) -> u64
     ensures { λ r. ⌜ (r ≡ quads.low l) × (r ≤ 262140) ⌝ }
 {
-    wide(l.x0) + wide(l.x1) + wide(l.x2) + wide(l.x3)
+    u16_u64(l.x0) + u16_u64(l.x1) + u16_u64(l.x2) + u16_u64(l.x3)
 }
 
 // And to the second.
 fn high(l: Quad) -> u64
     ensures { λ r. ⌜ (r ≡ quads.high l) × (r ≤ 2752470) ⌝ }
 {
-    let z = wide(l.z0) + wide(l.z1) + wide(l.z2) + wide(l.z3);
-    8 * z + (4 * wide(l.x0) + 3 * wide(l.x1) + 2 * wide(l.x2) + wide(l.x3))
+    let z = u16_u64(l.z0) + u16_u64(l.z1) + u16_u64(l.z2) + u16_u64(l.z3);
+    8 * z + (4 * u16_u64(l.x0) + 3 * u16_u64(l.x1) + 2 * u16_u64(l.x2) + u16_u64(l.x3))
 }
 
 // A block of 120 bytes.

@@ -5,10 +5,10 @@ ghost use lib.ListN.{length, take};
 ghost use Rattle.model.specs.Checksum.{byteSum, byteSumFrom, withSum, sumHolds};
 ghost use Rattle.sums.specs.Sums.{Summed};
 use crate::byte_lanes;
-use crate::checksum;
 use crate::partial;
 use crate::partial::Sums;
 use codec::field;
+use codec::number::u8_u64;
 
 // The byte sum with its remainders taken once, at the end, from sums on.
 fn late(s: &[u8], t: Sums) -> u32
@@ -20,7 +20,7 @@ fn late(s: &[u8], t: Sums) -> u32
     let mut b = t.b;
     let mut i = t.at;
     while i < s.len() {
-        a = a + checksum::wide(s[i]);
+        a = a + u8_u64(s[i]);
         b = b + a;
         i += 1;
     }
@@ -35,7 +35,7 @@ fn stepwise(v: &[u8]) -> u32
     let mut b: u64 = 0;
     let mut i: usize = 0;
     while i < v.len() {
-        a = (a + checksum::wide(v[i])) % 65535;
+        a = (a + u8_u64(v[i])) % 65535;
         b = (b + a) % 65535;
         i += 1;
     }

@@ -9,13 +9,7 @@ use crate::partial::Sums;
 use crate::products;
 use crate::word_lanes;
 use codec::field;
-
-// A byte as a term of the sums.
-pub fn wide(x: u8) -> u64
-    ensures { λ r. ⌜ (r ≡ x) × (r ≤ 255) ⌝ }
-{
-    x as u64
-}
+use codec::number::u8_u64;
 
 // The sums of the first 12 bytes: all that a note has.
 fn head(s: &[u8]) -> Sums
@@ -27,7 +21,7 @@ fn head(s: &[u8]) -> Sums
     let mut b: u64 = 0;
     let mut i: usize = 0;
     while i < 12 {
-        a = a + (wide(s[i]) + 256 * wide(s[i + 1]));
+        a = a + (u8_u64(s[i]) + 256 * u8_u64(s[i + 1]));
         b = b + a;
         i += 2;
     }
@@ -44,7 +38,7 @@ fn late(s: &[u8], t: Sums) -> u32
     let mut b = t.b;
     let mut i = t.at;
     while i + 1 < s.len() {
-        a = a + (wide(s[i]) + 256 * wide(s[i + 1]));
+        a = a + (u8_u64(s[i]) + 256 * u8_u64(s[i + 1]));
         b = b + a;
         i += 2;
     }
@@ -71,7 +65,7 @@ fn stepwise(v: &[u8]) -> u32
     let mut b: u64 = 0;
     let mut i: usize = 0;
     while i + 1 < v.len() {
-        a = (a + (wide(v[i]) + 256 * wide(v[i + 1]))) % 65535;
+        a = (a + (u8_u64(v[i]) + 256 * u8_u64(v[i + 1]))) % 65535;
         b = (b + a) % 65535;
         i += 2;
     }

@@ -10,6 +10,8 @@ ghost use Rattle.model.specs.Bytes.{field, part};
 ghost use Rattle.model.specs.Checksum.{checksum, sealed};
 ghost use Rattle.sums.specs.Products.{Minus, Product, low, high, placeOf, aboveOf};
 use codec::field;
+use codec::number::i16_i32;
+use codec::number::u16_u32;
 
 // The word at a place, less 32768.
 fn flipped(s: &[u8], at: usize) -> i16
@@ -17,13 +19,6 @@ fn flipped(s: &[u8], at: usize) -> i16
     ensures { λ r. ⌜ Minus r (field 2 at (now (s .entry))) 32768 ⌝ }
 {
     (field::two(s, at) as i32 - 32768) as i16
-}
-
-// A signed word as a term of a product.
-fn wide(x: i16) -> i32
-    ensures { λ r. ⌜ r ≡ x ⌝ }
-{
-    x as i32
 }
 
 // 32 words with the weights 97 to 66.
@@ -34,7 +29,7 @@ fn upper(r: &[u8]) -> i32
     let mut t: i32 = 0;
     let mut i: usize = 0;
     while i < 32 {
-        t = t + wide(flipped(r, 2 * i)) * (97 - i as i32);
+        t = t + i16_i32(flipped(r, 2 * i)) * (97 - i as i32);
         i += 1;
     }
     t
@@ -48,7 +43,7 @@ fn lower(r: &[u8]) -> i32
     let mut t: i32 = 0;
     let mut i: usize = 0;
     while i < 32 {
-        t = t + wide(flipped(r, 2 * i)) * (96 - i as i32);
+        t = t + i16_i32(flipped(r, 2 * i)) * (96 - i as i32);
         i += 1;
     }
     t
@@ -62,7 +57,7 @@ fn upper_note(r: &[u8]) -> i32
     let mut t: i32 = 0;
     let mut i: usize = 0;
     while i < 8 {
-        t = t + wide(flipped(r, 2 * i)) * (73 - i as i32);
+        t = t + i16_i32(flipped(r, 2 * i)) * (73 - i as i32);
         i += 1;
     }
     t
@@ -76,14 +71,14 @@ fn lower_note(r: &[u8]) -> i32
     let mut t: i32 = 0;
     let mut i: usize = 0;
     while i < 8 {
-        t = t + wide(flipped(r, 2 * i)) * (72 - i as i32);
+        t = t + i16_i32(flipped(r, 2 * i)) * (72 - i as i32);
         i += 1;
     }
     t
 }
 
-// A number is a multiple of 65535.
-fn even(x: u32) -> bool
+// A number is a multiple of 65535, the sums' modulus.
+fn multiple_of_modulus(x: u32) -> bool
     ensures { λ b. ⌜ b ≡ eqb (x % 65535) 0 ⌝ }
 {
     x % 65535 == 0
@@ -101,13 +96,13 @@ pub fn record_holds(r: &[u8]) -> bool
     let q = lower(r);
     let all = p - q;
     let twice = p + q - 133 * all;
-    if !even((twice + 30539834) as u32) {
+    if !multiple_of_modulus((twice + 30539834) as u32) {
         return false;
     }
     let c = field::four(r, 60);
     let low = c % 65536;
     let high = c / 65536;
-    if !even((all + 1245182) as u32 - 2 * low - high) {
+    if !multiple_of_modulus((all + 1245182) as u32 - 2 * low - high) {
         return false;
     }
     (low != 65535) & (high != 65535)
@@ -122,13 +117,13 @@ pub fn note_holds(r: &[u8]) -> bool
     let q = lower_note(r);
     let all = p - q;
     let twice = p + q - 133 * all;
-    if !even((twice + 1441802) as u32) {
+    if !multiple_of_modulus((twice + 1441802) as u32) {
         return false;
     }
     let c = field::four(r, 12);
     let low = c % 65536;
     let high = c / 65536;
-    if !even((all + 458750) as u32 - 2 * low - high) {
+    if !multiple_of_modulus((all + 458750) as u32 - 2 * low - high) {
         return false;
     }
     (low != 65535) & (high != 65535)
@@ -143,7 +138,7 @@ fn upper_part(r: &[u8]) -> i32
     let mut t: i32 = 0;
     let mut i: usize = 0;
     while i < 32 {
-        t = t + wide(flipped(r, 2 * i)) * (97 - i as i32);
+        t = t + i16_i32(flipped(r, 2 * i)) * (97 - i as i32);
         i += 1;
     }
     t
@@ -156,7 +151,7 @@ fn lower_part(r: &[u8]) -> i32
     let mut t: i32 = 0;
     let mut i: usize = 0;
     while i < 32 {
-        t = t + wide(flipped(r, 2 * i)) * (96 - i as i32);
+        t = t + i16_i32(flipped(r, 2 * i)) * (96 - i as i32);
         i += 1;
     }
     t
@@ -212,8 +207,8 @@ pub fn image_sum(s: &[u8]) -> u32
     requires { ⌜ length (now s) ≡ 252 ⌝ }
     ensures { λ r. ⌜ r ≡ checksum (now (s .entry)) ⌝ }
 {
-    let v = field::wide16(field::two(s, 188));
-    let w = field::wide16(field::two(s, 190));
+    let v = u16_u32(field::two(s, 188));
+    let w = u16_u32(field::two(s, 190));
     let mut a: u32 = 1;
     let mut b: u32 = 126;
     let mut k: usize = 0;

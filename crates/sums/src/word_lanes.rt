@@ -9,6 +9,8 @@ ghost use Rattle.sums.specs.Sums.{Summed, Headed};
 ghost use Rattle.sums.specs.Words.{Bounded, Stepped, Passed, low, high};
 use crate::partial::Sums;
 use codec::field;
+use codec::number::u16_u32;
+use codec::number::u32_u64;
 
 pub struct Lanes {
     pub x0: u32,
@@ -37,7 +39,7 @@ fn word(s: &[u8], at: usize) -> u32
     requires { ⌜ at + 2 ≤ length (now s) ⌝ }
     ensures { λ r. ⌜ (r ≡ field 2 at (now (s .entry))) × (r ≤ 65535) ⌝ }
 {
-    field::wide16(field::two(s, at))
+    u16_u32(field::two(s, at))
 }
 
 // Four words.
@@ -74,25 +76,18 @@ fn block(l: Lanes, s: &[u8], at: usize) -> Lanes
     step(l5, s, at + 40)
 }
 
-// A lane's number as a term of the sums.
-fn wide(x: u32) -> u64
-    ensures { λ r. ⌜ (r ≡ x) × (r ≤ 4294967295) ⌝ }
-{
-    x as u64
-}
-
 // The sums with those of the lanes.
 fn total(a: u64, b: u64, at: usize, l: Lanes) -> Sums
     requires { ⌜ (a ≤ 1048576) × (b ≤ 1073741824) ⌝ }
     ensures { λ r. ⌜ (r .a ≡ a + low l) × (r .b ≡ b + high l) × (r .at ≡ at) ⌝ }
 {
-    let p = wide(l.x0) + wide(l.x1);
-    let q = p + wide(l.x2);
-    let r = q + wide(l.x3);
-    let z = wide(l.z0) + wide(l.z1) + wide(l.z2) + wide(l.z3);
+    let p = u32_u64(l.x0) + u32_u64(l.x1);
+    let q = p + u32_u64(l.x2);
+    let r = q + u32_u64(l.x3);
+    let z = u32_u64(l.z0) + u32_u64(l.z1) + u32_u64(l.z2) + u32_u64(l.z3);
     Sums {
         a: a + r,
-        b: b + 4 * z + (wide(l.x0) + p + q + r),
+        b: b + 4 * z + (u32_u64(l.x0) + p + q + r),
         at,
     }
 }

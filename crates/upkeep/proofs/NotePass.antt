@@ -1,6 +1,6 @@
 -- The one pass over the notes: what it has seen so far of a note, and what that comes to where it ends.
-use mathlib.Core.Path.{_≡_, refl, sym, _∙_}
-use mathlib.Core.Bool.{Bool, true, false, _&&_, _||_, not}
+use mathlib.Core.Path.{_≡_, sym, _∙_}
+use mathlib.Core.Bool.{Bool, false, _&&_, _||_, not, and-true, and-assoc}
 use mathlib.Core.List.{List}
 use Prim.Native.Nat.{ℕ, suc, _+_, _-_, _≤_, _<_}
 use native.Mathlib.Decide.{decLt}
@@ -24,14 +24,6 @@ use Rattle.model.specs.declared.{geometry.Geometry.Geometry, item.Note.Note}
 use Rattle.room.proofs.FullNotes.{laterOther}
 
 -- ---- plain laws
-
-and-true : (a : Bool) → (a && true) ≡ a
-and-true true = refl
-and-true false = refl
-
-and-assoc : (a b c : Bool) → ((a && b) && c) ≡ (a && (b && c))
-and-assoc true b c = refl
-and-assoc false b c = refl
 
 -- what fails of fewer numbers fails of more
 fails-more : (w : Bool) (p : ℕ → Bool) (i n : ℕ) → i ≤ n → (w && every i p) ≡ false → (w && every n p) ≡ false

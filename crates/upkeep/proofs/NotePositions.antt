@@ -1,6 +1,6 @@
 -- The note positions: the code's tests come to the definition.
-use mathlib.Core.Path.{_≡_, refl, sym, _∙_}
-use mathlib.Core.Bool.{Bool, true, false, _&&_, _||_}
+use mathlib.Core.Path.{_≡_, sym, _∙_}
+use mathlib.Core.Bool.{Bool, true, false, _&&_, _||_, and-true, and-false}
 use mathlib.Core.List.{List, []}
 use Prim.Native.Nat.{ℕ, _+_, _-_, _%_, _≤_, _<_}
 use native.Mathlib.Nat.{mod-lt}
@@ -34,14 +34,6 @@ use Rattle.model.specs.Scan.{noteRecord}
 use Rattle.model.specs.State.{noteWhole, noteNeeded, notesFull}
 use Rattle.upkeep_policy.specs.Upkeep.{notePosition, noteAhead, firstNeededNote}
 use Rattle.model.specs.declared.{geometry.Geometry.Geometry, item.Note.Note, state.State.State}
-
-and-false : (a : Bool) → (a && false) ≡ false
-and-false true = refl
-and-false false = refl
-
-and-true : (a : Bool) → (a && true) ≡ a
-and-true true = refl
-and-true false = refl
 
 -- position 1 has a number
 has-number : (n k : ℕ) → ltb n (k + 1) ≡ leb n k

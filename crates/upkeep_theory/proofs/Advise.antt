@@ -28,8 +28,8 @@ use Rattle.model.specs.declared.{state.PendingNote.PendingNote, state.State.Sta
 use Rattle.model.specs.declared.state.PendingNote.the-variants.{Absent, Present}
 use Rattle.model.specs.Carry.{countOf}
 use Rattle.model.specs.AbstractLog.{Logged}
-use Rattle.history.proofs.Entries.{lenN}
-use Rattle.history.proofs.Keeps.{note-store}
+use Rattle.history.proofs.Marks.{lenN}
+use Rattle.history.proofs.Persists.{note-store}
 use Rattle.history.proofs.Context.{Ctx, geo}
 use Rattle.history.proofs.WellFormed.{memory-ok}
 use Rattle.upkeep_policy.specs.Upkeep.{reserve, noteAhead, logAhead, notePosition, logPosition}

@@ -63,9 +63,6 @@ advised-plain v m s r c (byLog a q o n1 n2 i lo hi y fi n) = renewal-plain v m s
 
 module _ (g : Geometry) (turns : ring g ≡ true) (n2 : 2 ≤ g .notes) (r W cap : ℕ) (room : g .pages + W + 2 ≤ g .notes)
     (reserves : (W ≡ 0) ⊎ (W + cap ≤ reserve g)) where
-  abbrev Ties : Machine → AbstractLog → Type 0
-  Ties w b = Inv ⊥ g (w .volume) (w .past) (w .power) b
-
   -- a call, by the advice
   call-tidy : (v m : List ℕ) (past : List StoredItem) (s : State) (b : AbstractLog)
       (i : Inv ⊥ g v past (on m s) b) (cuts : ℕ)

@@ -24,9 +24,9 @@ use Rattle.model.specs.AbstractLog.{Logged}
 use Rattle.model.specs.declared.{geometry.Geometry.Geometry, item.Note.Note, state.Entry.Entry}
 use Rattle.model.specs.declared.{state.PendingNote.PendingNote, state.State.State}
 use Rattle.model.specs.declared.state.PendingNote.the-variants.{Absent, Present}
-use Rattle.history.proofs.Keeps.{note-store}
+use Rattle.history.proofs.Persists.{note-store}
 use Rattle.history.proofs.Refusals.{ownRows, rows-are}
-use Rattle.history.proofs.Entries.{markAt}
+use Rattle.history.proofs.Marks.{markAt}
 use Rattle.history.proofs.Context.{Ctx, geo, entry-is, sized}
 use Rattle.upkeep_policy.specs.Upkeep.{make, writtenPages, upkeepOf}
 use Rattle.upkeep_theory.proofs.Shape.{notes}

@@ -29,7 +29,8 @@ use Rattle.model.specs.AbstractLog.{Logged, torn}
 use Rattle.model.specs.History.{leftVolume, itemSealed, tornFits}
 use Rattle.history.proofs.Disk.{Holds, Noted}
 use Rattle.history.proofs.Images.{write-store, backup-store}
-use Rattle.history.proofs.Keeps.{writes, backs, note-store, force-store}
+use Rattle.history.proofs.Persists.{writes, backs, note-store}
+use Rattle.history.proofs.Forces.{force-store}
 use Rattle.history.proofs.Context.{Ctx, geo}
 use Rattle.upkeep_theory.proofs.Tidy.{Tidy}
 use Rattle.upkeep_theory.proofs.Apart.{Apart, apart-none, apart-page, apart-slot}

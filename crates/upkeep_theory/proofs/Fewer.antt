@@ -21,7 +21,7 @@ use Rattle.model.specs.AbstractLog.{Logged}
 use Rattle.model.specs.declared.{geometry.Geometry.Geometry, item.Note.Note, state.Entry.Entry, state.Frame.Frame}
 use Rattle.model.specs.declared.state.State.{State}
 use Rattle.model.specs.declared.state.PendingNote.the-variants.{Absent, Present}
-use Rattle.history.proofs.Entries.{note as note′, markAt}
+use Rattle.history.proofs.Marks.{note as note′, markAt}
 use Rattle.history.proofs.Context.{Ctx, sized}
 use Rattle.upkeep_policy.specs.Upkeep.{everWritten, pendingWritten}
 use Rattle.upkeep_theory.proofs.Near.{wroteIn, wrote-note, stands-whole}

@@ -1,9 +1,9 @@
 -- T1 on any state: where upkeep is idle nothing is owed, nothing is pending, and log and notes have room, so that no
 -- call is refused 11
 -- to 14.
-use mathlib.Core.Path.{_≡_, refl, sym, _∙_}
-use mathlib.Core.Logic.{_≢_, _⊎_, ⊎-elim}
-use mathlib.Core.Bool.{Bool, true, false, cond, _&&_, _||_, not, and-false}
+use mathlib.Core.Path.{_≡_, refl}
+use mathlib.Core.Logic.{_≢_}
+use mathlib.Core.Bool.{Bool, true, false, cond, _&&_, _||_, not}
 use mathlib.Core.List.{List, [], _∷_}
 use Prim.Native.Nat.{ℕ, suc, _+_, _-_, _≤_, _<_}
 use native.Mathlib.Numerals.{add-one}
@@ -11,7 +11,7 @@ use native.Mathlib.Omega.{arith}
 use lib.Dec.{eqb, leb, ltb}
 use lib.ListN.{length}
 use borrow.Author.Tests.{leb-true, leb-false, ltb-false, lt-ltb, le-ltb, lt-leb, ne-eqb}
-use Rattle.laws.proofs.Tables.{byCases, and-right, true-not-false, when-false}
+use Rattle.laws.proofs.Tables.{byCases, and-right, and-fails, true-not-false}
 use Rattle.laws.proofs.Search.{first-from}
 use Rattle.model.specs.Tables.{Row, firstOf, within}
 use Rattle.model.specs.Geometry.{ring, topNumber, geometryOf}
@@ -152,9 +152,6 @@ idle-opens v m s r o n d k e =
       notes = notes-free v s o rest n k;
     }
 
-no-and : (a b : Bool) → b ≡ false → (a && b) ≡ false
-no-and a b e = rw e (and-false a)
-
 -- a table whose rows have none of the four numbers, once the four tests are out
 few-rows : (ts : List Row) → Others 11 ts → Others 12 ts → Others 13 ts → Others 14 ts → NotFull (firstOf ts)
 few-rows ts a b c d =
@@ -164,21 +161,6 @@ few-rows ts a b c d =
       not-noting = none-other 13 (λ z. omega arith) ts c;
       not-notes = none-other 14 (λ z. omega arith) ts d;
     }
-
--- a table whose rows have another number, or do not hold
-abbrev pub Harmless : ℕ → List Row → Type 0
-Harmless n [] = Unit {0}
-Harmless n (t ∷ ts) = ((t .0 ≡ false) ⊎ (t .1 ≢ n)) × Harmless n ts
-
-pub none-harmless : (n : ℕ) → n ≢ 0 → (ts : List Row) → Harmless n ts → firstOf ts ≢ n
-none-harmless n nz [] o = λ z. nz (sym z)
-none-harmless n nz (t ∷ ts) o = ⊎-elim
-    (λ f z. none-harmless n nz ts (o .1) (sym (when-false (t .1) (firstOf ts) f) ∙ z))
-    (pick (t .0) (t .1) (firstOf ts) (none-harmless n nz ts (o .1))) (o .0)
-  where
-    pick : (b : Bool) (a k : ℕ) → k ≢ n → a ≢ n → cond b a k ≢ n
-    pick true a k q p = p
-    pick false a k q p = q
 
 pub not-full : (v m : List ℕ) (s : State) → Open v s → (c : Call) → carries c ≡ false
     → NotFull (firstOf (rowsOf c v m s))
@@ -196,9 +178,8 @@ not-full v m s o (Change p c, x) e = rw (o .pending, o .log)
 not-full v m s o (Force, _) e = few-rows (forceRows v m s) (omega arith) (omega arith) (omega arith) (omega arith)
 not-full v m s o (Write p, _) e =
     rw (
-      no-and (pageDirty s p) (notePending (s .note)) (o .noting),
-      no-and (pageDirty s p)
-          (notesFull (geometryOf v) v s) (o .notes),
+      and-fails (pageDirty s p) (o .noting),
+      and-fails (pageDirty s p) (o .notes),
     )
     (few-rows
     (stateRows v m s

@@ -26,10 +26,12 @@ use Rattle.model.specs.declared.{geometry.Geometry.Geometry, item.Note.Note, st
 use Rattle.model.specs.declared.state.PendingNote.the-variants.{Present}
 use Rattle.history.proofs.Logs.{noLogged, at, lastOf, bodyOf, last-ge, last-le}
 use Rattle.history.proofs.Leaf.{frame-lsn, note-read}
-use Rattle.history.proofs.Entries.{markAt, entryFrom, note, NoteOk}
+use Rattle.history.proofs.Marks.{markAt, note, NoteOk}
+use Rattle.history.proofs.Entries.{entryFrom}
 use Rattle.history.proofs.Sections.{notes-high}
 use Rattle.history.proofs.Disk.{Holds, Noted}
-use Rattle.history.proofs.NoteScan.{note-count, index-is}
+use Rattle.history.proofs.NoteScan.{note-count}
+use Rattle.history.proofs.NoteIndex.{index-is}
 use Rattle.history.proofs.LogScan.{durable-count}
 use Rattle.history.proofs.Inv.{PendingOk}
 use Rattle.history.proofs.Context.{Ctx, sized, geo, len, few, body-size, entry-is, Found}

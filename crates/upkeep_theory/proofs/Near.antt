@@ -22,10 +22,11 @@ use Rattle.model.specs.Carry.{countOf}
 use Rattle.model.specs.AbstractLog.{Logged}
 use Rattle.model.specs.declared.{geometry.Geometry.Geometry, item.Note.Note, state.Entry.Entry}
 use Rattle.model.specs.declared.state.PendingNote.{PendingNote}
-use Rattle.history.proofs.Entries.{note, markAt, lastBy, lsnBy, by-ge, by-le, mark-by, Mark}
+use Rattle.history.proofs.Marks.{note, markAt, lastBy, lsnBy, by-ge, by-le, mark-by, Mark}
 use Rattle.history.proofs.Sections.{volume-sized}
 use Rattle.history.proofs.Disk.{Holds, Noted, NoteStands}
-use Rattle.history.proofs.NoteScan.{note-back, index-is}
+use Rattle.history.proofs.NoteScan.{note-back}
+use Rattle.history.proofs.NoteIndex.{index-is}
 use Rattle.upkeep_policy.specs.Upkeep.{writtenPages}
 use Rattle.upkeep_theory.proofs.Counting.{Notes, few-written, few-backups, few-notes, room-written, room-backup}
 use Rattle.upkeep_theory.proofs.NotesTidy.{NotesTidy, alike-holds}

@@ -27,7 +27,7 @@ use Rattle.model.specs.declared.state.PendingNote.the-variants.{Absent, Present
 use Rattle.model.specs.declared.command.Command.the-variants.{Backup, Note as NoteCall}
 use Rattle.model.specs.AbstractLog.{Logged}
 use Rattle.history.proofs.Images.{sealed-size}
-use Rattle.history.proofs.Keeps.{writes, backs}
+use Rattle.history.proofs.Persists.{writes, backs}
 use Rattle.history.proofs.Context.{Ctx, geo}
 use Rattle.history.proofs.WellFormed.{memory-ok}
 use Rattle.upkeep_policy.specs.Upkeep.{refresh}

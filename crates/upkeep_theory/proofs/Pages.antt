@@ -23,7 +23,7 @@ use Rattle.model.specs.AbstractLog.{Logged}
 use Rattle.model.specs.declared.{geometry.Geometry.Geometry, item.Note.Note, item.LogRecord.LogRecord}
 use Rattle.model.specs.declared.state.State.{State}
 use Rattle.history.proofs.Logs.{at, lastOf, last-ge}
-use Rattle.history.proofs.Entries.{note}
+use Rattle.history.proofs.Marks.{note}
 use Rattle.history.proofs.Disk.{Stands, Torn, NoteStands, NoteTorn}
 use Rattle.history.proofs.NoteScan.{note-back}
 use Rattle.history.proofs.LogScan.{rec-at}

@@ -4,12 +4,11 @@
 use mathlib.Core.Path.{_≡_, refl, ap}
 use mathlib.Core.Bool.{false, _&&_, not}
 use mathlib.Core.List.{List, [], _∷_}
-use Prim.Native.Nat.{ℕ, zero, suc, _-_, _≤_}
-use native.Mathlib.Nat.{le-of-suc-le-suc}
+use Prim.Native.Nat.{ℕ, _-_, _≤_}
 use native.Mathlib.Omega.{arith}
 use native.Mathlib.Decide.{decLt, ℕ-discrete}
 use lib.Dec.{eqb}
-use lib.ListN.{length, getD}
+use lib.ListN.{length, List·getD-eq-default}
 use borrow.Author.Tests.{le-ltb, eq-eqb, ne-eqb}
 use Rattle.laws.proofs.Tables.{and-right, true-not-false}
 use Rattle.model.specs.Tables.{Row, firstOf, within}
@@ -43,11 +42,6 @@ by-rows ts a b = record {
       none-other 15 (λ z. omega arith) ts b;
 }
 
-past-end : (fs : List Frame) (j : ℕ) → length fs ≤ j → getD fs j emptyFrame ≡ emptyFrame
-past-end [] j h = refl
-past-end (f ∷ fs) zero h = absurd (omega arith)
-past-end (f ∷ fs) (suc j) h = past-end fs j (le-of-suc-le-suc h)
-
 module _ {C : Type 0} {g : Geometry} {v m : List ℕ} {past : List StoredItem} {s : State} {k w : List Logged}
     (x : Ctx C g v m past s k w) (quiet : s .pending ≡ 0) where
   -- all changes are durable
@@ -72,7 +66,8 @@ module _ {C : Type 0} {g : Geometry} {v m : List ℕ} {past : List StoredItem} {
           let fr = x .al .frames .each (f - 1) i nz in
           rw (ne-eqb (frameOf s f .page) 0 nz, page-quiet (frameOf s f .page) (fr .low) (fr .high))
       | no b ↦ absurd (nz
-          (ap (λ (y : Frame). y .page) (past-end (s .frames) (f - 1) (omega (arith, x .al .frames .size)))))
+          (ap (λ (y : Frame). y .page)
+          (List·getD-eq-default (s .frames) emptyFrame {n = f - 1} (omega (arith, x .al .frames .size)))))
     ]
   ]
 

@@ -29,9 +29,9 @@ use Rattle.model.specs.declared.command.Command.the-variants.{Load, Write}
 use Rattle.model.specs.declared.state.PendingNote.the-variants.{Absent, Present}
 use Rattle.model.specs.declared.command.Command.the-variants.{Backup}
 use Rattle.model.specs.AbstractLog.{Logged}
-use Rattle.history.proofs.Entries.{note as note′, markAt}
+use Rattle.history.proofs.Marks.{note as note′, markAt}
 use Rattle.history.proofs.Images.{sealed-size}
-use Rattle.history.proofs.Keeps.{writes, backs}
+use Rattle.history.proofs.Persists.{writes, backs}
 use Rattle.history.proofs.Context.{Ctx, geo, entry-is, Found}
 use Rattle.upkeep_policy.specs.Upkeep.{reserve, refresh}
 use Rattle.upkeep_theory.proofs.Shape.{notes}

@@ -1,13 +1,12 @@
 -- T2, one call of upkeep's: what holds before it holds after it.
-use mathlib.Core.Path.{_≡_, refl, sym, _∙_}
-use mathlib.Core.Logic.{⊎-elim}
-use mathlib.Core.Bool.{true, not}
+use mathlib.Core.Path.{_≡_, sym, _∙_}
+use mathlib.Core.Bool.{not}
 use mathlib.Core.List.{List}
-use Prim.Native.Nat.{ℕ, suc, _+_, _≤_}
+use Prim.Native.Nat.{ℕ, _+_, _≤_}
 use native.Mathlib.Omega.{arith}
 use lib.Dec.{eqb}
 use lib.ListN.{length, replicate}
-use Rattle.laws.proofs.Tables.{or-right, or-cases, true-not-false}
+use Rattle.laws.proofs.Tables.{or-right}
 use Rattle.laws.proofs.Items.{frameImage-length}
 use Rattle.model.specs.Tables.{firstOf}
 use Rattle.model.specs.Geometry.{topNumber}
@@ -18,22 +17,18 @@ use Rattle.model.specs.Outcome.{StoredItem, decided}
 use Rattle.model.specs.Effects.{forcedState, appendedMemory, changeDone, loadDone}
 use Rattle.model.specs.Calls.{outcomeOf, noPayload}
 use Rattle.model.specs.declared.{command.Command.the-variants.Load, change.Change.the-variants.Put}
-use Rattle.model.specs.declared.{geometry.Geometry.Geometry, state.PendingNote.the-variants.Absent, state.State.State}
-use Rattle.model.specs.Carry.{countOf}
+use Rattle.model.specs.declared.{geometry.Geometry.Geometry, state.State.State}
 use Rattle.model.specs.AbstractLog.{Logged}
 use Rattle.history.proofs.Logs.{lastOf, bodyOf, last-le}
 use Rattle.history.proofs.Leaf.{frame-size}
 use Rattle.history.proofs.Memory.{pending-memory, frame-memory}
 use Rattle.history.proofs.Context.{Ctx, sized, geo, few, body-size}
 use Rattle.history.proofs.Loads.{loads-above, load-image, loads as loaded}
-use Rattle.upkeep_policy.specs.Upkeep.{everWritten, pendingWritten, writtenPages, refresh}
+use Rattle.upkeep_policy.specs.Upkeep.{everWritten, refresh}
 use Rattle.upkeep_theory.proofs.Frames.{refreshed, put-length}
 use Rattle.upkeep_theory.proofs.Text.{put-found}
-use Rattle.upkeep_theory.proofs.Near.{wroteIn, written-pages}
-use Rattle.upkeep_theory.proofs.Counting.{count-le}
 use Rattle.upkeep_theory.proofs.Same.{few-same, written-forced}
 use Rattle.upkeep_theory.proofs.StateCounts.{forced-counts}
-use Rattle.upkeep_theory.proofs.Written.{entry-written}
 
 module _ {C : Type 0} {g : Geometry} {v m : List ℕ} {past : List StoredItem} {s : State} {k w : List Logged}
     (x : Ctx C g v m past s k w) where
@@ -67,16 +62,6 @@ module _ {C : Type 0} {g : Geometry} {v m : List ℕ} {past : List StoredItem} {
       (frameImage-length p (lastNumber s + 1) (bodyOf p (x .all)) (body-size x p)) .size ∙ sym (x .al .memory .size))
 
   -- ---- no more pages are written
-
-  -- where nothing is owed, the volume's count is the state's
-  pub few-absent : (W : ℕ) → s .note ≡ Absent → writtenPages v ≤ W → everWritten s ≤ W
-  unfolding everWritten
-  few-absent W na h =
-      let c : everWritten s ≤ countOf 64 (wroteIn (x .ns)) = count-le 64 _ (wroteIn (x .ns)) (λ i b t. ⊎-elim
-      (λ u. rw (← (entry-written x i b)) u)
-      (λ u. absurd (let z : pendingWritten Absent (suc i) ≡ true = rw na at u in true-not-false z refl))
-      (or-cases (not (eqb (entryRow (s .index) i .written) 0)) (pendingWritten (s .note) (suc i)) t)) in
-      omega (arith, written-pages g v k (x .hs) (x .ns) (x .no) (geo x))
 
   pub few-forced : (pages p : ℕ) → everWritten (forcedState s pages p) ≤ everWritten s
   few-forced pages p = few-same s (forcedState s pages p) (written-forced s pages p)

@@ -23,7 +23,7 @@ use Rattle.upkeep_theory.proofs.Near.{wroteIn, stands-whole}
 use Rattle.upkeep_theory.proofs.Tidy.{Tidy, sinceWritten}
 use Rattle.upkeep_theory.proofs.Step.{place2}
 use Rattle.upkeep_theory.proofs.Measure.{restOf, three-of}
-use Rattle.history.proofs.Entries.{note as note′}
+use Rattle.history.proofs.Marks.{note as note′}
 
 module _ {C : Type 0} {g : Geometry} {v m : List ℕ} {past : List StoredItem} {s : State} {k w : List Logged}
     (x : Ctx C g v m past s k w) (turns : ring g ≡ true) (n2 : 2 ≤ g .notes) (cuts : ℕ) (t : Tidy g v s cuts)

@@ -5,11 +5,10 @@ use mathlib.Core.Logic.{⊎-elim}
 use mathlib.Core.Bool.{true, false, cond, not}
 use mathlib.Core.List.{List, [], _∷_}
 use Prim.Native.Nat.{ℕ, zero, suc, _+_, _≤_}
-use native.Mathlib.Nat.{le-of-suc-le-suc}
 use native.Mathlib.Omega.{arith}
 use native.Mathlib.Decide.{decLt}
 use lib.Dec.{eqb}
-use lib.ListN.{length, getD}
+use lib.ListN.{getD, List·getD-eq-default}
 use borrow.Author.Tests.{eqb-true, le-ltb, not-false}
 use Rattle.laws.proofs.Tables.{byCases, or-cases, all-at, within-bounds, within-holds, true-not-false}
 use Rattle.laws.proofs.Search.{first-from}
@@ -69,11 +68,6 @@ used-few n (suc P) (e ∷ es) h =
     let ih : used n es ≤ P = used-few n P es (λ i b. h (suc i) (omega arith)) in
     byCases (within n (e .slot)) (λ t. rw t (omega arith)) (λ t. rw t (omega arith))
 
-past-end : (es : List Entry) (i : ℕ) → length es ≤ i → getD es i emptyEntry ≡ emptyEntry
-past-end [] i h = refl
-past-end (e ∷ es) zero h = absurd (omega arith)
-past-end (e ∷ es) (suc i) h = past-end es i (le-of-suc-le-suc h)
-
 -- ---- the claim
 
 pub slot-left : SlotLeft
@@ -89,7 +83,7 @@ slot-left v frames s wf p64 size more =
           eqb-true (e .slot) 0
           (all-at (eqb (e .last) 0 ∷ eqb (e .durable) 0 ∷ eqb (e .written) 0 ∷ eqb (e .slot) 0 ∷ eqb (e .backup) 0 ∷ [])
           3 t)
-      | no n ↦ ap (λ (e : Entry). e .slot) (past-end (s .index) i (omega arith))
+      | no n ↦ ap (λ (e : Entry). e .slot) (List·getD-eq-default (s .index) emptyEntry {n = i} (omega arith))
     ] in
     let few = used-few (g .slots) (g .pages) (s .index) rows in (
       q .low,

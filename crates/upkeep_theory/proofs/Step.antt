@@ -27,7 +27,7 @@ use Rattle.model.specs.declared.command.Command.the-variants.{Change, Backup, N
 use Rattle.model.specs.Carry.{carries}
 use Rattle.model.specs.AbstractLog.{Logged}
 use Rattle.history.proofs.Images.{sealed-size}
-use Rattle.history.proofs.Keeps.{writes, backs}
+use Rattle.history.proofs.Persists.{writes, backs}
 use Rattle.history.proofs.Context.{Ctx, geo}
 use Rattle.upkeep_policy.specs.Upkeep.{idle, upkeepOf, reserve, noteAhead, notePosition}
 use Rattle.upkeep_theory.proofs.Idle.{Rest, idle-rests}

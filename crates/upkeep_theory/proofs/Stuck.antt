@@ -26,7 +26,7 @@ use Rattle.model.specs.declared.command.Command.the-variants.{Load, Force, Writ
 use Rattle.model.specs.declared.command.Command.the-variants.{Backup, Note as NoteCall}
 use Rattle.model.specs.AbstractLog.{Logged}
 use Rattle.model.specs.Carry.{countOf}
-use Rattle.history.proofs.Entries.{note as note′, markAt}
+use Rattle.history.proofs.Marks.{note as note′, markAt}
 use Rattle.history.proofs.Context.{Ctx, sized, geo, entry-is}
 use Rattle.history.proofs.Refusals.{call-refusal}
 use Rattle.history.proofs.WellFormed.{state-ok}

@@ -60,10 +60,6 @@ unfolding run logAfter
 log-append w b [] fs = refl
 log-append w b (e ∷ es) fs = log-append (step w e) (stepLog w b e) es fs
 
-pub reached-more : (h : History) (e : Event) → reached (extended h (e ∷ [])) ≡ step (reached h) e
-unfolding reached run
-reached-more h e = run-append (fresh h) (h .events) (e ∷ [])
-
 pub log-more : (h : History) (e : Event) → logOf (extended h (e ∷ [])) ≡ stepLog (reached h) (logOf h) e
 unfolding reached logOf logAfter
 log-more h e = log-append (fresh h) _ (h .events) (e ∷ [])

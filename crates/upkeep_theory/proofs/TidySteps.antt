@@ -4,7 +4,7 @@ use mathlib.Core.Path.{_≡_, refl, sym, ap, _∙_}
 use mathlib.Core.Logic.{_≢_, _⊎_, inl, inr}
 use mathlib.Core.Bool.{true, false}
 use mathlib.Core.List.{List}
-use Prim.Native.Nat.{ℕ, suc, _+_, _-_, _≤_, _<_}
+use Prim.Native.Nat.{ℕ, suc, _+_, _-_, _≤_}
 use native.Mathlib.Omega.{arith}
 use native.Mathlib.Decide.{decLt}
 use Rattle.laws.proofs.Search.{count-same}
@@ -13,12 +13,11 @@ use Rattle.model.specs.Geometry.{slotOf}
 use Rattle.model.specs.Item.{isWritten, noteOf}
 use Rattle.model.specs.Index.{entryOf}
 use Rattle.model.specs.Scan.{logRecord, noteRecord}
-use Rattle.model.specs.State.{recordNeeded, noteNeeded}
+use Rattle.model.specs.State.{recordNeeded}
 use Rattle.model.specs.declared.{geometry.Geometry.Geometry, item.Note.Note, state.State.State}
 use Rattle.model.specs.declared.state.PendingNote.the-variants.{Absent, Present}
 use Rattle.history.proofs.Sections.{Volume}
 use Rattle.upkeep_policy.specs.Upkeep.{reserve}
-use Rattle.upkeep_theory.proofs.Shift.{note-same}
 use Rattle.upkeep_theory.proofs.NotesTidy.{NotesTidy, tidy-lost, tidy-same, no-present}
 use Rattle.upkeep_theory.proofs.LogTidy.{LogTidy, LogSame, log-same}
 use Rattle.upkeep_theory.proofs.Tidy.{Busy, sinceWritten, Sums, Tidy, From}
@@ -45,9 +44,6 @@ module _ (g : Geometry) (v : List ℕ) (vol : Volume g v) (s : State) (l2 : 2 �
 
   written-same : sinceWritten g v′ (s′ .notes) (t .z .k0) ≡ sinceWritten g v (s .notes) (t .z .k0)
   written-same = rw kk (count-same _ _ (s .notes - t .z .k0) (λ i b. rw (rec (t .z .k0 + i))))
-
-  needed-stays : (a : ℕ) → a < s .notes → noteNeeded g v′ (s′ .notes) (suc a) ≡ noteNeeded g v (s .notes) (suc a)
-  needed-stays a b = rw kk (note-same g v vol (omega arith) v′ (s .notes) a b (ap′ .notes))
 
   nothing-written : ((p : ℕ) → 1 ≤ p → p ≤ g .pages → entryOf (s′ .index) p .written ≡ 0)
       → s .durable + s .pending ≡ t .z .d0 + t .z .u

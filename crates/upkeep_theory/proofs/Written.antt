@@ -16,7 +16,7 @@ use Rattle.model.specs.Carry.{countOf}
 use Rattle.model.specs.AbstractLog.{Logged}
 use Rattle.model.specs.declared.{geometry.Geometry.Geometry, item.Note.Note, state.Entry.Entry}
 use Rattle.model.specs.declared.{state.PendingNote.the-variants.Present, state.State.State}
-use Rattle.history.proofs.Entries.{markAt, Mark, mark-hit, mark-miss, mark-append, noteN, lenN}
+use Rattle.history.proofs.Marks.{markAt, Mark, mark-hit, mark-miss, mark-append, noteN, lenN}
 use Rattle.history.proofs.Context.{Ctx}
 use Rattle.upkeep_policy.specs.Upkeep.{everWritten, pendingWritten}
 use Rattle.upkeep_theory.proofs.Near.{wroteIn}

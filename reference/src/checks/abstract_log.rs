@@ -26,7 +26,7 @@ pub struct Replay {
 pub struct AbstractLog {
     pub pending: VecDeque<Entry>,
     pub durable: Vec<Entry>,
-    /// Added to a place in kept to give its number; not 0 only after a lift.
+    /// Added to a place in the durable list to give its number; not 0 only after a lift.
     pub base: u32,
 }
 
@@ -63,32 +63,32 @@ impl AbstractLog {
         self.durable.extend(self.pending.pop_front());
     }
 
-    /// The page's replay from kept; None if it is blank.
+    /// The page's replay of its durable changes; None if it is blank.
     pub fn replay(&self, page: u16) -> Option<Replay> {
         replay(self.durable.iter(), page, self.base)
     }
 
-    /// The same with the changes that still wait, as a frame should hold it.
+    /// The same with the pending changes, as a frame should hold it.
     pub fn replay_with_pending(&self, page: u16) -> Option<Replay> {
         replay(self.durable.iter().chain(&self.pending), page, self.base)
     }
 
-    /// The kept changes with their numbers.
+    /// The durable changes with their numbers.
     pub fn numbered(&self) -> impl Iterator<Item = (u32, &Entry)> {
         (1u32..).zip(&self.durable).map(|(place, entry)| (self.base + place, entry))
     }
 
-    /// The last kept change's number.
+    /// The last durable change's number.
     pub fn last(&self) -> u32 {
         self.base + self.durable.len() as u32
     }
 
-    /// The kept change with this number.
+    /// The durable change with this number.
     pub fn entry(&self, number: u32) -> &Entry {
         &self.durable[(number - self.base) as usize - 1]
     }
 
-    /// Numbers of the page's kept changes.
+    /// Numbers of the page's durable changes.
     pub fn places(&self, page: u16) -> Vec<u32> {
         let of_page = self.numbered().filter(|(_, entry)| entry.page == page);
         of_page.map(|(number, _)| number).collect()

@@ -46,7 +46,7 @@ pub fn check_read_back(
     ensure(same, || format!("page {page}: {answer}, but the archive has another image"))
 }
 
-/// The archive that the kept changes give.
+/// The archive that the durable changes give.
 fn archive_from(abstract_log: &AbstractLog, pages: usize) -> Vec<u8> {
     let mut archive = Vec::new();
     for page in 1..=pages as u16 {

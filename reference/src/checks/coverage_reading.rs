@@ -8,7 +8,7 @@ use crate::checks::fault::Fault;
 use crate::script::cell::Call;
 use crate::script::driver::Driver;
 use crate::store::answer::{Answer, Refusal};
-use crate::store::archive::{archive_length, sections};
+use crate::store::archive::{archive_length, segments};
 use crate::store::calls::inspect;
 use crate::store::forecast::forecast;
 use crate::store::geometry::{Geometry, IMAGE_LEN, MAX_PAGES};
@@ -70,7 +70,7 @@ pub fn cases(driver: &Driver, call: &Call, answer: &Answer) -> Vec<String> {
             }
         }
         (Call::Unarchive, Answer::Refused(_)) => {
-            let fault = sections(driver.second(), driver.lent_len / IMAGE_LEN).err();
+            let fault = segments(driver.second(), driver.lent_len / IMAGE_LEN).err();
             return fault.map(|fault| format!("{fault:?}")).into_iter().collect();
         }
         _ => Vec::new(),

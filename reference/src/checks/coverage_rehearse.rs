@@ -1,7 +1,7 @@
 //! The cases behind a rehearsal.
 
+use crate::planning::{rehearse, Event, Figures, Settings, Victim, MAX_EVENTS};
 use crate::script::driver::Driver;
-use crate::store::rehearse::{rehearse, Event, Figures, Settings, Victim, MAX_EVENTS};
 
 pub const REHEARSE_CASES: &[&str] = &[
     "too many events",
@@ -58,7 +58,7 @@ fn refused_cases(events: &[u8], settings: &Settings) -> Vec<&'static str> {
 
 fn played_cases(events: &[u8], settings: &Settings, rows: &[Figures]) -> Vec<&'static str> {
     let any = |figure: fn(&Figures) -> u32| rows.iter().any(|row| figure(row) > 0);
-    let let_go = settings.victim == Victim::LetGo;
+    let released = settings.victim == Victim::Released;
     let first_is_read = events.first().is_some_and(|&byte| byte < 128);
     let cases = [
         ("no events", events.is_empty()),
@@ -67,7 +67,7 @@ fn played_cases(events: &[u8], settings: &Settings, rows: &[Figures]) -> Vec<&'s
         ("the largest interval", settings.interval == 255),
         ("a read before the first change", first_is_read),
         ("images written", any(|row| row.images)),
-        ("nothing written that was let go", let_go && any(|row| row.loads)),
+        ("nothing written that was let go", released && any(|row| row.loads)),
         ("backups taken", any(|row| row.backups)),
         ("records replayed", any(|row| row.replayed)),
     ];

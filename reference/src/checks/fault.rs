@@ -78,18 +78,18 @@ pub enum Fault {
     HistoryLost,
     /// The buffer hasn't the archive's length.
     ArchiveBuffer,
-    /// A section's count is missing.
+    /// A segment's count is missing.
     ArchiveShort,
     /// It is more than the bytes left hold.
     ArchiveCount,
-    /// Bytes are left after the last section.
+    /// Bytes are left after the last segment.
     ArchiveRest,
     ArchiveChecksum,
     ArchiveLayout,
     ArchivePage,
     /// The page's low byte alone is right.
     ArchivePageHigh,
-    /// A section's first record has the number 0.
+    /// A segment's first record has the number 0.
     ArchiveZero,
     /// It names another.
     ArchiveFirst,

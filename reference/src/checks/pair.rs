@@ -1,5 +1,5 @@
 //! Two stores, the second of which follows the first's changes: what their comparison says
-//! against what their books say.
+//! against what their abstract logs say.
 
 use crate::checks::abstract_log::Entry;
 use crate::checks::histories::{ensure, Checker};
@@ -66,7 +66,7 @@ fn followed(first: &Checker, rng: &mut Rng) -> Result<Checker, String> {
     Ok(second)
 }
 
-/// The comparison of two volumes is that of the kept lists, and pages that are not listed
+/// The comparison of two volumes is that of the durable lists, and pages that are not listed
 /// are the same in both. None where record 1 has left either log.
 fn check_compare(first: &Checker, second: &Checker) -> Result<Option<Compared>, String> {
     let compared = compare(first.world.volume(), second.world.volume());
@@ -76,7 +76,7 @@ fn check_compare(first: &Checker, second: &Checker) -> Result<Option<Compared>, 
         return Ok(None);
     }
     let expected = compare_durable(&first.abstract_log.durable, &second.abstract_log.durable);
-    ensure(compared == Ok(expected), || format!("{compared:?}, books {expected:?}"))?;
+    ensure(compared == Ok(expected), || format!("{compared:?}, abstract logs {expected:?}"))?;
     let pages = first.world.geometry.pages.min(second.world.geometry.pages);
     for page in 1..=pages {
         if !expected.touched[page - 1] {

@@ -4,12 +4,12 @@
 use crate::checks::histories::ensure;
 use crate::generators::rehearse_lists::{choose_events, choose_settings};
 use crate::generators::rng::Rng;
+use crate::planning::{rehearse, Event, Figures, Rehearsal, Settings, Victim};
 use crate::store::answer::Answer;
 use crate::store::calls::{make, restart};
 use crate::store::geometry::{memory_len_for, Geometry, MAX_FRAMES, MAX_PAGES};
 use crate::store::heading::Heading;
 use crate::store::record::{Change, PAYLOAD_LEN};
-use crate::store::rehearse::{rehearse, Event, Figures, Rehearsal, Settings, Victim};
 use crate::store::state::State;
 
 /// Whether the real calls of some list were all taken; their figures are then the model's.
@@ -141,7 +141,7 @@ impl Site<'_> {
         }
         let state = self.state;
         match self.settings.victim {
-            Victim::LetGo => {
+            Victim::Released => {
                 let released = state.release(&self.volume, &self.memory, held.page);
                 self.take(released)?;
             }

@@ -90,8 +90,8 @@ impl RingView<'_> {
     /// Every record below the log's run, or that a pending one will displace, is spare.
     pub fn check_spare(&self) -> Result<(), String> {
         let given = u64::from(self.abstract_log.last()) + self.abstract_log.pending.len() as u64;
-        let kept = given.saturating_sub(self.world.geometry.records as u64);
-        let first = u64::from(self.first()).max(kept + 1);
+        let displaced = given.saturating_sub(self.world.geometry.records as u64);
+        let first = u64::from(self.first()).max(displaced + 1);
         if !self.world.geometry.is_ring() {
             return Ok(());
         }
@@ -103,7 +103,7 @@ impl RingView<'_> {
                 format!("record {number} of page {} is needed and lost", entry.page)
             })?;
         }
-        let pending_in_the_way = kept > u64::from(self.abstract_log.last());
+        let pending_in_the_way = displaced > u64::from(self.abstract_log.last());
         ensure(!pending_in_the_way, || "a pending record displaces a pending one".into())
     }
 

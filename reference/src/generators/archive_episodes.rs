@@ -76,7 +76,7 @@ fn break_archive(world: &mut World, rng: &mut Rng) {
     }
 }
 
-/// One field of a record, often of a section's first.
+/// One field of a record, often of a segment's first.
 fn break_record(world: &mut World, records: &[&Part], rng: &mut Rng) {
     let first = rng.chance(400);
     let candidates: Vec<&&Part> =
@@ -93,7 +93,7 @@ fn break_record(world: &mut World, records: &[&Part], rng: &mut Rng) {
     world.script.poke_second(part.place.clone(), &bytes);
 }
 
-/// A section's count, one off or such that 64 times it wraps to little.
+/// A segment's count, one off or such that 64 times it wraps to little.
 fn break_count(world: &mut World, parts: &[Part], rng: &mut Rng) {
     let counts: Vec<&Part> = parts.iter().filter(|part| !part.record).collect();
     if counts.is_empty() {
@@ -132,7 +132,7 @@ struct Part {
     place: Range<usize>,
     record: bool,
     page: u16,
-    /// The number of the record before it in its section.
+    /// The number of the record before it in its segment.
     before: u32,
 }
 

@@ -2,9 +2,9 @@
 
 use crate::generators::rehearse_lists::{choose_events, choose_settings};
 use crate::generators::rng::Rng;
+use crate::planning::{Settings, MAX_EVENTS};
 use crate::script::cell::{Call, Cell, Op, CELL_LEN};
 use crate::script::recorder::Script;
-use crate::store::rehearse::{Settings, MAX_EVENTS};
 
 /// Adds a list with several settings, and both broken in some way.
 pub fn one_rehearsal(mut script: Script, rng: &mut Rng) -> Script {

@@ -1,8 +1,8 @@
 //! Lists of reads and changes: two kinds of reader of a thread, and random ones.
 
 use crate::generators::rng::Rng;
+use crate::planning::{Settings, Victim, MAX_EVENTS};
 use crate::store::geometry::{MAX_FRAMES, MAX_PAGES};
-use crate::store::rehearse::{Settings, Victim, MAX_EVENTS};
 
 /// A thread of 16 pages: each begun and then changed 20 times.
 const THREAD_PAGES: u8 = 16;
@@ -86,6 +86,6 @@ pub fn choose_settings(rng: &mut Rng) -> Settings {
     Settings {
         frames: rng.pick(&[1, 1, 2, 2, 3, 4, 8, 15, MAX_FRAMES as u16]),
         interval: rng.pick(&[1, few, few, few, 16, any, 255]),
-        victim: rng.pick(&[Victim::Written, Victim::LetGo]),
+        victim: rng.pick(&[Victim::Written, Victim::Released]),
     }
 }

@@ -1,10 +1,10 @@
 //! The cells of a driver script: 64 bytes each, decoded to `Op`.
 
+use crate::planning::{Settings, Victim};
 pub use crate::script::encode::encode;
 use crate::store::bytes::{u16_at, u32_at};
 use crate::store::heading::Heading;
 use crate::store::record::{Change, Payload, PAYLOAD_LEN};
-use crate::store::rehearse::{Settings, Victim};
 
 pub const CELL_LEN: usize = 64;
 /// A script's further cells are ignored.
@@ -191,7 +191,7 @@ pub fn decode(cell: &Cell) -> Op {
 fn decode_victim(kind: u8) -> Option<Victim> {
     match kind {
         0 => Some(Victim::Written),
-        1 => Some(Victim::LetGo),
+        1 => Some(Victim::Released),
         _ => None,
     }
 }

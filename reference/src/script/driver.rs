@@ -1,5 +1,6 @@
 //! The driver of the script format: buffers, a state, and a line for each cell.
 
+use crate::planning::{rehearse, Settings};
 use crate::script::cell::{decode, Call, Cell, Op, Second, CELL_LEN, MAX_CELLS};
 use crate::store::answer::Answer;
 use crate::store::archive::{archive_length, archive_pages, read_archive, write_archive};
@@ -7,7 +8,6 @@ use crate::store::calls::{inspect, make, restart};
 use crate::store::compare::compare;
 use crate::store::forecast::{forecast, Figure};
 use crate::store::record::PAYLOAD_LEN;
-use crate::store::rehearse::{rehearse, Settings};
 use crate::store::state::State;
 use std::io::{self, Write};
 

@@ -1,9 +1,9 @@
 //! The cells of a driver script, encoded from `Op`.
 
+use crate::planning::{Settings, Victim};
 use crate::script::cell::{Call, Cell, Op, Second, CELL_LEN, NUMBER_A, NUMBER_B, PAYLOAD_AT};
 use crate::store::bytes::{put_u16, put_u32};
 use crate::store::record::{Change, Payload, PAYLOAD_LEN};
-use crate::store::rehearse::{Settings, Victim};
 
 /// The cell that decodes to `op`.
 pub fn encode(op: &Op) -> Cell {
@@ -81,7 +81,7 @@ fn encode_call(call: &Call, cell: &mut Cell) {
             put_u16(cell, 2, page)
         }
         Call::Rehearse(Settings { frames, interval, victim }) => {
-            cell[1] = u8::from(victim == Victim::LetGo);
+            cell[1] = u8::from(victim == Victim::Released);
             put_u16(cell, 2, frames);
             put_u32(cell, NUMBER_A, interval);
         }

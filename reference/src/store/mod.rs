@@ -13,7 +13,6 @@ pub mod image;
 pub mod note;
 pub mod record;
 pub mod recovered;
-pub mod rehearse;
 pub mod restart;
 pub mod room;
 pub mod scan;

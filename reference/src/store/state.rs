@@ -121,7 +121,7 @@ impl State {
             0 => self.durable = value,
             1 => self.pending = value,
             2 => self.notes = value,
-            3 => self.set_owed_kind(value)?,
+            3 => self.set_note_kind(value)?,
             4 => self.pending_note.as_mut()?.number = value,
             5 => self.pending_note.as_mut()?.page = value.try_into().ok()?,
             6 => self.pending_note.as_mut()?.slot = value.try_into().ok()?,
@@ -148,7 +148,7 @@ impl State {
         Some(())
     }
 
-    fn set_owed_kind(&mut self, value: u32) -> Option<()> {
+    fn set_note_kind(&mut self, value: u32) -> Option<()> {
         if value == 0 {
             self.pending_note = None;
             return Some(());

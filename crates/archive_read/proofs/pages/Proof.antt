@@ -1,4 +1,4 @@
--- `archive_read::pages` meets its contract. The loop keeps `Counted`: k sections are cut off, up to the place.
+-- `archive_read::pages` meets its contract. The loop keeps `Counted`: k segments are cut off, up to the place.
 use Prim.Native.Nat.{_-_}
 use native.Mathlib.Omega.{arith}
 use lib.ListN.{length}

@@ -34,8 +34,8 @@ returns c = write-refused _ _ (c .before .before .before .before .before .measur
 geometry-requires : tie.Need-geometry-requires
 geometry-requires c κs = search needs
 
-sections-requires : tie.Need-sections-requires
-sections-requires c κs =
+segments-requires : tie.Need-segments-requires
+segments-requires c κs =
     let b = now (c .before .before .before .before .before .before .before .before .before .before .args .buffer) in
     let o = c .before .before in
     write-ready _ _ (o .before .before .before .before .before .measure .ensures) b _ (number (o .before)) (o .if1 .left) _
@@ -48,7 +48,7 @@ returns-2 : tie.Need-returns-2
 returns-2 c =
     let o = c .before .before .before .before .before in
     write-done _ _ (o .before .before .before .before .before .measure .ensures) _ _ (number (o .before)) (o .if1 .left) _
-    (c .before .before .before .before .geometry .ensures) _ (c .before .before .sections .ensures)
+    (c .before .before .before .before .geometry .ensures) _ (c .before .before .segments .ensures)
 
 pub fill-spec : {M : Type 1} → statement M
 fill-spec =
@@ -60,6 +60,6 @@ fill-spec =
     first-requires-2
     returns
     geometry-requires
-    sections-requires
+    segments-requires
     same-length
     returns-2)

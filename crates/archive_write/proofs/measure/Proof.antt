@@ -9,27 +9,28 @@ use Rattle.archive_write.proofs.measure.Statement.{statement}
 use Rattle.archive_write.proofs.measure.Tie as tie
 
 -- the refusal's number is the table's
-number : (c : tie.After-refusal) → c .refusal .result ≡ wholeRefusal (now (c .before .before .before .before .args .volume))
-number c = let k = c .before .before .count in refusal-is _ (k .result) (k .ensures .0) (k .ensures .1) _ (c .refusal .ensures)
+number : (c : tie.After-refusal) → c .refusal .result ≡ wholeRefusal (now (c .before .before .before .args .volume))
+number c = let k = c .before .count in refusal-is _ (k .result) (k .ensures .0) (k .ensures .1) _ (c .refusal .ensures)
 
-opened : (c : tie.Else1)
-    → let a = c .before .before .before .before .before .args in
-    Known (now (a .volume)) (c .before .before .geometry .result) (c .before .before .before .count .result)
+opened : (c : tie.After-geometry)
+    → let r = c .before .before in
+    Known (now (r .before .before .before .args .volume)) (c .geometry .result) (r .before .count .result)
 opened c =
-    let k = c .before .before .before .count in
-    known _ _ (c .before .before .geometry .ensures) (k .result) (k .ensures .0) (k .ensures .1) (sym (number (c .before)) ∙ c .if1 .left)
+    let r = c .before .before in
+    let k = r .before .count in
+    known _ _ (c .geometry .ensures) (k .result) (k .ensures .0) (k .ensures .1) (sym (number r) ∙ c .before .if1 .left)
 
 count-requires : tie.Need-count-requires
 count-requires c κs = search needs
-
-geometry-requires : tie.Need-geometry-requires
-geometry-requires c κs = search needs
 
 refusal-requires : tie.Need-refusal-requires
 refusal-requires c κs = search needs
 
 returns : tie.Need-returns
 returns c = extent-none _ _ (number (c .before)) (c .if1 .taken)
+
+geometry-requires : tie.Need-geometry-requires
+geometry-requires c κs = search needs
 
 mul-t6 : tie.Need-mul-t6
 mul-t6 c = omega (arith, opened (c .before) .pages)
@@ -48,9 +49,9 @@ measure-spec =
     tie.close
     (tie.spec
     count-requires
-    geometry-requires
     refusal-requires
     returns
+    geometry-requires
     mul-t6
     mul-t7
     add-t8

@@ -5,7 +5,7 @@ use borrow.Author.Needs.{needs}
 use borrow.Author.Tests.{not-true, not-false}
 use denote.Ref.{now}
 use Rattle.laws.proofs.Tables.{true-not-false}
-use Rattle.index.specs.Sections.{Sized}
+use Rattle.log_scan.specs.LogSection.{Sized}
 use Rattle.index.proofs.ColumnLaws.{blank-long}
 use Rattle.index.proofs.FastLaws.{log-next, notes-next, fast-refused, fast-clean}
 use Rattle.index.proofs.Whole.{sized}
@@ -14,7 +14,7 @@ use Rattle.index.proofs.fast.Tie as tie
 use Rattle.index.proofs.fast.Reads as reads
 use Rattle.index.proofs.fast.Lts as lts
 use Rattle.index.proofs.columns.ordered.Reads as ordered-reads
-use Rattle.index.proofs.log.sweep.Reads as log-sweep-reads
+use Rattle.log_scan.proofs.sweep.Reads as log-sweep-reads
 use Rattle.index.proofs.notes.sweep.Reads as notes-sweep-reads
 use Rattle.index.proofs.refused.Reads as refused-reads
 use Rattle.index.proofs.total.Reads as total-reads

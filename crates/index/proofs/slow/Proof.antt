@@ -5,7 +5,7 @@ use borrow.Author.Needs.{needs}
 use borrow.Author.Tests.{not-true, not-false, eqb-false}
 use denote.Ref.{now}
 use lib.ListN.{length, length-replicate}
-use Rattle.index.specs.Sections.{Sized}
+use Rattle.log_scan.specs.LogSection.{Sized}
 use Rattle.index.proofs.ColumnLaws.{blank-long}
 use Rattle.index.proofs.FastLaws.{filled}
 use Rattle.index.proofs.Whole.{refuses, sized, log-refused, notes-refused, scan-clean}
@@ -14,8 +14,8 @@ use Rattle.index.proofs.slow.Tie as tie
 use Rattle.index.proofs.slow.Reads as reads
 use Rattle.index.proofs.slow.Lts as lts
 use Rattle.index.proofs.columns.ordered.Reads as ordered-reads
-use Rattle.index.proofs.log.run.Reads as log-run-reads
-use Rattle.index.proofs.log.scan.Reads as log-scan-reads
+use Rattle.log_scan.proofs.run.Reads as log-run-reads
+use Rattle.log_scan.proofs.scan.Reads as log-scan-reads
 use Rattle.index.proofs.notes.run.Reads as notes-run-reads
 use Rattle.index.proofs.notes.scan.Reads as notes-scan-reads
 use Rattle.index.proofs.refused.Reads as refused-reads

@@ -6,11 +6,11 @@ ghost use Prim.Native.Nat.{_+_, _-_, _*_, _≤_, _<_};
 ghost use lib.ListN.{length, getD, set};
 ghost use Rattle.model.specs.Item.{noteOf};
 ghost use Rattle.index.specs.NotesPassed.{Reaches, Names, Belongs, Follows, Enters, BackedUp};
-ghost use Rattle.index.specs.Sections.{Sized};
-ghost use Rattle.index.specs.Swept.{Held};
+ghost use Rattle.log_scan.specs.LogSection.{Sized};
+ghost use Rattle.log_scan.specs.LogSwept.{LogCounts};
 use crate::columns;
-use crate::log::Swept;
 use codec::field;
+use log_scan::Swept;
 use model::geometry::Geometry;
 use model::item::Note;
 use volume::place;
@@ -55,7 +55,7 @@ fn near(n: u32, first: u32, from: usize, at: usize, stop: usize) -> usize
 // The note names a durable record, of its page where that is in the log's run.
 fn names(volume: &[u8], g: Geometry, log: Swept, l: Reach, e: Note) -> bool
     requires { ⌜ Sized g (now volume) ⌝ }
-    requires { ⌜ Held g (now volume) (log .first) (log .next) ⌝ }
+    requires { ⌜ LogCounts g (now volume) (log .first) (log .next) ⌝ }
     requires { ⌜ Reaches g (log .first) (log .next) l ⌝ }
     ensures { λ r. ⌜ (r ≡ true → Names g (now (volume .entry)) e) ⌝ }
 {
@@ -67,7 +67,7 @@ fn names(volume: &[u8], g: Geometry, log: Swept, l: Reach, e: Note) -> bool
         return 1 <= n;
     }
     let k = near(n, l.first, l.from, l.at, l.stop);
-    field::two(volume, k + 8) == e.page
+    field::two(place::part(volume, k, 64), 8) == e.page
 }
 
 // The note has its place's number, a page in range, and names a durable record, of its page where that is in the log's
@@ -82,7 +82,7 @@ pub fn belongs(
     pages: u32,
 ) -> bool
     requires { ⌜ Sized g (now volume) ⌝ }
-    requires { ⌜ Held g (now volume) (log .first) (log .next) ⌝ }
+    requires { ⌜ LogCounts g (now volume) (log .first) (log .next) ⌝ }
     requires { ⌜ Reaches g (log .first) (log .next) l ⌝ }
     ensures { λ r. ⌜ (r ≡ true → Belongs g (now (volume .entry)) e n pages) ⌝ }
 {

@@ -1,8 +1,11 @@
 -- `load::refusal` gives the rows before the walk.
-use Rattle.load.proofs.Rows.{early-is}
+use Rattle.load.proofs.Rows.{early-first, early-rows}
 use borrow.Author.Needs.{needs}
 use Rattle.load.proofs.refusal.Statement.{statement}
 use Rattle.load.proofs.refusal.Tie as tie
+
+returns : tie.Need-returns
+returns c = λ m e. early-first _ m _ _ (c .before .before .pre m e) _ _ (c .if1 .taken)
 
 geometry-requires : tie.Need-geometry-requires
 geometry-requires c κs = search needs
@@ -13,22 +16,13 @@ frames-requires c κs = search needs
 own-requires : tie.Need-own-requires
 own-requires c κs = search needs
 
-first-requires : tie.Need-first-requires
-first-requires c κs = search needs
-
-returns : tie.Need-returns
-returns c = λ m e.
-    let g = c .before .before .before in
-    early-is _ m _ _ _ _ _ _ _ _ _ (g .before .before .pre m e) (g .geometry .ensures) (c .before .before .frames .ensures)
-    (c .before .own .ensures)
-    (c .first .ensures) e
+returns-2 : tie.Need-returns-2
+returns-2 c = λ m e.
+    let g = c .before .before in
+    let i = g .before in
+    early-rows _ m _ _ (i .before .before .pre m e) _ _ _ _ _ _ (i .if1 .left) (g .geometry .ensures) (c .before .frames .ensures)
+    (c .own .ensures) e
 
 pub refusal-spec : {M : Type 1} → statement M
 refusal-spec =
-    tie.close
-    (tie.spec
-    geometry-requires
-    frames-requires
-    own-requires
-    first-requires
-    returns)
+    tie.close (tie.spec returns geometry-requires frames-requires own-requires returns-2)

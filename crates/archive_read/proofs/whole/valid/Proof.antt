@@ -6,7 +6,7 @@ use native.Mathlib.Omega.{arith}
 use borrow.Author.Needs.{needs}
 use denote.Ref.{now}
 use lib.ListN.{drop}
-use Rattle.reports.specs.Archive.{sectionFits}
+use Rattle.reports.specs.Archive.{segmentFits}
 use borrow.Author.Tests.{not-true, not-false}
 use Rattle.archive_read.proofs.Wholes.{Checking, checking-all, checking-short, checking-not, checking-on, checking-end}
 use Rattle.archive_read.proofs.whole.valid.Statement.{statement}
@@ -18,9 +18,9 @@ Inv-loop archive pages at₀ i₀ at i = Checking archive pages at i
 abbrev μ-loop : tie.MeasureT-loop
 μ-loop archive pages at₀ i₀ at i = pages - i
 
--- the section at the place fits
+-- the segment at the place fits
 fitting : (c : tie.Else1 Inv-loop μ-loop)
-    → sectionFits (drop (c .before .before .before .loop .at) (now (c .before .before .before .before .before .args .archive))) ≡ true
+    → segmentFits (drop (c .before .before .before .loop .at) (now (c .before .before .before .before .before .args .archive))) ≡ true
 fitting c = sym (c .before .fits2 .ensures) ∙ not-false _ (c .if1 .left)
 
 loop-holds : tie.Need-loop-holds Inv-loop μ-loop

@@ -1,6 +1,6 @@
-use Rattle.capi.proofs.ArgumentLaws.{misfilled-unfit, misfilled-fit}
+use Rattle.capi.proofs.ArgumentLaws.{misfilled-unfit, misfilled-first, misfilled-last}
 use Rattle.numbers.proofs.FitLaws.{long}
-use Rattle.capi.proofs.FaceLaws.{both}
+use Rattle.face_step.proofs.FaceLaws.{both}
 use Rattle.laws.proofs.Tables.{and-left}
 use lib.Dec.{eqb}
 use mathlib.Core.Path.{sym, _∙_}
@@ -33,6 +33,16 @@ decode-requires c κs =
 refusal-requires : tie.Need-refusal-requires
 refusal-requires c κs = search needs
 
+returns-2 : tie.Need-returns-2
+returns-2 c = λ m report em er.
+    let q = c .before .refusal in
+    let d = c .before .before .decode in
+    let i = c .before .before .before in
+    let f = i .before .fits2 in
+    let a = i .before .before .before .before .args in
+    misfilled-first (a .page) (a .frame) (a .volume .now) m (a .state .now) report (a .numbers) er (f .result) (f .ensures)
+    (i .if1 .left) (a .size) em (d .result) (d .ensures) (q .result) (q .ensures) (c .if2 .taken)
+
 geometry-requires : tie.Need-geometry-requires
 geometry-requires c κs = search needs
 
@@ -45,22 +55,19 @@ first-requires-2 c κs = search needs
 first-requires-3 : tie.Need-first-requires-3
 first-requires-3 c κs = search needs
 
-first-requires-4 : tie.Need-first-requires-4
-first-requires-4 c κs = search needs
-
-returns-2 : tie.Need-returns-2
-returns-2 c = λ m report em er.
-    let k = c .before .before .before .before in
-    let i = k .before .before .before .before in
+returns-3 : tie.Need-returns-3
+returns-3 c = λ m report em er.
+    let k = c .before .before .before in
+    let g = k .before .geometry in
+    let z = k .before .before in
+    let q = z .before .refusal in
+    let d = z .before .before .decode in
+    let i = z .before .before .before in
     let f = i .before .fits2 in
     let a = i .before .before .before .before .args in
-    let d = k .before .before .before .decode in
-    let q = k .before .before .refusal in
-    let g = k .before .geometry in
-    misfilled-fit (a .page) (a .frame) (a .volume .now) m (a .state .now) report (a .numbers) er (f .result) (f .ensures)
-    (i .if1 .left) (a .size) em (d .result) (d .ensures) (q .result) (q .ensures) (g .result) (g .ensures)
-    (k .frames .result) (k .frames .ensures) (c .before .before .first2 .result) (c .before .first3 .result) (c .first4 .result)
-    (c .before .before .first2 .ensures) (c .before .first3 .ensures) (c .first4 .ensures)
+    misfilled-last (a .page) (a .frame) (a .volume .now) m (a .state .now) report (a .numbers) er (f .result) (f .ensures)
+    (i .if1 .left) (a .size) em (d .result) (d .ensures) (q .result) (q .ensures) (z .if2 .left) (g .result) (g .ensures)
+    (k .frames .result) (k .frames .ensures) (c .before .first2 .result) (c .first3 .result) (c .before .first2 .ensures) (c .first3 .ensures)
 
 pub misfilled-spec : {M : Type 1} → statement M
 misfilled-spec =
@@ -72,9 +79,9 @@ misfilled-spec =
     returns
     decode-requires
     refusal-requires
+    returns-2
     geometry-requires
     frames-requires
     first-requires-2
     first-requires-3
-    first-requires-4
-    returns-2)
+    returns-3)

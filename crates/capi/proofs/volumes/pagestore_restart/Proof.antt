@@ -1,4 +1,4 @@
-use Rattle.capi.proofs.FaceLaws.{restart-unlike, restart-alike}
+use Rattle.face_step.proofs.FaceLaws.{restart-unlike, restart-alike}
 use mathlib.Core.Path.{ap}
 use borrow.Author.Needs.{needs}
 use Rattle.capi.proofs.volumes.pagestore_restart.Statement.{statement}

@@ -9,8 +9,8 @@ use Rattle.codec.proofs.field.eight.Tie as tie
 four-requires : tie.Need-four-requires
 four-requires c κs = search needs
 
-wide32-requires : tie.Need-wide32-requires
-wide32-requires c κs = search needs
+u32-u64-requires : tie.Need-u32-u64-requires
+u32-u64-requires c κs = search needs
 
 add-four : tie.Need-add-four
 add-four c = search needs
@@ -18,8 +18,8 @@ add-four c = search needs
 four-requires-2 : tie.Need-four-requires-2
 four-requires-2 c κs = search needs
 
-wide32-requires-2 : tie.Need-wide32-requires-2
-wide32-requires-2 c κs = search needs
+u32-u64-requires-2 : tie.Need-u32-u64-requires-2
+u32-u64-requires-2 c κs = search needs
 
 mul-result : tie.Need-mul-result
 mul-result c = search needs
@@ -33,9 +33,9 @@ returns c =
     omega (
       arith,
       field-add 4 4 (a .at) (now (a .s)),
-      c .wide322 .ensures .0,
+      c .u32-u642 .ensures .0,
       c .before .four2 .ensures,
-      c .before .before .wide32 .ensures .0,
+      c .before .before .u32-u64 .ensures .0,
       c .before .before .before .four .ensures,
     )
 
@@ -44,10 +44,10 @@ eight-spec =
     tie.close
     (tie.spec
     four-requires
-    wide32-requires
+    u32-u64-requires
     add-four
     four-requires-2
-    wide32-requires-2
+    u32-u64-requires-2
     mul-result
     add-result
     returns)

@@ -18,11 +18,11 @@ sub-if2 c = search needs
 two-requires : tie.Need-two-requires
 two-requires c κs = search needs
 
-shared-slice-read-wide8 : tie.Need-shared-slice-read-wide8
-shared-slice-read-wide8 c = search needs
+shared-slice-read-u8-u16 : tie.Need-shared-slice-read-u8-u16
+shared-slice-read-u8-u16 c = search needs
 
-wide8-requires : tie.Need-wide8-requires
-wide8-requires c κs = search needs
+u8-u16-requires : tie.Need-u8-u16-requires
+u8-u16-requires c κs = search needs
 
 returns-2 : tie.Need-returns-2
 returns-2 c = search needs
@@ -31,7 +31,7 @@ returns-3 : tie.Need-returns-3
 returns-3 c =
     let a = c .before .before .before .before .before .args in
     let past : getD (now (a .s)) (a .at + 1) 0 ≡ 0 = List·getD-eq-default (now (a .s)) 0 (omega arith) in
-    omega (arith, field-two (a .at) (now (a .s)), c .wide8 .ensures .0, past)
+    omega (arith, field-two (a .at) (now (a .s)), c .u8-u16 .ensures .0, past)
 
 pub u16-at-spec : {M : Type 1} → statement M
 u16-at-spec =
@@ -40,7 +40,7 @@ u16-at-spec =
     returns
     sub-if2
     two-requires
-    shared-slice-read-wide8
-    wide8-requires
+    shared-slice-read-u8-u16
+    u8-u16-requires
     returns-2
     returns-3)

@@ -20,8 +20,8 @@ four-requires c κs = search needs
 u16-at-requires : tie.Need-u16-at-requires
 u16-at-requires c κs = search needs
 
-wide16-requires : tie.Need-wide16-requires
-wide16-requires c κs = search needs
+u16-u32-requires : tie.Need-u16-u32-requires
+u16-u32-requires c κs = search needs
 
 add-u16-at : tie.Need-add-u16-at
 add-u16-at c = search needs
@@ -29,8 +29,8 @@ add-u16-at c = search needs
 u16-at-requires-2 : tie.Need-u16-at-requires-2
 u16-at-requires-2 c κs = search needs
 
-wide16-requires-2 : tie.Need-wide16-requires-2
-wide16-requires-2 c κs = search needs
+u16-u32-requires-2 : tie.Need-u16-u32-requires-2
+u16-u32-requires-2 c κs = search needs
 
 mul-result : tie.Need-mul-result
 mul-result c = search needs
@@ -47,9 +47,9 @@ returns-3 c =
     omega (
       arith,
       field-add 2 2 (a .at) (now (a .s)),
-      c .wide162 .ensures .0,
+      c .u16-u322 .ensures .0,
       c .before .u16-at2 .ensures,
-      c .before .before .wide16 .ensures .0,
+      c .before .before .u16-u32 .ensures .0,
       c .before .before .before .u16-at .ensures,
     )
 
@@ -61,10 +61,10 @@ u32-at-spec =
     sub-if2
     four-requires
     u16-at-requires
-    wide16-requires
+    u16-u32-requires
     add-u16-at
     u16-at-requires-2
-    wide16-requires-2
+    u16-u32-requires-2
     mul-result
     add-result
     returns-2

@@ -7,7 +7,7 @@ use denote.Ref.{now}
 use borrow.Author.Tests.{not-true, not-false}
 use borrow.Author.Needs.{needs}
 use Rattle.reports.specs.Mirror.{commonFrom}
-use Rattle.index.proofs.Located.{record-fits, record-length}
+use Rattle.log_scan.proofs.Located.{record-fits, record-length}
 use Rattle.compare.proofs.Beginnings.{headed-sized, passes, stops, common-none}
 use Rattle.compare.proofs.changes.common.Statement.{statement}
 use Rattle.compare.proofs.changes.common.Tie as tie

@@ -5,7 +5,7 @@ use native.Mathlib.Omega.{arith}
 use lib.ListN.{length}
 use denote.Ref.{now}
 use borrow.Author.Needs.{needs}
-use Rattle.index.proofs.Located.{record-fits}
+use Rattle.log_scan.proofs.Located.{record-fits}
 use Rattle.compare.specs.Volumes.{markedBehind}
 use Rattle.compare.proofs.Beginnings.{headed-sized}
 use Rattle.compare.proofs.Marks.{behind-length, behind-none, behind-same, behind-read}

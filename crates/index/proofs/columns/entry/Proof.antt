@@ -4,7 +4,7 @@ use Prim.Native.Nat.{ℕ}
 use native.Mathlib.Omega.{arith}
 use denote.Ref.{now}
 use Rattle.index.specs.Columns.{columnRow}
-use Rattle.index.proofs.EntryLaws.{row-below, row-is}
+use Rattle.log_scan.proofs.RowLaws.{row-below, row-is}
 use Rattle.index.proofs.ColumnLaws.{row-past}
 use borrow.Author.Needs.{needs}
 use Rattle.index.proofs.columns.entry.Statement.{statement}

@@ -13,11 +13,11 @@ use Rattle.index.proofs.columns.ordered.Statement.{statement}
 use Rattle.index.proofs.columns.ordered.Tie as tie
 
 abbrev Inv-loop : tie.InvT-loop
-Inv-loop last written slots backup pages kept₀ i₀ kept i =
-    (i ≤ pages) × (kept ≡ every i (λ j. leb (columnRow last written slots backup j .written) (columnRow last written slots backup j .last)))
+Inv-loop last written slots backup pages sound₀ i₀ sound i =
+    (i ≤ pages) × (sound ≡ every i (λ j. leb (columnRow last written slots backup j .written) (columnRow last written slots backup j .last)))
 
 abbrev μ-loop : tie.MeasureT-loop
-μ-loop last written slots backup pages kept₀ i₀ kept i = pages - i
+μ-loop last written slots backup pages sound₀ i₀ sound i = pages - i
 
 loop-holds : tie.Need-loop-holds Inv-loop μ-loop
 loop-holds c = (omega arith, sym (every-none _))

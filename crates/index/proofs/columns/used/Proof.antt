@@ -13,8 +13,8 @@ use Rattle.index.proofs.columns.used.Statement.{statement}
 use Rattle.index.proofs.columns.used.Tie as tie
 use Rattle.index.proofs.columns.used.Reads as reads
 use Rattle.index.proofs.columns.used.Lts as lts
-use Rattle.index.proofs.columns.one.Reads as one-reads
-use Rattle.index.proofs.columns.wide.Reads as wide-reads
+use Rattle.codec.proofs.number.one8.Reads as one8-reads
+use Rattle.codec.proofs.number.u8_u32.Reads as u8-u32-reads
 
 abbrev Inv-loop : tie.InvT-loop
 Inv-loop slots slot n₀ i₀ n i =
@@ -26,14 +26,14 @@ abbrev μ-loop : tie.MeasureT-loop
 loop-holds : tie.Need-loop-holds Inv-loop μ-loop
 loop-holds c = search needs
 
-shared-slice-read-wide : tie.Need-shared-slice-read-wide Inv-loop μ-loop
-shared-slice-read-wide c = search needs
+shared-slice-read-u8-u32 : tie.Need-shared-slice-read-u8-u32 Inv-loop μ-loop
+shared-slice-read-u8-u32 c = search needs
 
-wide-requires : tie.Need-wide-requires Inv-loop μ-loop
-wide-requires c κs = search needs
+u8-u32-requires : tie.Need-u8-u32-requires Inv-loop μ-loop
+u8-u32-requires c κs = search needs
 
-one-requires : tie.Need-one-requires Inv-loop μ-loop
-one-requires c κs = search needs
+one8-requires : tie.Need-one8-requires Inv-loop μ-loop
+one8-requires c κs = search needs
 
 add-n : tie.Need-add-n Inv-loop μ-loop
 add-n c = search needs
@@ -50,8 +50,8 @@ loop-again c =
     let s = c .before .before .before .before .before .before in
     let t = c .before .before .before .loop-test .taken in (
       omega (arith, t),
-      omega (arith, l .inv .1, c .one .ensures .1),
-      counted-next (s .args .slot) (now (s .args .slots)) (l .i) (l .n) _ (omega (arith, t, s .pre)) (rw (c .before .wide .ensures) at (c .one .ensures .0))
+      omega (arith, l .inv .1, c .one8 .ensures .1),
+      counted-next (s .args .slot) (now (s .args .slots)) (l .i) (l .n) _ (omega (arith, t, s .pre)) (rw (c .before .u8-u32 .ensures .0) at (c .one8 .ensures .0))
           ∙ l .inv .2,
     )
 
@@ -68,9 +68,9 @@ used-spec =
     Inv-loop
     μ-loop
     loop-holds
-    shared-slice-read-wide
-    wide-requires
-    one-requires
+    shared-slice-read-u8-u32
+    u8-u32-requires
+    one8-requires
     add-n
     add-i
     loop-less

@@ -1,5 +1,6 @@
 use native.Mathlib.Omega.{arith}
-use Rattle.index.proofs.EntryLaws.{row-below, entered}
+use Rattle.log_scan.proofs.RowLaws.{row-below}
+use Rattle.index.proofs.EntryLaws.{entered}
 use borrow.Author.Needs.{needs}
 use Rattle.index.proofs.entries.enter.Statement.{statement}
 use Rattle.index.proofs.entries.enter.Tie as tie

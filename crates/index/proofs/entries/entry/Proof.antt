@@ -3,7 +3,7 @@ use Prim.Native.Nat.{ℕ, _-_}
 use native.Mathlib.Omega.{arith}
 use lib.ListN.{getD, List·getD-eq-default}
 use Rattle.model.specs.Index.{emptyEntry}
-use Rattle.index.proofs.EntryLaws.{row-below, row-is}
+use Rattle.log_scan.proofs.RowLaws.{row-below, row-is}
 use borrow.Author.Needs.{needs}
 use Rattle.index.proofs.entries.entry.Statement.{statement}
 use Rattle.index.proofs.entries.entry.Tie as tie

@@ -4,7 +4,7 @@ use mathlib.Core.List.{List}
 use Prim.Native.Nat.{ℕ}
 use Rattle.model.specs.Bytes.{field}
 use Rattle.model.specs.Item.{recordOf}
-use Rattle.index.proofs.Located.{record-fits}
+use Rattle.log_scan.proofs.Located.{record-fits}
 use borrow.Author.Needs.{needs}
 use Rattle.index.proofs.notes.page.Statement.{statement}
 use Rattle.index.proofs.notes.page.Tie as tie

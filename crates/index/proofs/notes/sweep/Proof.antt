@@ -7,7 +7,7 @@ use denote.Ref.{now}
 use Rattle.laws.proofs.Tables.{true-not-false}
 use Rattle.section.specs.Sweep.{Guessed, closedOf}
 use Rattle.section.specs.declared.Section.{Section}
-use Rattle.index.specs.Sections.{noteSection}
+use Rattle.index.specs.NoteSection.{noteSection}
 use Rattle.index.proofs.Located.{note-placed}
 use Rattle.index.proofs.NotesSwept.{sweeps}
 use borrow.Author.Needs.{needs}

@@ -4,10 +4,11 @@ use mathlib.Core.Path.{_≡_, sym, ap, _∙_}
 use mathlib.Core.Bool.{true, false}
 use native.Mathlib.Omega.{arith}
 use denote.Ref.{now}
+use Rattle.laws.proofs.Search.{first-here, first-on, first-end}
 use Rattle.state.proofs.Slots.{most-notes-high}
 use Rattle.model.specs.Passes.{firstFrom}
 use Rattle.reports.specs.Room.{afterNotes, notesFullAfter, notesLeft}
-use Rattle.room_report.proofs.Remaining.{first-end, first-here, first-later, note-numbers, note-tested}
+use Rattle.room_report.proofs.Remaining.{note-numbers, note-tested}
 use borrow.Author.Needs.{needs}
 use Rattle.room_report.proofs.notes.count.Statement.{statement}
 use Rattle.room_report.proofs.notes.count.Tie as tie
@@ -55,12 +56,12 @@ loop-again c =
     (c .if1 .left) in
     let n = note-numbers (a .g) (now (a .volume)) (afterNotes (a .s) (l .loop .i)) h in
     let m = most-notes-high (now (a .volume)) (a .g) (p .0) (p .1) in
-    (omega (arith, n, m), search needs, first-later _ _ _ (c .before .before .before .loop-test .taken) h ∙ l .loop .inv .2)
+    (omega (arith, n, m), search needs, sym (first-on _ _ _ (c .before .before .before .loop-test .taken) h) ∙ l .loop .inv .2)
 
 returns-2 : tie.Need-returns-2 Inv-loop μ-loop
 returns-2 c =
     let l = c .before .loop in
-    (sym (first-end _ (l .i) _ (omega arith)) ∙ l .inv .2, l .inv .0)
+    (sym (first-end _ _ (l .i) (omega arith)) ∙ l .inv .2, l .inv .0)
 
 pub count-spec : {M : Type 1} → statement M
 count-spec =

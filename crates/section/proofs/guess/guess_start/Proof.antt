@@ -1,12 +1,14 @@
 -- `section::guess::guess_start` meets its contract.
 use native.Mathlib.Omega.{arith}
 use borrow.Author.Needs.{needs}
-use Rattle.section.proofs.GuessLaws.{Rings, rings, Past, past-turn, guess-none, guess-first, guess-seam}
+use Rattle.section.proofs.GuessLaws.{Rings, rings, Past, past-turn, guess-none, guess-seam}
 use Rattle.section.proofs.guess.guess_start.Statement.{statement}
 use Rattle.section.proofs.guess.guess_start.Tie as tie
 use Rattle.section.proofs.guess.guess_start.Reads as reads
 use Rattle.section.proofs.guess.guess_start.Lts as lts
+use Rattle.section.proofs.after.Reads as after-reads
 use Rattle.section.proofs.guess.numbered.Reads as numbered-reads
+use Rattle.section.proofs.guess.past_torn.Reads as past-torn-reads
 use Rattle.section.proofs.guess.seam.Reads as seam-reads
 
 -- the section is a ring with slots
@@ -38,22 +40,33 @@ returns-3 c = guess-none _
 seam-requires : tie.Need-seam-requires
 seam-requires c κs = let e = c .before .before .before .before .before in (e .before .before .before .before .pre, ring e .some)
 
+sub-after : tie.Need-sub-after
+sub-after c = search needs
+
+after-requires : tie.Need-after-requires
+after-requires c κs = search needs
+
+sub-t12 : tie.Need-sub-t12
+sub-t12 c = omega (arith, past (c .before .before .before .before .before) .past)
+
+add-t13 : tie.Need-add-t13
+add-t13 c = search needs
+
+past-torn-requires : tie.Need-past-torn-requires
+past-torn-requires c κs =
+    let m = c .before .before .seam .ensures in
+    let t = c .before .before .before in
+    let h = past (t .before .before) in
+    let e = t .before .before .before .before .before in (
+      e .before .before .before .before .pre,
+      (
+        (ring e .ring, ring e .some),
+        (guess-seam _ _ _ (ring e) h (t .if3 .left) (m .0) (m .1) _ (c .before .after .ensures), omega (arith, m, h .low, h .past)),
+      ),
+    )
+
 returns-4 : tie.Need-returns-4
-returns-4 c =
-    let e = c .before .before .before .before .before in
-    guess-first _ _ (ring (e .before .before .before)) (past e) (c .before .before .before .if3 .left)
-
-sub-t9 : tie.Need-sub-t9
-sub-t9 c = omega (arith, past (c .before .before .before .before .before .before) .past)
-
-add-t10 : tie.Need-add-t10
-add-t10 c = search needs
-
-returns-5 : tie.Need-returns-5
-returns-5 c =
-    let e = c .before .before .before .before .before .before in
-    guess-seam _ _ (ring (e .before .before .before)) (past e) (c .before .before .before .before .if3 .left) _
-    (omega (arith, c .before .if4 .left, c .before .before .before .seam .ensures))
+returns-4 c = search needs
 
 pub guess-start-spec : {M : Type 1} → statement M
 guess-start-spec =
@@ -66,7 +79,9 @@ guess-start-spec =
     rem-if3
     returns-3
     seam-requires
-    returns-4
-    sub-t9
-    add-t10
-    returns-5)
+    sub-after
+    after-requires
+    sub-t12
+    add-t13
+    past-torn-requires
+    returns-4)

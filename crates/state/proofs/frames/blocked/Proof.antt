@@ -7,8 +7,8 @@ use Rattle.state.proofs.frames.blocked.Tie as tie
 frame-requires : tie.Need-frame-requires
 frame-requires c κs = search needs
 
-wide-requires : tie.Need-wide-requires
-wide-requires c κs = search needs
+u16-u32-requires : tie.Need-u16-u32-requires
+u16-u32-requires c κs = search needs
 
 entry-requires : tie.Need-entry-requires
 entry-requires c κs = search needs
@@ -17,7 +17,7 @@ returns : tie.Need-returns
 returns c =
     let f = c .before .before .before in
     let a = f .before .args in
-    blocked-is (a .s) (a .f) _ _ _ (f .frame .ensures) (c .before .before .wide .ensures) (c .before .entry .ensures)
+    blocked-is (a .s) (a .f) _ _ _ (f .frame .ensures) (c .before .before .u16-u32 .ensures .0) (c .before .entry .ensures)
 
 pub blocked-spec : {M : Type 1} → statement M
-blocked-spec = tie.close (tie.spec frame-requires wide-requires entry-requires returns)
+blocked-spec = tie.close (tie.spec frame-requires u16-u32-requires entry-requires returns)

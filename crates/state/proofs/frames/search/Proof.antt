@@ -23,14 +23,14 @@ long c = search (needs, length-mapped)
 loop-holds : tie.Need-loop-holds Inv-loop μ-loop
 loop-holds c = (search needs, refl)
 
-mul-wide : tie.Need-mul-wide Inv-loop μ-loop
-mul-wide c = search needs
+mul-u16-u32 : tie.Need-mul-u16-u32 Inv-loop μ-loop
+mul-u16-u32 c = search needs
 
-element-copy-out-wide : tie.Need-element-copy-out-wide Inv-loop μ-loop
-element-copy-out-wide c = search needs
+element-copy-out-u16-u32 : tie.Need-element-copy-out-u16-u32 Inv-loop μ-loop
+element-copy-out-u16-u32 c = search needs
 
-wide-requires : tie.Need-wide-requires Inv-loop μ-loop
-wide-requires c κs = search needs
+u16-u32-requires : tie.Need-u16-u32-requires Inv-loop μ-loop
+u16-u32-requires c κs = search needs
 
 cast-result : tie.Need-cast-result Inv-loop μ-loop
 cast-result c = search needs
@@ -42,7 +42,7 @@ returns : tie.Need-returns Inv-loop μ-loop
 returns c =
     let k = c .before .before .before in
     let l : k .loop .i < length (k .before .args .t1) = omega (arith, long (k .before)) in
-    sym (holder-here _ _ _ l (sym (c .before .wide .ensures) ∙ c .if1 .taken)) ∙ k .loop .inv .1
+    sym (holder-here _ _ _ l (sym (c .before .u16-u32 .ensures .0) ∙ c .if1 .taken)) ∙ k .loop .inv .1
 
 add-i : tie.Need-add-i Inv-loop μ-loop
 add-i c = search needs
@@ -54,7 +54,7 @@ loop-again : tie.Need-loop-again Inv-loop μ-loop
 loop-again c =
     let k = c .before .before .before in
     let l : k .loop .i < length (k .before .args .t1) = omega (arith, long (k .before)) in
-    (search needs, sym (holder-later _ _ _ l (λ e. c .if1 .left (c .before .wide .ensures ∙ e))) ∙ k .loop .inv .1)
+    (search needs, sym (holder-later _ _ _ l (λ e. c .if1 .left (c .before .u16-u32 .ensures .0 ∙ e))) ∙ k .loop .inv .1)
 
 returns-2 : tie.Need-returns-2 Inv-loop μ-loop
 returns-2 c =
@@ -68,9 +68,9 @@ search-spec =
     Inv-loop
     μ-loop
     loop-holds
-    mul-wide
-    element-copy-out-wide
-    wide-requires
+    mul-u16-u32
+    element-copy-out-u16-u32
+    u16-u32-requires
     cast-result
     add-result
     returns

@@ -49,7 +49,7 @@ tested c =
     let a = start t .args in
     let k = c .before .before .before in
     frame-read (a .g) (a .count) (a .t1 .frames) (a .t1 .index) (t .loop .i) _ _ _ _ _ (long (start t)) (k .before .before .sole .ensures)
-    (k .before .wide .ensures) (k .row .ensures) (c .before .first .ensures) (c .frame-fits .ensures)
+    (k .before .u16-u32 .ensures .0) (k .row .ensures) (c .before .first .ensures) (c .frame-fits .ensures)
 
 -- past the test, or past a frame that needs none
 passed : (c : tie.Joined2 Inv-loop μ-loop Inv-loop2 μ-loop2) → Frame (c .before .before .before .before .before) ≡ true
@@ -57,7 +57,7 @@ passed c =
     let t = c .before .before .before .before .before in
     let a = start t .args in
     ⊎-elim (λ w. sym (frame-read (a .g) (a .count) (a .t1 .frames) (a .t1 .index) (t .loop .i) _ _ _ _ _ (long (start t)) (w .1 .ensures)
-    (w .2 .ensures) (w .3 .ensures) (w .5 .ensures) (w .6 .ensures)) ∙ not-false _ (w .7 .left))
+    (w .2 .ensures .0) (w .3 .ensures) (w .5 .ensures) (w .6 .ensures)) ∙ not-false _ (w .7 .left))
     (λ w. frame-passed (a .g) (a .count) (a .t1 .frames) (a .t1 .index) (t .loop .i) (w .left)) (c .if2 .came)
 
 -- past the first loop: the counts fit, and so does every frame
@@ -89,8 +89,8 @@ array-copy-out-f c = search needs
 sole-requires : tie.Need-sole-requires Inv-loop μ-loop Inv-loop2 μ-loop2
 sole-requires c κs = search needs
 
-wide-requires : tie.Need-wide-requires Inv-loop μ-loop Inv-loop2 μ-loop2
-wide-requires c κs = search needs
+u16-u32-requires : tie.Need-u16-u32-requires Inv-loop μ-loop Inv-loop2 μ-loop2
+u16-u32-requires c κs = search needs
 
 row-requires : tie.Need-row-requires Inv-loop μ-loop Inv-loop2 μ-loop2
 row-requires c κs = search needs
@@ -176,7 +176,7 @@ well-formed-spec =
     mul-f
     array-copy-out-f
     sole-requires
-    wide-requires
+    u16-u32-requires
     row-requires
     mul-e
     element-copy-out-e

@@ -9,47 +9,47 @@ use Rattle.sums.proofs.byte_lanes.step.Tie as tie
 add-i : tie.Need-add-i
 add-i c = search needs
 
-shared-slice-read-narrow : tie.Need-shared-slice-read-narrow
-shared-slice-read-narrow c = search needs
+shared-slice-read-u8-u16 : tie.Need-shared-slice-read-u8-u16
+shared-slice-read-u8-u16 c = search needs
 
-narrow-requires : tie.Need-narrow-requires
-narrow-requires c κs = search needs
+u8-u16-requires : tie.Need-u8-u16-requires
+u8-u16-requires c κs = search needs
 
 add-t9 : tie.Need-add-t9
 add-t9 c = search needs
 
-add-narrow : tie.Need-add-narrow
-add-narrow c = search needs
+add-u8-u16 : tie.Need-add-u8-u16
+add-u8-u16 c = search needs
 
-shared-slice-read-narrow-2 : tie.Need-shared-slice-read-narrow-2
-shared-slice-read-narrow-2 c = search needs
+shared-slice-read-u8-u16-2 : tie.Need-shared-slice-read-u8-u16-2
+shared-slice-read-u8-u16-2 c = search needs
 
-narrow-requires-2 : tie.Need-narrow-requires-2
-narrow-requires-2 c κs = search needs
+u8-u16-requires-2 : tie.Need-u8-u16-requires-2
+u8-u16-requires-2 c κs = search needs
 
 add-t14 : tie.Need-add-t14
 add-t14 c = search needs
 
-add-narrow-2 : tie.Need-add-narrow-2
-add-narrow-2 c = search needs
+add-u8-u16-2 : tie.Need-add-u8-u16-2
+add-u8-u16-2 c = search needs
 
-shared-slice-read-narrow-3 : tie.Need-shared-slice-read-narrow-3
-shared-slice-read-narrow-3 c = search needs
+shared-slice-read-u8-u16-3 : tie.Need-shared-slice-read-u8-u16-3
+shared-slice-read-u8-u16-3 c = search needs
 
-narrow-requires-3 : tie.Need-narrow-requires-3
-narrow-requires-3 c κs = search needs
+u8-u16-requires-3 : tie.Need-u8-u16-requires-3
+u8-u16-requires-3 c κs = search needs
 
 add-t19 : tie.Need-add-t19
 add-t19 c = search needs
 
-add-narrow-3 : tie.Need-add-narrow-3
-add-narrow-3 c = search needs
+add-u8-u16-3 : tie.Need-add-u8-u16-3
+add-u8-u16-3 c = search needs
 
-shared-slice-read-narrow-4 : tie.Need-shared-slice-read-narrow-4
-shared-slice-read-narrow-4 c = search needs
+shared-slice-read-u8-u16-4 : tie.Need-shared-slice-read-u8-u16-4
+shared-slice-read-u8-u16-4 c = search needs
 
-narrow-requires-4 : tie.Need-narrow-requires-4
-narrow-requires-4 c κs = search needs
+u8-u16-requires-4 : tie.Need-u8-u16-requires-4
+u8-u16-requires-4 c κs = search needs
 
 add-t24 : tie.Need-add-t24
 add-t24 c = search needs
@@ -74,10 +74,10 @@ add-t28 c =
 
 returns : tie.Need-returns
 returns c =
-    let w1 = c .before .before .before .before .before .before .before .before .before .before .before .before .before .before .narrow in
-    let w2 = c .before .before .before .before .before .before .before .before .before .before .before .narrow2 in
-    let w3 = c .before .before .before .before .before .before .before .before .narrow3 in
-    let w4 = c .before .before .before .before .before .narrow4 in
+    let w1 = c .before .before .before .before .before .before .before .before .before .before .before .before .before .before .u8-u16 in
+    let w2 = c .before .before .before .before .before .before .before .before .before .before .before .u8-u162 in
+    let w3 = c .before .before .before .before .before .before .before .before .u8-u163 in
+    let w4 = c .before .before .before .before .before .u8-u164 in
     let q = c .before .before .before .before .before .before .before .before .before .before .before .before .before .before .before .before .before .pre in
     let l = c .before .before .before .before .before .before .before .before .before .before .before .before .before .before .before .before .before .args .l in (
       record {
@@ -107,20 +107,20 @@ step-spec =
     tie.close
     (tie.spec
     add-i
-    shared-slice-read-narrow
-    narrow-requires
+    shared-slice-read-u8-u16
+    u8-u16-requires
     add-t9
-    add-narrow
-    shared-slice-read-narrow-2
-    narrow-requires-2
+    add-u8-u16
+    shared-slice-read-u8-u16-2
+    u8-u16-requires-2
     add-t14
-    add-narrow-2
-    shared-slice-read-narrow-3
-    narrow-requires-3
+    add-u8-u16-2
+    shared-slice-read-u8-u16-3
+    u8-u16-requires-3
     add-t19
-    add-narrow-3
-    shared-slice-read-narrow-4
-    narrow-requires-4
+    add-u8-u16-3
+    shared-slice-read-u8-u16-4
+    u8-u16-requires-4
     add-t24
     add-t25
     add-t26

@@ -19,11 +19,11 @@ abbrev μ-loop : tie.MeasureT-loop
 loop-holds : tie.Need-loop-holds Inv-loop μ-loop
 loop-holds c = search needs
 
-shared-slice-read-wide : tie.Need-shared-slice-read-wide Inv-loop μ-loop
-shared-slice-read-wide c = search needs
+shared-slice-read-u8-u64 : tie.Need-shared-slice-read-u8-u64 Inv-loop μ-loop
+shared-slice-read-u8-u64 c = search needs
 
-wide-requires : tie.Need-wide-requires Inv-loop μ-loop
-wide-requires c κs = search needs
+u8-u64-requires : tie.Need-u8-u64-requires Inv-loop μ-loop
+u8-u64-requires c κs = search needs
 
 add-a : tie.Need-add-a Inv-loop μ-loop
 add-a c = search needs
@@ -44,7 +44,7 @@ loop-again c =
       omega arith,
       omega arith,
       omega arith,
-      rw (c .wide .ensures .0) (sym (byteSum-byte (l .a) (l .b) (l .i) xs (c .before .before .loop-test .taken)) ∙ l .inv .3),
+      rw (c .u8-u64 .ensures .0) (sym (byteSum-byte (l .a) (l .b) (l .i) xs (c .before .before .loop-test .taken)) ∙ l .inv .3),
     )
 
 mul-result : tie.Need-mul-result Inv-loop μ-loop
@@ -68,8 +68,8 @@ stepwise-spec =
     Inv-loop
     μ-loop
     loop-holds
-    shared-slice-read-wide
-    wide-requires
+    shared-slice-read-u8-u64
+    u8-u64-requires
     add-a
     add-b
     add-i

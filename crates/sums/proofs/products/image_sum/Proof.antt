@@ -15,7 +15,7 @@ use Rattle.sums.proofs.products.image_sum.Tie as tie
 use Rattle.sums.proofs.products.image_sum.Reads as reads
 use Rattle.sums.proofs.products.image_sum.Lts as lts
 use Rattle.codec.proofs.field.two.Reads as two-reads
-use Rattle.codec.proofs.field.wide16.Reads as wide16-reads
+use Rattle.codec.proofs.number.u16_u32.Reads as u16-u32-reads
 use Rattle.sums.proofs.products.above.Reads as above-reads
 use Rattle.sums.proofs.products.folded.Reads as folded-reads
 use Rattle.sums.proofs.products.place.Reads as place-reads
@@ -30,14 +30,14 @@ abbrev μ-loop : tie.MeasureT-loop
 two-requires : tie.Need-two-requires Inv-loop μ-loop
 two-requires c κs = search needs
 
-wide16-requires : tie.Need-wide16-requires Inv-loop μ-loop
-wide16-requires c κs = search needs
+u16-u32-requires : tie.Need-u16-u32-requires Inv-loop μ-loop
+u16-u32-requires c κs = search needs
 
 two-requires-2 : tie.Need-two-requires-2 Inv-loop μ-loop
 two-requires-2 c κs = search needs
 
-wide16-requires-2 : tie.Need-wide16-requires-2 Inv-loop μ-loop
-wide16-requires-2 c κs = search needs
+u16-u32-requires-2 : tie.Need-u16-u32-requires-2 Inv-loop μ-loop
+u16-u32-requires-2 c κs = search needs
 
 loop-holds : tie.Need-loop-holds Inv-loop μ-loop
 loop-holds c =
@@ -134,11 +134,11 @@ module _ (c : tie.After-loop Inv-loop μ-loop) where
   last : c .before .loop .k ≡ 4
   last = omega arith
 
-  first-word : c .before .before .before .before .wide16 .result ≡ field 2 188 image
-  first-word = c .before .before .before .before .wide16 .ensures .0 ∙ c .before .before .before .before .before .two .ensures
+  first-word : c .before .before .before .before .u16-u32 .result ≡ field 2 188 image
+  first-word = c .before .before .before .before .u16-u32 .ensures .0 ∙ c .before .before .before .before .before .two .ensures
 
-  second-word : c .before .before .wide162 .result ≡ field 2 190 image
-  second-word = c .before .before .wide162 .ensures .0 ∙ c .before .before .before .two2 .ensures
+  second-word : c .before .before .u16-u322 .result ≡ field 2 190 image
+  second-word = c .before .before .u16-u322 .ensures .0 ∙ c .before .before .before .two2 .ensures
 
   sum-low : c .before .loop .a ≡ 1 + low image 126 + field 2 188 image + field 2 190 image
   sum-low = let e = rw last at (c .before .loop .inv .1) in omega (arith, e, lows-all image)
@@ -190,8 +190,8 @@ returns : tie.Need-returns Inv-loop μ-loop
 returns c =
     let d = c .before .before in
     let l = d .before .loop in
-    let v = d .before .before .before .before .wide16 .result in
-    let w = d .before .before .wide162 .result in
+    let v = d .before .before .before .before .u16-u32 .result in
+    let w = d .before .before .u16-u322 .result in
     let e : l .a - v - w ≡ 1 + low (image d) 126 = omega (arith, first-word d, second-word d, sum-low d) in
     let f : l .b - 32 * v - 31 * w ≡ 126 + high (image d) 126 = omega (arith, first-word d, second-word d, sum-high d) in
     rw (c .before .folded .ensures .0, c .folded2 .ensures .0, e, f) (sym (image-checksum (image d) (d .before .before .before .before .before .before .before .pre)))
@@ -203,9 +203,9 @@ image-sum-spec =
     Inv-loop
     μ-loop
     two-requires
-    wide16-requires
+    u16-u32-requires
     two-requires-2
-    wide16-requires-2
+    u16-u32-requires-2
     loop-holds
     place-requires
     sums-at-requires

@@ -1,12 +1,17 @@
 -- `index::notes::entering::names` meets its contract: the record's place is that of its number.
 use mathlib.Core.Path.{_≡_, refl, sym, ap, _∙_}
-use Prim.Native.Nat.{ℕ, _+_, _-_, _*_, _%_, _<_}
+use Prim.Native.Nat.{ℕ, _+_, _-_, _*_, _%_, _≤_, _<_}
 use native.Mathlib.Nat.{mod-lt}
 use native.Mathlib.Omega.{arith}
+use lib.ListN.{length}
+use denote.Ref.{now}
 use borrow.Author.Tests.{eqb-true, leb-true}
 use Rattle.laws.proofs.Tables.{true-not-false}
+use Rattle.laws.proofs.Fields.{field-part}
+use Rattle.laws.proofs.Parts.{part-length}
+use Rattle.model.specs.Bytes.{field}
 use Rattle.model.specs.Geometry.{recordAt, start}
-use Rattle.index.proofs.Located.{record-fits}
+use Rattle.log_scan.proofs.Located.{record-fits}
 use Rattle.index.proofs.NoteSweep.{near-is, names-below, names-in}
 use Rattle.index.proofs.notes.entering.names.Statement.{statement}
 use Rattle.index.proofs.notes.entering.names.Tie as tie
@@ -46,20 +51,27 @@ near-requires c κs =
       omega (arith, l .at-is, l .stop-is),
     )
 
-add-two : tie.Need-add-two
-add-two c = let s = c .before .before .before .before .before .before in
-    omega (arith, near-at c, record-fits _ _ (s .pre .0) (s .args .e .lsn), s .pre .0 .size, s .pre .0 .pages, s .pre .0 .slots, s .pre .0 .records, s .pre .0 .notes)
+-- and in the volume
+inside : (c : tie.After-near) → let s = c .before .before .before .before .before .before in
+    c .near .result + 64 ≤ length (now (s .args .volume))
+inside c = let s = c .before .before .before .before .before .before in
+    omega (arith, near-at c, record-fits _ _ (s .pre .0) (s .args .e .lsn))
+
+part-requires : tie.Need-part-requires
+part-requires c κs = inside c
 
 two-requires : tie.Need-two-requires
-two-requires c κs = let s = c .before .before .before .before .before .before in
-    omega (arith, near-at c, record-fits _ _ (s .pre .0) (s .args .e .lsn))
+two-requires c κs = omega (arith, ap length (c .part .ensures) ∙ part-length _ _ 64 (inside (c .before)))
 
 returns-3 : tie.Need-returns-3
 returns-3 c = λ t.
-    let s = c .before .before .before .before .before .before .before .before in
+    let n = c .before .before .before in
+    let s = n .before .before .before .before .before .before in
     let l = s .pre .1 .1 in
-    names-in _ _ _ _ (s .pre .1 .0) _ (omega (arith, c .before .before .before .before .before .if1 .left, l .next-is))
-    (omega (arith, c .before .before .before .if2 .left, l .first-is)) _ (near-at (c .before .before)) (sym (c .before .two .ensures) ∙ eqb-true _ _ t)
+    names-in _ _ _ _ (s .pre .1 .0) _ (omega (arith, n .before .before .before .if1 .left, l .next-is))
+    (omega (arith, n .before .if2 .left, l .first-is)) _ (near-at n)
+    (sym (field-part 2 8 64 (n .near .result) (now (s .args .volume)) (omega arith)) ∙ ap (field 2 8) (sym (c .before .before .part .ensures))
+    ∙ sym (c .before .two .ensures) ∙ eqb-true _ _ t)
 
 pub names-spec : {M : Type 1} → statement M
-names-spec = tie.close (tie.spec returns returns-2 near-requires add-two two-requires returns-3)
+names-spec = tie.close (tie.spec returns returns-2 near-requires part-requires two-requires returns-3)

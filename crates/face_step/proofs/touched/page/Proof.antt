@@ -1,0 +1,105 @@
+-- `face_step::touched::page` meets its contract.
+use borrow.Author.Needs.{needs}
+use Rattle.face_step.proofs.touched.page.Statement.{statement}
+use Rattle.face_step.proofs.touched.page.Tie as tie
+
+enum-known-command : tie.Need-enum-known-command
+enum-known-command c = search needs
+
+enum-told : tie.Need-enum-told
+enum-told c = search needs
+
+enum-known-command-2 : tie.Need-enum-known-command-2
+enum-known-command-2 c = search needs
+
+enum-told-2 : tie.Need-enum-told-2
+enum-told-2 c = search needs
+
+forced-page-requires : tie.Need-forced-page-requires
+forced-page-requires c κs = search needs
+
+enum-told-3 : tie.Need-enum-told-3
+enum-told-3 c = search needs
+
+enum-told-4 : tie.Need-enum-told-4
+enum-told-4 c = search needs
+
+enum-told-5 : tie.Need-enum-told-5
+enum-told-5 c = search needs
+
+enum-told-6 : tie.Need-enum-told-6
+enum-told-6 c = search needs
+
+note-page-requires : tie.Need-note-page-requires
+note-page-requires c κs = search needs
+
+enum-told-7 : tie.Need-enum-told-7
+enum-told-7 c = search needs
+
+enum-told-8 : tie.Need-enum-told-8
+enum-told-8 c = search needs
+
+enum-told-9 : tie.Need-enum-told-9
+enum-told-9 c = search needs
+
+returns : tie.Need-returns
+returns c = λ p. rw (c .before .command .given .1)
+
+returns-2 : tie.Need-returns-2
+returns-2 c = λ p. rw (c .enum-told .given .1)
+
+returns-3 : tie.Need-returns-3
+returns-3 c = λ p. rw (c .before .command2 .given .1)
+
+returns-4 : tie.Need-returns-4
+returns-4 c = λ p. rw (c .before .enum-told2 .given .1) (c .forced-page .ensures)
+
+returns-5 : tie.Need-returns-5
+returns-5 c = λ p. rw (c .enum-told3 .given .1)
+
+returns-6 : tie.Need-returns-6
+returns-6 c = λ p. rw (c .enum-told4 .given .1)
+
+returns-7 : tie.Need-returns-7
+returns-7 c = λ p. rw (c .enum-told5 .given .1)
+
+returns-8 : tie.Need-returns-8
+returns-8 c = λ p. rw (c .before .enum-told6 .given .1) (c .note-page .ensures)
+
+returns-9 : tie.Need-returns-9
+returns-9 c = λ p. rw (c .enum-told7 .given .1)
+
+returns-10 : tie.Need-returns-10
+returns-10 c = λ p. rw (c .enum-told8 .given .1)
+
+returns-11 : tie.Need-returns-11
+returns-11 c = λ p. rw (c .enum-told9 .given .1)
+
+pub page-spec : {M : Type 1} → statement M
+page-spec =
+    tie.close
+    (tie.spec
+    enum-known-command
+    enum-told
+    enum-known-command-2
+    enum-told-2
+    forced-page-requires
+    enum-told-3
+    enum-told-4
+    enum-told-5
+    enum-told-6
+    note-page-requires
+    enum-told-7
+    enum-told-8
+    enum-told-9
+    returns
+    returns-2
+    returns-3
+    returns-4
+    returns-5
+    returns-6
+    returns-7
+    returns-8
+    returns-9
+    returns-10
+    returns-11)

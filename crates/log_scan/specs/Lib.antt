@@ -1,0 +1,4 @@
+pub mod Rows
+pub mod LogSection
+pub mod LogPassed
+pub mod LogSwept
