@@ -7,11 +7,13 @@
 
 It works on copies in target/edits, one for each job; what target/ has proved is not proved again. Each edit is tried by
 `rt dev`, which checks again only what the edit reaches; where that takes it, `rt must-fail` has the verdict. A first
-error that is a need that cannot be named shows nothing of a fact: it is told, and fails.
+error that is a need that cannot be named, or a list of needs of another length, shows nothing of a fact: it is told,
+and fails.
 Exit status: 0 where every edit is refused by a fact.
 """
 import argparse
 import os
+import re
 import shutil
 import subprocess
 import sys
@@ -21,7 +23,8 @@ from crates import ROOT, listed
 
 COPIES = ROOT / "target/edits"
 EDITS = ROOT / "tests/edits"
-UNFIT = "can be named from here"
+# what antt says where the code asks for other needs than the proof lists: a name, or the list, that no longer fits
+UNFIT = re.compile(r"can be named from here|-spec`: expected type")
 
 
 def lay_out(copy):
@@ -69,7 +72,7 @@ def verdict(copy, crate):
         return "TAKEN by the edit loop"
     if run.returncode != 1 or not any(line.startswith("logic=not-proved") for line in lines):
         return "BAD EDIT: it did not reach the prover: " + " ".join(lines[-1:])
-    if errors and UNFIT in errors[0]:
+    if errors and UNFIT.search(errors[0]):
         return "UNFIT: it only makes the proof unfit for the code, and shows nothing"
     return "refused"
 

@@ -15,12 +15,14 @@ below.
 
 --only tries the edits whose name holds WORD, --file those of one definition file, --part those under the headings of
 the list that hold WORD; each may be given more than once, and an edit is tried if it meets one of each option given.
---search tries each edit against every row and history, and prints all that catch it. --jobs tries N at a time. --texts
-proves nothing: it only looks whether the text that each edit replaces stands once in its file, and whether there are
-the rows and histories that the edits name.
+--search tries each edit against every row and history, and prints all that catch it. --jobs tries N at a time, else as
+many as there are cores. --texts proves nothing: it only looks whether the text that each edit replaces stands once in
+its file, whether that file has the names of the text in its place, and whether there are the rows and histories that
+the edits name.
 Exit status 0 if every edit is caught, else 1.
 """
 import argparse
+import os
 import re
 import shutil
 import subprocess
@@ -30,69 +32,12 @@ from concurrent.futures import ThreadPoolExecutor
 from pathlib import Path
 
 from crates import ROOT, definitions, needed
+from probes import write_probe
 
-PROBE = """-- One declaration for each row or history asked for: made by tools/mutants.py.
-use Prim.Native.String.{String}
-use mathlib.Core.Bool.{Bool, true, false, cond}
-use mathlib.Core.List.{List, [], _∷_}
-use lib.Dec.{T}
-use lib.Text.{eqt}
-use Rattle.cases.specs.Opened.{opened}
-use Rattle.cases.specs.Rows.{Row, same}
-use Rattle.cases.specs.All.{rows, diskRows, callRows, turnedRows, reportRows, planningRows, carryRows}
-use Rattle.cases.specs.All.{allHistories}
-use Rattle.cases.specs.Rings.{ringRows, ringEvents}
-use Rattle.cases.specs.RingEdges.{ringEdges}
-use Rattle.cases.specs.Examined.{examinedRows}
-use Rattle.cases.specs.Forecasts.{forecastRows}
-use Rattle.cases.specs.Archives.{archiveRows}
-use Rattle.cases.specs.Mirrors.{mirrorRows}
-use Rattle.cases.specs.Neighbours.{neighbourRows}
-use Rattle.cases.specs.Rehearsals.{rehearsalCases, rehearsalRuns}
-use Rattle.cases.specs.Carried.{carriedRows}
-use Rattle.cases.specs.CarriedEvents.{carriedEvents}
-use Rattle.cases.specs.Worked.{Worked, computes}
-use Rattle.cases.specs.Histories.{histories}
-
--- all that have the name: some stand there once for each heading
-row : String → List Row → Bool
-row n [] = true
-row n (r ∷ rs) = let rest = row n rs in let here = cond (same (r .found) (r .says)) rest false in cond (eqt (r .name) n) here rest
-
-history : String → List Worked → Bool
-history n [] = true
-history n (w ∷ ws) = let rest = history n ws in let here = cond (computes w) rest false in cond (eqt (w .name) n) here rest
-"""
-# the same for the rows of upkeep, which stand in a crate of their own
-UPKEEP_PROBE = """-- One declaration for each row asked for: made by tools/mutants.py.
-use Prim.Native.String.{String}
-use mathlib.Core.Bool.{Bool, true, false, cond}
-use mathlib.Core.List.{List, [], _∷_, _++_}
-use lib.Dec.{T}
-use lib.Text.{eqt}
-use Rattle.cases.specs.Opened.{opened}
-use Rattle.cases.specs.Rows.{Row, same}
-use Rattle.upkeep_cases.specs.Upkeeps.{upkeepRows}
-use Rattle.upkeep_cases.specs.Turns.{turnRows, laterTurns, lockRows}
-
-row : String → List Row → Bool
-row n [] = true
-row n (r ∷ rs) = let rest = row n rs in let here = cond (same (r .found) (r .says)) rest false in cond (eqt (r .name) n) here rest
-
-unfoldable rows : List Row
-rows = upkeepRows ++ (turnRows ++ (laterTurns ++ lockRows))
-"""
 ROW_CRATES = ("cases", "upkeep_cases")
 PROOF_CRATES = ("history", "reports_theory", "planning_theory", "instances", "bounds", "cases_neighbours")
 # what a wrong definition for C is tried against
 C_CRATES = ("numbers", "face_step", "capi", "called")
-# what a row's test unfolds: the table's parts, and all that they compute with
-OPENED = (
-    "opened rows diskRows callRows turnedRows ringRows ringEvents ringEdges reportRows examinedRows forecastRows "
-    "archiveRows mirrorRows neighbourRows planningRows rehearsalCases rehearsalRuns carryRows carriedRows carriedEvents "
-    "histories allHistories"
-)
-UPKEEP_OPENED = "opened rows upkeepRows turnRows laterTurns lockRows"
 # the error of a test that computes to false; a long name puts the types on a line of their own
 FALSE = r"`caught-(\d+)`: (?:expected type|.*type mismatch|.*the two types are `Prim\.⊥` \(expected\))"
 # the proofs that an edit may break
@@ -102,6 +47,10 @@ NOT_READ = re.compile(
     r"Parse|cannot be named|not in scope|unknown name|was not admitted|cannot be unfolded|has no `|components"
     r"|needs a type"
 )
+
+# a name of a definition's text, and the names that it binds itself: a binding's, a record's field, a field that is read
+NAME = re.compile(r"[^\s(){}\[\],;.]+")
+LOCAL = re.compile(r"[^\s(){}\[\],;.]+(?= =)|(?<= \.)[^\s(){}\[\],;.]+")
 
 
 def read_edits(text):
@@ -159,14 +108,6 @@ def copy(crate, to):
         shutil.rmtree(to / "crates" / crate / "proofs", ignore_errors=True)
         (to / "crates" / crate / "proofs").mkdir()
         (to / "crates" / crate / "proofs/Lib.antt").write_text("pub mod Probe\n")
-
-
-def write_probe(crate, to, rows, names):
-    text, opened = (PROBE, OPENED) if crate == "cases" else (UPKEEP_PROBE, UPKEEP_OPENED)
-    for i, name in enumerate(names):
-        kind, of = ("row", "rows") if name in rows else ("history", "allHistories")
-        text += f'\ncaught-{i} : T ({kind} "{name}" {of})\nunfolding {opened} {kind}\ncaught-{i} = tt\n'
-    (to / "crates" / crate / "proofs/Probe.antt").write_text(text)
 
 
 def check(crate, to):
@@ -262,12 +203,22 @@ def names(edits):
     return rows, named, [name for name in named if name not in rows + histories]
 
 
+def unknown(edit):
+    """The names in the edit's new text that its file neither imports nor defines, and the edit does not bind itself."""
+    known = set(NAME.findall(definition(ROOT, edit).read_text())) | set(LOCAL.findall("\n".join(edit["new"])))
+    known |= {part for name in known for part in name.split("_")}
+    words = [word for line in edit["new"] for word in NAME.findall(line)]
+    return sorted({word for word in words if word not in known and not re.fullmatch(r"0x[0-9a-f]+|[0-9]+", word)})
+
+
 def texts(edits):
     """What makes an edit of the list mean nothing, a line each."""
     found = [f"mutants.txt: no such row or history: {name}" for name in names(edits)[2]]
     for edit in edits:
         if times(ROOT, edit) != 1:
             found.append(f"mutants.txt: {edit['name']}: the old text stands {times(ROOT, edit)} times in {edit['file']}")
+        elif unknown(edit):
+            found.append(f"mutants.txt: {edit['name']}: not named in {edit['file']}: {' '.join(unknown(edit))}")
     return found
 
 
@@ -301,7 +252,7 @@ def main():
     words.add_argument("--part", action="append")
     words.add_argument("--crate", choices=[*ROW_CRATES, *PROOF_CRATES, *C_CRATES])
     words.add_argument("--search", action="store_true")
-    words.add_argument("--jobs", type=int, default=1)
+    words.add_argument("--jobs", type=int, default=os.cpu_count() or 1)
     words.add_argument("--texts", action="store_true")
     given = words.parse_args()
     edits = [e for e in read_edits((ROOT / "tools/mutants.txt").read_text()) if chosen(e, given)]

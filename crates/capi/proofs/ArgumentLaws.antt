@@ -105,7 +105,8 @@ module _ (page frame : ℕ) (v m xs report : List ℕ) (k : ℕ) (ek : length re
 
     pub misfilled-first : (no ≡ 0 → ⊥) → no ≡ misfilledOf page frame v m xs report
     unfolding misfilledOf
-    misfilled-first ne = rw (fitting, ← es) (refusal-first v m s (ownRows page frame (geometryOf v) (frameCount (length m))) no (eno m em) ne)
+    misfilled-first ne = rw (fitting, ← es)
+        (refusal-first v m s (ownRows page frame (geometryOf v) (frameCount (length m))) no (eno m em) ne)
 
     pub misfilled-last : no ≡ 0 → (g : Geometry) → g ≡ geometryOf v → (count : ℕ) → count ≡ frameCount size → (x n : ℕ)
         → x ≡ cond (not (within count frame)) 4 6 → n ≡ cond (not (within (g .pages) page)) 3 x → n ≡ misfilledOf page frame v m xs report

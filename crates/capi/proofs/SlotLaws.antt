@@ -15,7 +15,8 @@ use Rattle.model.specs.Bytes.{part, allZero}
 use Rattle.model.specs.Geometry.{knownMagic, Place, itemOf, width, start, item, geometryOf, validVolume}
 use Rattle.model.specs.Item.{imagePage, imageLsn, validImage, validSomewhere, recordOf, noteOf}
 use Rattle.model.specs.declared.{geometry.Geometry.Geometry, item.LogRecord.LogRecord, item.Note.Note}
-use Rattle.face.specs.Slots.{listed, countsRows, countNumbers, countsOf, standing, recordNumbers, storedNoteNumbers, slotRows, listedAt, backupNumbers}
+use Rattle.face.specs.Slots.{listed, countsRows, countNumbers, countsOf, standing, recordNumbers, storedNoteNumbers}
+use Rattle.face.specs.Slots.{slotRows, listedAt, backupNumbers}
 
 -- three rows
 pub chained : (v w r t : Bool) (x y z : ℕ) → w ≡ v → x ≡ cond (not t) 5 0 → y ≡ cond (not r) 2 x → z ≡ cond (not w) 1 y

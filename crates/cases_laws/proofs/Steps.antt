@@ -39,7 +39,8 @@ unfolding decided beginDone loadDone changeDone forceDone writeDone backupDone r
 by-call (Begin page frame fill, _) v m s = byCases (eqb (firstOf (beginRows v m s page frame)) 0) (λ t. rw t refl) (λ t. rw t refl)
 by-call (Load page frame, _) v m s = byCases (eqb (firstOf (loadRows v m s page frame)) 0) (λ t. rw t refl) (λ t. rw t refl)
 by-call (Change page c, payload) v m s = byCases (eqb (firstOf (changeRows v m s page c)) 0) (λ t. rw t refl) (λ t. rw t refl)
-by-call (Force, _) v m s = byCases (eqb (firstOf (forceRows v m s)) 0) (λ t. rw t (either (eqb (s .pending) 0) _ _ refl refl)) (λ t. rw t refl)
+by-call (Force, _) v m s = byCases (eqb (firstOf (forceRows v m s)) 0)
+    (λ t. rw t (either (eqb (s .pending) 0) _ _ refl refl)) (λ t. rw t refl)
 by-call (Write page, _) v m s =
     byCases (eqb (firstOf (writeRows v m s page)) 0) (λ t. rw t (either (pageDirty s page) _ _ refl refl)) (λ t. rw t refl)
 by-call (Backup page slot, _) v m s = byCases (eqb (firstOf (backupRows v m s page slot)) 0) (λ t. rw t refl) (λ t. rw t refl)

@@ -15,7 +15,8 @@ use Rattle.laws.proofs.Restamped.{isDone}
 use Rattle.model.specs.Tables.{Row, firstOf}
 use Rattle.model.specs.Geometry.{logSlot, noteSlot, width, start, geometryOf, validVolume}
 use Rattle.model.specs.Passes.{imageCount, imagePlace, firstOld}
-use Rattle.model.specs.Refusals.{beginRows, loadRows, changeRows, forceRows, writeRows, backupRows, releaseRows, noteRows, startCarryRows, restampRows, finishCarryRows, pageDirty}
+use Rattle.model.specs.Refusals.{beginRows, loadRows, changeRows, forceRows, writeRows, backupRows, releaseRows}
+use Rattle.model.specs.Refusals.{noteRows, startCarryRows, restampRows, finishCarryRows, pageDirty}
 use Rattle.model.specs.Outcome.{StoredItem, nothing, oneItem, newHeading, Outcome, volumeAfter, unchanged, decided}
 use Rattle.model.specs.Effects.{noteStored, backupDone, beginDone, changeDone, forceDone, loadDone, releaseDone, restampDone, writeDone}
 use Rattle.model.specs.Calls.{Call, rowsOf, doneOf, outcomeOf, restampOf, isCall, noPayload}
@@ -133,8 +134,10 @@ module _ (v m : List ℕ) (s : State) where
   aimed (Begin page frame fill, _) a = by-rows none (beginRows v m s page frame) _ refl
   aimed (Load page frame, _) a = by-rows none (loadRows v m s page frame) _ refl
   aimed (Change page c, payload) a = by-rows none (changeRows v m s page c) _ refl
-  aimed (Force, _) a = by-rows (target (Force, noPayload) v s) (forceRows v m s) _ (either (target (Force, noPayload) v s) (eqb (s .pending) 0) _ _ refl refl)
-  aimed (Write page, _) a = by-rows (target (Write page, noPayload) v s) (writeRows v m s page) _ (either (target (Write page, noPayload) v s) (pageDirty s page) _ _ refl refl)
+  aimed (Force, _) a = by-rows (target (Force, noPayload) v s) (forceRows v m s) _
+      (either (target (Force, noPayload) v s) (eqb (s .pending) 0) _ _ refl refl)
+  aimed (Write page, _) a = by-rows (target (Write page, noPayload) v s) (writeRows v m s page) _
+      (either (target (Write page, noPayload) v s) (pageDirty s page) _ _ refl refl)
   aimed (Backup page slot, _) a = by-rows (target (Backup page slot, noPayload) v s) (backupRows v m s page slot) _ refl
   aimed (Release page, _) a = by-rows none (releaseRows v m s page) _ refl
   aimed (Note, _) a = by-rows (target (Note, noPayload) v s) (noteRows v m s) _ (noted (s .note))

@@ -15,11 +15,13 @@ use Rattle.model.specs.Bytes.{field}
 use Rattle.model.specs.State.{pendingBytes}
 use Rattle.model.specs.Index.{emptyEntry, enterNote}
 use Rattle.model.specs.Geometry.{geometryOf}
-use Rattle.model.specs.Refusals.{beginRows, loadRows, changeRows, forceRows, writeRows, backupRows, releaseRows, noteRows, startCarryRows, restampRows, finishCarryRows, pageDirty}
+use Rattle.model.specs.Refusals.{beginRows, loadRows, changeRows, forceRows, writeRows, backupRows, releaseRows}
+use Rattle.model.specs.Refusals.{noteRows, startCarryRows, restampRows, finishCarryRows, pageDirty}
 use Rattle.model.specs.Passes.{imageCount, firstOld}
 use Rattle.model.specs.Demand1.{Arrays}
 use Rattle.model.specs.Outcome.{Outcome, unchanged, decided}
-use Rattle.model.specs.Effects.{appendedState, forcedState, notedState, noteStored, backupDone, beginDone, changeDone, forceDone, loadDone, releaseDone, restampDone, writeDone}
+use Rattle.model.specs.Effects.{appendedState, forcedState, notedState, noteStored, backupDone, beginDone, changeDone}
+use Rattle.model.specs.Effects.{forceDone, loadDone, releaseDone, restampDone, writeDone}
 use Rattle.model.specs.Calls.{outcomeOf, Call}
 use Rattle.model.specs.declared.{state.Entry.Entry, state.State.State, state.PendingNote.PendingNote}
 use Rattle.model.specs.declared.command.Command.the-variants.{Begin, Load, Force, Write, Release, StartCarry, Restamp, FinishCarry}

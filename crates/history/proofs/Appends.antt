@@ -32,10 +32,12 @@ use Rattle.history.proofs.Sections.{most-high}
 use Rattle.history.proofs.Disk.{Spare}
 use Rattle.history.proofs.Asked.{log-room, log-asked}
 use Rattle.history.proofs.Inv.{past-cons, Settled, frame, Memory}
-use Rattle.history.proofs.Memory.{frame-count, pending-memory, pending-same, pending-other, pending-frame, frame-memory, frame-same, frame-other, frame-pending}
+use Rattle.history.proofs.Memory.{frame-count, pending-memory, pending-same, pending-other, pending-frame}
+use Rattle.history.proofs.Memory.{frame-memory, frame-same, frame-other, frame-pending}
 use Rattle.history.proofs.LogSteps.{Joins, joins-fair, log-add, index-add}
 use Rattle.history.proofs.FrameSteps.{frames-put}
-use Rattle.history.proofs.Context.{Ctx, Preserved, passed, in-range, sized, geo, len, sum, few, body-size, last-entry, found-frame, unblocked}
+use Rattle.history.proofs.Context.{Ctx, Preserved, passed, in-range, sized, geo, len, sum, few, body-size}
+use Rattle.history.proofs.Context.{last-entry, found-frame, unblocked}
 
 module _ {C : Type 0} {g : Geometry} {v m : List ℕ} {past : List StoredItem} {s : State} {k w : List Logged}
     (x : Ctx C g v m past s k w) where

@@ -189,14 +189,16 @@ module _ {C : Type 0} {g : Geometry} {v m : List ℕ} {past : List StoredItem} {
   inv-crash (Load page f, _) o l t = cut-decided (loadRows v m s page f) _ _ l t (λ e u. cut-nothing l w)
   inv-crash (Change page c, payload) o l t = cut-decided (changeRows v m s page c) _ _ l t (λ e u. cut-nothing l w)
   inv-crash (Force, _) o l t =
-      cut-decided (forceRows v m s) (forced x) (stepCut (record { durable = k; pending = w }) (Force, noPayload) l) l t (λ e u. cut-force w refl l u)
+      cut-decided (forceRows v m s) (forced x) (stepCut (record { durable = k; pending = w }) (Force, noPayload) l) l t
+      (λ e u. cut-force w refl l u)
   inv-crash (Write page, _) o l t = cut-decided (writeRows v m s page) (written x page) _ l t (λ e u. cut-write page (writes x page e) l u)
   inv-crash (Backup page b, _) o l t =
       cut-decided (backupRows v m s page b) _ _ l t
       (λ e u. let f = backs x page b e in cut-image (slotAt b) (frameBytes m (holder s page))
       (backup-store x page (f .frame-of) (f .forced-to) b (f .slot-low) (f .slot-high) (f .spare)) l u)
   inv-crash (Release page, _) o l t = cut-decided (releaseRows v m s page) _ _ l t (λ e u. cut-nothing l w)
-  inv-crash (NoteCall, _) o l t = cut-decided (noteRows v m s) (noteStored v m s (s .note)) _ l t (λ e u. cut-note (s .note) (x .al .note-ok) l u)
+  inv-crash (NoteCall, _) o l t = cut-decided (noteRows v m s) (noteStored v m s (s .note)) _ l t
+      (λ e u. cut-note (s .note) (x .al .note-ok) l u)
   inv-crash (StartCarry, _) o l t = absurd (true-not-false refl o)
   inv-crash (Restamp, _) o l t = absurd (true-not-false refl o)
   inv-crash (FinishCarry, _) o l t = absurd (true-not-false refl o)

@@ -116,7 +116,8 @@ module _ {C : Type 0} {g : Geometry} {v m : List ℕ} {past : List StoredItem} {
 
   pub inv-carry : (c : Call) → carries c ≡ true → startFits (on m s) v c ≡ true → Carried c
   unfolding stepCall
-  inv-carry = carrying (λ c. startFits (on m s) v c ≡ true → Carried c) (λ y. start-carried) (λ y t. restamp-carried) (λ y t. finish-carried)
+  inv-carry = carrying (λ c. startFits (on m s) v c ≡ true → Carried c) (λ y. start-carried) (λ y t. restamp-carried)
+      (λ y t. finish-carried)
 
   -- ---- cut
 

@@ -20,7 +20,8 @@ use Rattle.laws.proofs.Places.{In, item-length}
 use Rattle.laws.proofs.Items.{sealImage-length}
 use Rattle.model.specs.Tables.{firstOf}
 use Rattle.model.specs.Checksum.{sealImage}
-use Rattle.model.specs.Geometry.{tagOf, carryTag, headed, geometryOf, Place, pageAt, slotAt, recordAt, noteAt, width, start, item, store, storeHeading, ring, logSlot}
+use Rattle.model.specs.Geometry.{tagOf, carryTag, headed, geometryOf, Place, pageAt, slotAt, recordAt, noteAt, width}
+use Rattle.model.specs.Geometry.{start, item, store, storeHeading, ring, logSlot}
 use Rattle.model.specs.Item.{imageLsn, validImage}
 use Rattle.model.specs.Passes.{isImage, imageCount, imagePlace, oldAt, firstOld, oldLeft}
 use Rattle.model.specs.Refusals.{startCarryRows, restampRows, finishCarryRows}
@@ -180,7 +181,8 @@ module _ {C : Type 0} {g : Geometry} {v m : List ℕ} {past : List StoredItem} {
 
   call-same : (c : Call) → carries c ≡ true → startFits (on m s) v c ≡ true → SameAfter (outcomeOf c v m s .stored)
   call-same =
-      carrying (λ c. startFits (on m s) v c ≡ true → SameAfter (outcomeOf c v m s .stored)) (λ y. start-same) (λ y t. restamp-same) (λ y t. finish-same)
+      carrying (λ c. startFits (on m s) v c ≡ true → SameAfter (outcomeOf c v m s .stored)) (λ y. start-same)
+      (λ y t. restamp-same) (λ y t. finish-same)
 
   -- ---- 1 exactly
 

@@ -10,7 +10,8 @@ use lib.Dec.{eqb, leb}
 use borrow.Author.Tests.{ne-eqb, leb-true, not-false}
 use Rattle.laws.proofs.Tables.{byCases, and-left, and-right, every-at, not-true, within-holds}
 use Rattle.laws.proofs.Headings.{headed-tag, no-ring}
-use Rattle.laws.proofs.Carry.{wordsHold, bytesHold, placed, named, only-old, named-noted, named-outside, alike-started, alike-finished, image-place}
+use Rattle.laws.proofs.Carry.{wordsHold, bytesHold, placed, named, only-old, named-noted, named-outside, alike-started}
+use Rattle.laws.proofs.Carry.{alike-finished, image-place}
 use Rattle.laws.proofs.WellFormed.{ready-behind}
 use Rattle.laws.proofs.Restamped.{image-number}
 use Rattle.laws.proofs.Places.{item-length}
@@ -37,7 +38,8 @@ use Rattle.history.proofs.Disk.{Holds, Noted}
 use Rattle.history.proofs.Inv.{Inv, Past, PendingOk}
 use Rattle.history.proofs.Images.{torn-fine}
 use Rattle.history.proofs.Turn.{SameImages, SamePending, turn-holds, turn-noted, turn-alive, turn-past}
-use Rattle.history.proofs.Carry.{image-holds, image-noted, image-pending, restamp-lsn, restamp-valid, restamp-faithful, restamp-image, restamp-past}
+use Rattle.history.proofs.Carry.{image-holds, image-noted, image-pending, restamp-lsn, restamp-valid}
+use Rattle.history.proofs.Carry.{restamp-faithful, restamp-image, restamp-past}
 use Rattle.history.proofs.Context.{Ctx, sized, geo, entry-is}
 
 module _ {C : Type 0} {g : Geometry} {v m : List ℕ} {past : List StoredItem} {s : State} {k w : List Logged}

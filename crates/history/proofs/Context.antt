@@ -21,7 +21,8 @@ use Rattle.model.specs.AbstractLog.{Logged, AbstractLog}
 use Rattle.model.specs.History.{on}
 use Rattle.model.specs.declared.{geometry.Geometry.Geometry, answer.Answer.Answer, answer.Answer.the-variants.Refused}
 use Rattle.model.specs.declared.{item.Note.Note, state.Entry.Entry, state.State.State}
-use Rattle.history.proofs.Logs.{noLogged, at, lastAt, lastOf, bodyOf, replayAt, last-page, last-mono, replay-last, replay-append, last-append}
+use Rattle.history.proofs.Logs.{noLogged, at, lastAt, lastOf, bodyOf, replayAt, last-page, last-mono}
+use Rattle.history.proofs.Logs.{replay-last, replay-append, last-append}
 use Rattle.history.proofs.Marks.{markAt}
 use Rattle.history.proofs.Entries.{entryFrom}
 use Rattle.history.proofs.Records.{AllFair, length-replay}

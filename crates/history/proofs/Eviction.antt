@@ -17,11 +17,13 @@ use Rattle.model.specs.Geometry.{geometryOf}
 use Rattle.model.specs.Index.{entryOf}
 use Rattle.model.specs.Scan.{indexOf, gone}
 use Rattle.model.specs.State.{frameCount, frameBytes, emptyFrame, frameRow, holder, held, blank}
-use Rattle.model.specs.Refusals.{frameBlocked, pageDirty, beginRows, loadRows, changeRows, forceRows, writeRows, backupRows, releaseRows, noteRows, startCarryRows, restampRows, finishCarryRows}
+use Rattle.model.specs.Refusals.{frameBlocked, pageDirty, beginRows, loadRows, changeRows, forceRows, writeRows}
+use Rattle.model.specs.Refusals.{backupRows, releaseRows, noteRows, startCarryRows, restampRows, finishCarryRows}
 use Rattle.laws.proofs.Conditions.{chainBelow}
 use Rattle.model.specs.Passes.{imageCount, firstOld}
 use Rattle.model.specs.Outcome.{StoredItem, nothing, Outcome, volumeAfter, decided, refusalOf}
-use Rattle.model.specs.Effects.{withFrame, withFrames, appendedState, forcedState, notedState, noteStored, backupDone, beginDone, changeDone, forceDone, loadDone, releaseDone, restampDone, writeDone}
+use Rattle.model.specs.Effects.{withFrame, withFrames, appendedState, forcedState, notedState, noteStored, backupDone}
+use Rattle.model.specs.Effects.{beginDone, changeDone, forceDone, loadDone, releaseDone, restampDone, writeDone}
 use Rattle.model.specs.Calls.{beginOf, loadOf, releaseOf, Call, outcomeOf, noPayload}
 use Rattle.model.specs.declared.{geometry.Geometry.Geometry, answer.Answer.the-variants.Done, state.Entry.Entry}
 use Rattle.model.specs.declared.{state.Frame.Frame, state.PendingNote.PendingNote, state.State.State}
@@ -36,7 +38,8 @@ use Rattle.history.specs.Facts.{volumeOf, headingOf, Releases, Evicted}
 use Rattle.history.proofs.Logs.{lastOf, bodyOf, last-mono, number-miss, body-miss, last-is}
 use Rattle.history.proofs.Inv.{Settled, frame, Inv}
 use Rattle.history.proofs.FrameSteps.{Holder, found}
-use Rattle.history.proofs.Context.{Ctx, Preserved, passed, in-range, geo, len, entry-is, last-entry, durable-last, Found, found-frame, nowhere}
+use Rattle.history.proofs.Context.{Ctx, Preserved, passed, in-range, geo, len, entry-is, last-entry}
+use Rattle.history.proofs.Context.{durable-last, Found, found-frame, nowhere}
 use Rattle.history.proofs.Loads.{load-unbroken, load-whole, load-granted, below-only, keep-load}
 use Rattle.history.proofs.Appends.{keep-begin}
 use Rattle.history.proofs.Release.{keep-release}
@@ -252,7 +255,8 @@ module _ {C : Type 0} {g : Geometry} {v m : List ℕ} {past : List StoredItem} {
   leaves (Backup page b, _) = by-table (backupRows v m s page b) _ (λ e. stays _ (refl, λ i. refl))
   leaves (Release page, _) = release-leaves page
   leaves (StartCarry, _) = by-table (startCarryRows v m s) _ (λ e. stays _ (refl, λ i. refl))
-  leaves (Restamp, _) = by-table (restampRows v m s) _ (λ e. byCases (ltb (firstOld (geometryOf v) v (s .index)) (imageCount (geometryOf v)))
+  leaves (Restamp, _) = by-table (restampRows v m s) _
+      (λ e. byCases (ltb (firstOld (geometryOf v) v (s .index)) (imageCount (geometryOf v)))
       (λ t. rw t (stays _ (refl, λ i. refl))) (λ t. rw t (stays _ (refl, λ i. refl))))
   leaves (FinishCarry, _) = by-table (finishCarryRows v m s) _ (λ e. stays _ (refl, λ i. refl))
   leaves (Note, _) = by-table (noteRows v m s) (noteStored v m s (s .note)) (λ e. noted (s .note))

@@ -25,7 +25,8 @@ use Rattle.history.proofs.NoteIndex.{index-is}
 use Rattle.history.proofs.Inv.{Inv}
 use Rattle.history.proofs.Context.{Ctx, entry-is, last-entry, durable-last, found-frame}
 use Rattle.history.proofs.WellFormed.{state-ok, memory-ok}
-use Rattle.history.proofs.Refusals.{call-ordinary, load-durable, restart-right, restart-wrong, inspect-right, inspect-wrong, inspect-durable}
+use Rattle.history.proofs.Refusals.{call-ordinary, load-durable, restart-right, restart-wrong, inspect-right}
+use Rattle.history.proofs.Refusals.{inspect-wrong, inspect-durable}
 use Rattle.history.proofs.Eviction.{releases-is, evicts}
 use Rattle.history.proofs.Reached.{Undamaged, present, tied, live}
 

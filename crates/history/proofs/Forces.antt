@@ -141,5 +141,6 @@ module _ {C : Type 0} {g : Geometry} {v m : List ℕ} {past : List StoredItem} {
 
   pub keep-force : (w′ : List Logged) → w ≡ w′ → Preserved C g v past forced (moveFirst k w)
   keep-force [] e = rw (none-pending e, e)
-      (subst (λ (z : List Logged). Preserved C g v past (unchanged Nothing m s) (record { durable = k; pending = z })) e (keep-same x Nothing))
+      (subst (λ (z : List Logged). Preserved C g v past (unchanged Nothing m s) (record { durable = k; pending = z })) e
+      (keep-same x Nothing))
   keep-force (c ∷ r) e = rw (some-pending c r e, e) (keep-forced c r e Done)

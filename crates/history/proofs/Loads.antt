@@ -33,7 +33,9 @@ use Rattle.history.proofs.Marks.{markAt}
 use Rattle.history.proofs.Entries.{entryFrom}
 use Rattle.history.proofs.NoteIndex.{index-is}
 use Rattle.history.proofs.LogScan.{first}
-use Rattle.history.proofs.Context.{Ctx, Preserved, Passed, passed, in-range, sized, geo, fair, few, body-size, entry-is, last-entry, durable-last, durable-page, durable-body, nowhere, unblocked}
+use Rattle.history.proofs.Context.{Ctx, Preserved, Passed, passed, in-range, sized, geo, fair, few, body-size}
+use Rattle.history.proofs.Context.{entry-is, last-entry, durable-last, durable-page, durable-body, nowhere}
+use Rattle.history.proofs.Context.{unblocked}
 
 -- the rows before a row whose number is answered do not hold, and it does
 abbrev pub Others : ℕ → List Row → Type 0

@@ -17,7 +17,8 @@ use Rattle.model.specs.Geometry.{pageAt, slotAt, recordAt, noteAt, geometryOf, 
 use Rattle.model.specs.Item.{recordOf, noteOf}
 use Rattle.model.specs.Passes.{imageCount, imagePlace, firstOld}
 use Rattle.model.specs.Scan.{noteRecord}
-use Rattle.model.specs.Refusals.{pageDirty, beginRows, loadRows, changeRows, forceRows, writeRows, backupRows, releaseRows, noteRows, startCarryRows, restampRows, finishCarryRows}
+use Rattle.model.specs.Refusals.{pageDirty, beginRows, loadRows, changeRows, forceRows, writeRows, backupRows}
+use Rattle.model.specs.Refusals.{releaseRows, noteRows, startCarryRows, restampRows, finishCarryRows}
 use Rattle.model.specs.Outcome.{StoredItem, nothing, oneItem, newHeading, decided}
 use Rattle.model.specs.Effects.{noteStored, backupDone, beginDone, changeDone, forceDone, loadDone, releaseDone, restampDone, writeDone}
 use Rattle.model.specs.Calls.{Call, outcomeOf, forceOf, noteCall}
@@ -86,7 +87,8 @@ module _ (v m : List ℕ) (s : State) where
       (λ t. rw t (λ z. refl, λ z. absurd (omega arith)))
   only (Write p, _) = byCases (eqb (firstOf (writeRows v m s p)) 0)
       (λ t. rw t (byCases (pageDirty s p)
-      (λ u. rw u (λ z. absurd (omega arith), λ z. absurd (omega arith))) (λ u. rw u (λ z. absurd (omega arith), λ z. absurd (omega arith)))))
+      (λ u. rw u (λ z. absurd (omega arith), λ z. absurd (omega arith)))
+      (λ u. rw u (λ z. absurd (omega arith), λ z. absurd (omega arith)))))
       (λ t. rw t (λ z. absurd (omega arith), λ z. absurd (omega arith)))
   only (Backup p b, _) = byCases (eqb (firstOf (backupRows v m s p b)) 0)
       (λ t. rw t (λ z. absurd (omega arith), λ z. absurd (omega arith))) (λ t. rw t (λ z. absurd (omega arith), λ z. absurd (omega arith)))

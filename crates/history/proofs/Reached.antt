@@ -12,7 +12,8 @@ use Rattle.laws.proofs.Tables.{byCases, and-left, true-not-false}
 use Rattle.laws.proofs.Zeros.{zero-replicate, zero-fails, zero-image-fails}
 use Rattle.laws.proofs.EmptyVolume.{empty-geometry, empty-valid, empty-item}
 use Rattle.model.specs.Checksum.{imageSealed}
-use Rattle.model.specs.Geometry.{tagOf, carryTag, Place, pageAt, recordAt, noteAt, geometryOf, validCounts, lengthFor, emptyVolume, item, withTag}
+use Rattle.model.specs.Geometry.{tagOf, carryTag, Place, pageAt, recordAt, noteAt, geometryOf, validCounts, lengthFor}
+use Rattle.model.specs.Geometry.{emptyVolume, item, withTag}
 use Rattle.model.specs.Item.{validImage}
 use Rattle.model.specs.Refusals.{makeRows}
 use Rattle.model.specs.Outcome.{refusalOf}

@@ -18,7 +18,10 @@ use Rattle.model.specs.Scan.{firstHeld, indexOf}
 use Rattle.model.specs.Item.{imageLsn}
 use Rattle.model.specs.Repair.{viewOf, walkOf}
 use Rattle.model.specs.State.{frameCount, frameBytes, validMemory, holder, held, blank}
-use Rattle.model.specs.Refusals.{frameBlocked, pageDirty, foundBelow, restartRows, beginRows, loadRows, changeRows, forceRows, writeRows, backupRows, releaseRows, noteRows, startCarryRows, restampRows, finishCarryRows, inspectRows, beginTail, loadTail, walkTail, changeTail, writeTail, backupTail, releaseTail}
+use Rattle.model.specs.Refusals.{frameBlocked, pageDirty, foundBelow, restartRows, beginRows, loadRows, changeRows}
+use Rattle.model.specs.Refusals.{forceRows, writeRows, backupRows, releaseRows, noteRows, startCarryRows, restampRows}
+use Rattle.model.specs.Refusals.{finishCarryRows, inspectRows, beginTail, loadTail, walkTail, changeTail, writeTail}
+use Rattle.model.specs.Refusals.{backupTail, releaseTail}
 use Rattle.laws.proofs.Conditions.{chainBroken, chainBelow}
 use Rattle.model.specs.Outcome.{StoredItem, Outcome, decided, refusalOf}
 use Rattle.model.specs.Effects.{noteStored, backupDone, beginDone, changeDone, forceDone, loadDone, releaseDone, restampDone, writeDone}
@@ -95,7 +98,8 @@ module _ {C : Type 0} {g : Geometry} {v m : List ℕ} {past : List StoredItem} {
   unfoldable pub ownRows : Call → List Row
   ownRows (Begin page f fill, _) = beginTail (geometryOf v) v (frameCount (length m)) s page f
   ownRows (Load page f, _) =
-      let walk = walkOf (geometryOf v) page (viewOf (geometryOf v) v (firstHeld (geometryOf v) v (s .durable)) (entryOf (s .index) page) page) in
+      let walk = walkOf (geometryOf v) page
+      (viewOf (geometryOf v) v (firstHeld (geometryOf v) v (s .durable)) (entryOf (s .index) page) page) in
       loadTail (geometryOf v) (frameCount (length m)) s page f ++ walkTail (walk .stop)
   ownRows (Change page c, _) = changeTail (geometryOf v) v s page c
   ownRows (Force, _) = []
@@ -132,9 +136,12 @@ module _ {C : Type 0} {g : Geometry} {v m : List ℕ} {past : List StoredItem} {
   own-ordinary (Change page c, payload) o =
       usual (ownRows (Change page c, payload)) (omega arith) (omega arith) (omega arith) (omega arith) (omega arith)
   own-ordinary (Force, _) o = usual [] tt tt tt tt tt
-  own-ordinary (Write page, _) o = usual (ownRows (Write page, noPayload)) (omega arith) (omega arith) (omega arith) (omega arith) (omega arith)
-  own-ordinary (Backup page b, _) o = usual (ownRows (Backup page b, noPayload)) (omega arith) (omega arith) (omega arith) (omega arith) (omega arith)
-  own-ordinary (Release page, _) o = usual (ownRows (Release page, noPayload)) (omega arith) (omega arith) (omega arith) (omega arith) (omega arith)
+  own-ordinary (Write page, _) o = usual (ownRows (Write page, noPayload)) (omega arith) (omega arith) (omega arith)
+      (omega arith) (omega arith)
+  own-ordinary (Backup page b, _) o = usual (ownRows (Backup page b, noPayload)) (omega arith) (omega arith)
+      (omega arith) (omega arith) (omega arith)
+  own-ordinary (Release page, _) o = usual (ownRows (Release page, noPayload)) (omega arith) (omega arith) (omega arith)
+      (omega arith) (omega arith)
   own-ordinary (NoteCall, _) o = usual [] tt tt tt tt tt
   own-ordinary (StartCarry, _) o = absurd (true-not-false refl o)
   own-ordinary (Restamp, _) o = absurd (true-not-false refl o)

@@ -94,7 +94,8 @@ module _ (h : History) (legal : Legal h) where
         some = omega arith;
         lost = lost-at some ∙ u .1;
         copy = λ nz t e. true-not-false
-            (and-both {a = not (eqb (entry .slot) 0)} (rw (ne-eqb (entry .slot) 0 nz) refl) (and-both t (eq-eqb (imageLsn copy) (entry .backup) e))) (u .2);
+            (and-both {a = not (eqb (entry .slot) 0)} (rw (ne-eqb (entry .slot) 0 nz) refl)
+            (and-both t (eq-eqb (imageLsn copy) (entry .backup) e))) (u .2);
         own = λ t. leb-false (suc (u .0)) (imageLsn own) (rw t at (u .3));
         format = λ i lo hi e. read i lo hi e;
       },

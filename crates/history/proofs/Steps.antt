@@ -16,7 +16,9 @@ use Rattle.model.specs.Scan.{indexOf}
 use Rattle.model.specs.Outcome.{StoredItem}
 use Rattle.model.specs.Calls.{Call, outcomeOf, restampOf}
 use Rattle.model.specs.AbstractLog.{AbstractLog, Left, old, new, torn, leftNew, stepCall, stepCut}
-use Rattle.model.specs.History.{Power, off, on, Machine, Event, restart, perform, crash, crashIn, damage, lent, isRestamp, isStartCarry, payloadFits, tornFits, startFits, storedBefore, step, allowed, stepLog, allAllowed, run, logAfter}
+use Rattle.model.specs.History.{Power, off, on, Machine, Event, restart, perform, crash, crashIn, damage, lent}
+use Rattle.model.specs.History.{isRestamp, isStartCarry, payloadFits, tornFits, startFits, storedBefore, step, allowed}
+use Rattle.model.specs.History.{stepLog, allAllowed, run, logAfter}
 use Rattle.model.specs.Carry.{carries, startsIn}
 use Rattle.model.specs.declared.{geometry.Geometry.Geometry, state.State.State}
 use Rattle.history.proofs.Inv.{Inv}

@@ -24,7 +24,8 @@ use Rattle.model.specs.Index.{entryOf}
 use Rattle.model.specs.Scan.{firstHeld, indexOf}
 use Rattle.model.specs.AbstractLog.{Logged, lastPlace}
 use Rattle.model.specs.History.{on}
-use Rattle.model.specs.Claim.{History, Legal, reached, logOf, durableOf, inspection, shown, Gone, Proviso, Safe, Inspects, Loads, Agree, Begins, Demand2, Demand3}
+use Rattle.model.specs.Claim.{History, Legal, reached, logOf, durableOf, inspection, shown, Gone, Proviso, Safe}
+use Rattle.model.specs.Claim.{Inspects, Loads, Agree, Begins, Demand2, Demand3}
 use Rattle.model.specs.declared.{geometry.Geometry.Geometry, state.State.State}
 use Rattle.history.proofs.Logs.{at, lastOf, bodyOf, last-hit, last-le, replay-last, replay-append, replay-is, last-is}
 use Rattle.history.proofs.Leaf.{frame-size}

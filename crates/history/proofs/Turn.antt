@@ -11,7 +11,8 @@ use Rattle.laws.proofs.Places.{In}
 use Rattle.laws.proofs.Headings.{item-tag, item-heading, geometry-heading, valid-heading}
 use Rattle.laws.proofs.FormedTags.{most-rises, notes-rise}
 use Rattle.laws.proofs.Ring.{slot-in, Run, run-keep, run-plain}
-use Rattle.model.specs.Geometry.{tagOf, carryTag, withTag, Place, pageAt, slotAt, recordAt, noteAt, item, storeHeading, ring, most, mostNotes, slotOf, logSlot, noteSlot}
+use Rattle.model.specs.Geometry.{tagOf, carryTag, withTag, Place, pageAt, slotAt, recordAt, noteAt, item, storeHeading}
+use Rattle.model.specs.Geometry.{ring, most, mostNotes, slotOf, logSlot, noteSlot}
 use Rattle.model.specs.Item.{validImage, isWritten}
 use Rattle.model.specs.Passes.{isImage}
 use Rattle.model.specs.Outcome.{StoredItem, newHeading}

@@ -15,7 +15,8 @@ use Rattle.model.specs.declared.answer.Stop.the-variants.{Own, Backup, Format}
 use Rattle.model.specs.Geometry.{topNumber}
 use Rattle.model.specs.Change.{kindOf, zeroBody, applyChange}
 use Rattle.model.specs.Item.{imageLsn, imageBody, validImage, recordOf, isFormat}
-use Rattle.model.specs.Repair.{View, Walk, stopAt, behind, chainRecord, walkFrom, walkOf, replayChain, startBody, isBroken, isBelow, ownStart, backupStart, rebuiltBody}
+use Rattle.model.specs.Repair.{View, Walk, stopAt, behind, chainRecord, walkFrom, walkOf, replayChain, startBody}
+use Rattle.model.specs.Repair.{isBroken, isBelow, ownStart, backupStart, rebuiltBody}
 use Rattle.model.specs.AbstractLog.{Logged}
 use Rattle.history.proofs.Logs.{at, lastAt, replayAt, last-le, last-page, last-ge, last-mono, replay-hit, replay-last}
 use Rattle.history.proofs.Leaf.{format-apply, RecordIs}

@@ -14,7 +14,8 @@ use Rattle.model.specs.Tables.{all, within}
 use Rattle.model.specs.Geometry.{most, mostNotes, geometryOf, validVolume}
 use Rattle.model.specs.Item.{isWritten, noteLayout}
 use Rattle.model.specs.Index.{emptyEntry, entryRow, entryOf}
-use Rattle.model.specs.State.{frameCount, validMemory, frameRow, held, blank, lastNumber, pendingNoteFits, frameFits, entryFits, pageFits, wellFormed}
+use Rattle.model.specs.State.{frameCount, validMemory, frameRow, held, blank, lastNumber, pendingNoteFits, frameFits}
+use Rattle.model.specs.State.{entryFits, pageFits, wellFormed}
 use Rattle.model.specs.Outcome.{StoredItem}
 use Rattle.model.specs.AbstractLog.{Logged}
 use Rattle.model.specs.declared.{geometry.Geometry.Geometry, item.Note.Note, state.PendingNote.PendingNote}

@@ -6,7 +6,8 @@ use mathlib.Core.List.{List, [], _∷_, map}
 use native.Mathlib.Numerals.{add-one}
 use native.Mathlib.Omega.{arith}
 use lib.Dec.{eqb, leb}
-use lib.ListN.{length, drop, getD, set, take, replicate, length-map, length-set, length-replicate, drop-of-length-le, List·getD-map, List·getD-eq-default}
+use lib.ListN.{length, drop, getD, set, take, replicate, length-map, length-set, length-replicate, drop-of-length-le}
+use lib.ListN.{List·getD-map, List·getD-eq-default}
 use lib.Seq.{drop-cons, map-set-same, take-suc-set, take-suc, take-all}
 use borrow.Author.Tests.{ne-eqb, le-leb}
 use Rattle.laws.proofs.Tables.{byCases, every-same, or-right}
@@ -18,7 +19,8 @@ use Rattle.model.specs.declared.geometry.Geometry.{Geometry}
 use Rattle.model.specs.declared.item.Note.{Note}
 use Rattle.model.specs.declared.state.Entry.{Entry}
 use Rattle.log_scan.specs.Rows.{lasts}
-use Rattle.index.specs.Columns.{durables, writtens, slotsIn, backups, Columns, Blank, columnRow, columnsOrdered, slotIn, Wide, Unwritten}
+use Rattle.index.specs.Columns.{durables, writtens, slotsIn, backups, Columns, Blank, columnRow, columnsOrdered}
+use Rattle.index.specs.Columns.{slotIn, Wide, Unwritten}
 use Rattle.log_scan.proofs.RowLaws.{column-set}
 
 -- ---- the slot's search

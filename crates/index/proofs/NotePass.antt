@@ -14,7 +14,8 @@ use Rattle.model.specs.Checksum.{sealed}
 use Rattle.model.specs.Geometry.{noteSlot, item}
 use Rattle.model.specs.Item.{noteOf, noteLayout}
 use Rattle.model.specs.Index.{emptyEntry, entryRow, entryOf, withNote, enterNote, slotUsed}
-use Rattle.model.specs.Scan.{logRecord, noteRecord, durableCount, firstHeld, noteCount, firstNote, noteIndex, noteFollows, noteFits, endsIn, validNotes, indexOf}
+use Rattle.model.specs.Scan.{logRecord, noteRecord, durableCount, firstHeld, noteCount, firstNote, noteIndex}
+use Rattle.model.specs.Scan.{noteFollows, noteFits, endsIn, validNotes, indexOf}
 use Rattle.model.specs.declared.{geometry.Geometry.Geometry, item.Note.Note, state.Entry.Entry}
 use Rattle.log_scan.specs.Rows.{rowOf}
 use Rattle.index.specs.Columns.{Noted, Blank, earlierEntry, slotIn}
@@ -23,7 +24,8 @@ use Rattle.section.specs.Section.{slotsIn, frontIn}
 use Rattle.section.specs.declared.Run.{Run}
 use Rattle.section.specs.declared.Section.{Section}
 use Rattle.log_scan.proofs.RowLaws.{column-set, row-is}
-use Rattle.index.proofs.ColumnLaws.{slot-in, log-written, log-slots, log-backup, noted-written, noted-slot, noted-backup, Long, blank-long, long-set}
+use Rattle.index.proofs.ColumnLaws.{slot-in, log-written, log-slots, log-backup, noted-written, noted-slot}
+use Rattle.index.proofs.ColumnLaws.{noted-backup, Long, blank-long, long-set}
 use Rattle.index.proofs.Located.{note-known, note-section, first-note-low, notes-some}
 use Rattle.log_scan.proofs.Conjunctions.{guarded}
 

@@ -14,7 +14,7 @@ use Rattle.laws.proofs.Tables.{byCases, and-right, or-left, or-right, or-neithe
 use Rattle.laws.proofs.Fields.{field-add, field-one, field-below, field-part}
 use Rattle.laws.proofs.Parts.{part-lent}
 use Rattle.model.specs.Tables.{within}
-use Rattle.model.specs.Bytes.{le, field, part}
+use Rattle.model.specs.Bytes.{field, part}
 use Rattle.model.specs.Checksum.{sealed}
 use Rattle.model.specs.Geometry.{ring, recordAt, noteAt, logSlot, noteSlot, start, item}
 use Rattle.model.specs.Item.{recordOf, noteOf, noteLayout}
@@ -206,8 +206,17 @@ module _ (g : Geometry) (v : List ℕ) (few : g .pages ≤ 64) (f n : ℕ) (low 
   fits : noteAgrees (sealed 12 r) e n (g .pages) (durableCount g v) named after ≡ true
   fits =
       all-holds
-      (sealed 12 r ∷ noteLayout e ∷ eqb (e .number) n ∷ within (g .pages) (e .page) ∷ within (durableCount g v) (e .lsn) ∷ named ∷ after ∷ [])
-      (whole, (follows .laid, (eq-eqb _ _ (belongs .number-is), (belongs .inside, (belongs .names .durable, (belongs .names .own, (follows .after, tt)))))))
+      (sealed 12 r ∷ noteLayout e ∷ eqb (e .number) n ∷ within (g .pages) (e .page) ∷ within (durableCount g v) (e .lsn)
+      ∷ named ∷ after ∷ []) (
+        whole,
+        (
+          follows .laid,
+          (
+            eq-eqb _ _ (belongs .number-is),
+            (belongs .inside, (belongs .names .durable, (belongs .names .own, (follows .after, tt)))),
+          ),
+        ),
+      )
 
   row-here : e .page - 1 ≡ rowOf (e .page)
   row-here = sym (row-is (e .page) (omega (arith, within-bounds (g .pages) (e .page) (belongs .inside))))

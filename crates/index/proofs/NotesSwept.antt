@@ -9,11 +9,12 @@ use lib.Dec.{eqb, ltb}
 use borrow.Author.Tests.{eqb-true, ne-eqb}
 use Rattle.laws.proofs.Tables.{byCases, and-both, all-at, every-none, every-at, when-true, when-false}
 use Rattle.model.specs.Tables.{every, within}
-use Rattle.model.specs.Bytes.{le, field}
+use Rattle.model.specs.Bytes.{field}
 use Rattle.model.specs.Checksum.{sealed}
 use Rattle.model.specs.Geometry.{ring, noteAt, noteSlot, item}
 use Rattle.model.specs.Item.{noteOf, noteLayout}
-use Rattle.model.specs.Scan.{countIn, firstIn, endsIn, noteSlots, logRecord, noteRecord, durableCount, firstHeld, noteCount, firstNote, noteIndex, noteFollows, noteFits}
+use Rattle.model.specs.Scan.{countIn, firstIn, endsIn, noteSlots, logRecord, noteRecord, durableCount, firstHeld}
+use Rattle.model.specs.Scan.{noteCount, firstNote, noteIndex, noteFollows, noteFits}
 use Rattle.model.specs.Scan as scan
 use Rattle.model.specs.declared.geometry.Geometry.{Geometry}
 use Rattle.section.specs.Section.{slotBytes, slotsIn}
@@ -113,7 +114,8 @@ module _ (g : Geometry) (v : List ℕ) (f : ℕ) where
       unfolding notesFit fit-from
       fit =
           ap (λ (s : ℕ). fit-from (noteCount g v) s) first-is ∙ ap (λ (n : ℕ). fit-from n first) count-is
-          ∙ and-both (run-is (λ s k. every k (λ i. noteFits g v (noteIndex g v s i) (s + i)) ≡ true) (p .held) (λ a b h. every-none _)) ends-is
+          ∙ and-both (run-is (λ s k. every k (λ i. noteFits g v (noteIndex g v s i) (s + i)) ≡ true) (p .held)
+          (λ a b h. every-none _)) ends-is
 
       noted-is : Noted (notedIndex g v) written slots backup
       unfolding noteIndex
@@ -131,6 +133,7 @@ pub sweeps : (g : Geometry) (v : List ℕ) → Sized g v → (u : Guess) → Gue
     → NotesSwept g v next written slots backup
 sweeps g v s u h next written slots backup p t =
     let f = u .first in
-    let d = closes v (noteSection g) f (next - f) (note-placed g v s) (h .some) (h .plain) (h .none) (swept g v f next written slots backup p) t in
+    let d = closes v (noteSection g) f (next - f) (note-placed g v s) (h .some) (h .plain) (h .none)
+    (swept g v f next written slots backup p) t in
     let one : next ≡ f → f ≡ 1 = λ e. closed-none v (noteSection g) f (next - f) (h .none) t (omega arith) in
     notes-swept g v f next written slots backup p d one (h .some)

@@ -14,7 +14,8 @@ use Rattle.model.specs.Checksum.{sealed}
 use Rattle.model.specs.Geometry.{noteSlot, item}
 use Rattle.model.specs.Item.{noteLayout}
 use Rattle.model.specs.Index.{entryOf, withNote, enterNote}
-use Rattle.model.specs.Scan.{endsIn, noteSlots, logRecord, noteRecord, durableCount, firstHeld, noteCount, firstNote, noteIndex, noteFollows, noteFits}
+use Rattle.model.specs.Scan.{endsIn, noteSlots, logRecord, noteRecord, durableCount, firstHeld, noteCount, firstNote}
+use Rattle.model.specs.Scan.{noteIndex, noteFollows, noteFits}
 use Rattle.model.specs.declared.{geometry.Geometry.Geometry, state.Entry.Entry}
 use Rattle.index.specs.Columns.{writtens, Noted, Unwritten}
 use Rattle.index.specs.NoteSection.{notedIndex, notesFit}

@@ -16,7 +16,8 @@ use Rattle.laws.proofs.Demand1.{demand1}
 use Rattle.model.specs.Tables.{Row, within}
 use Rattle.model.specs.Bytes.{field, splice}
 use Rattle.model.specs.Checksum.{sealImage, imageSealed}
-use Rattle.model.specs.Geometry.{Place, pageAt, slotAt, recordAt, noteAt, itemOf, width, start, geometryOf, validVolume, emptyVolume, item, store}
+use Rattle.model.specs.Geometry.{Place, pageAt, slotAt, recordAt, noteAt, itemOf, width, start, geometryOf, validVolume}
+use Rattle.model.specs.Geometry.{emptyVolume, item, store}
 use Rattle.model.specs.Item.{imagePage, imageLsn, validImage, frameImage}
 use Rattle.model.specs.Outcome.{volumeAfter}
 use Rattle.model.specs.Calls.{Call, outcomeOf}

@@ -110,7 +110,8 @@ stands = holds (sealed 12 (item (geometryOf (reached notesTurned .volume)) (reac
 pub spare-note : SpareNote (reached notesTurned .volume) 1
     (noteOf (item (geometryOf (reached notesTurned .volume)) (reached notesTurned .volume) (noteAt 1)))
 spare-note =
-    rings .notes notesTurned turn-legal m s turn-on note 1 (bytesIn (outcomeOf note (reached notesTurned .volume) m s .stored)) overwrites stands
+    rings .notes notesTurned turn-legal m s turn-on note 1
+    (bytesIn (outcomeOf note (reached notesTurned .volume) m s .stored)) overwrites stands
 
 -- ---- the ring that has turned, its backup damaged
 

@@ -9,7 +9,8 @@ use lib.Dec.{eqb, lit≤}
 use lib.ListN.{length, take, getD}
 use lib.Seq.{length-take-le}
 use borrow.Author.Tests.{eqb-true, eqb-false, eq-eqb, lt-ltb, le-ltb}
-use Rattle.laws.proofs.Tables.{byCases, and-left, and-right, and-both, or-left, or-right, within-bounds, within-holds, true-not-false}
+use Rattle.laws.proofs.Tables.{byCases, and-left, and-right, and-both, or-left, or-right, within-bounds}
+use Rattle.laws.proofs.Tables.{within-holds, true-not-false}
 use Rattle.laws.proofs.Checksums.{take-with, sum-holds, byteSum-most}
 use Rattle.laws.proofs.Items.{by-words, by-bytes, by-either, bytes-set, sealImage-field}
 use Rattle.laws.proofs.Places.{In}

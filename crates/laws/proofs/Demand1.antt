@@ -19,15 +19,19 @@ use Rattle.laws.proofs.Decided.{by-table, stores, stored-within, at-mos
 use Rattle.model.specs.Tables.{Row, firstOf, within}
 use Rattle.model.specs.Checksum.{sealImage}
 use Rattle.model.specs.Item.{noteBytes}
-use Rattle.model.specs.Geometry.{tagOf, carryTag, headed, pageAt, slotAt, logSlot, noteSlot, geometryOf, validVolume, validCounts, lengthFor, item}
+use Rattle.model.specs.Geometry.{tagOf, carryTag, headed, pageAt, slotAt, logSlot, noteSlot, geometryOf, validVolume}
+use Rattle.model.specs.Geometry.{validCounts, lengthFor, item}
 use Rattle.model.specs.State.{frameCount, frameBytes, pendingBytes, holder, held, notePending, notesFull, zeroState, pendingNoteFits}
-use Rattle.model.specs.Refusals.{pageDirty, makeRows, restartRows, beginRows, loadRows, changeRows, forceRows, writeRows, backupRows, releaseRows, noteRows, startCarryRows, restampRows, finishCarryRows, inspectRows}
+use Rattle.model.specs.Refusals.{pageDirty, makeRows, restartRows, beginRows, loadRows, changeRows, forceRows}
+use Rattle.model.specs.Refusals.{writeRows, backupRows, releaseRows, noteRows, startCarryRows, restampRows}
+use Rattle.model.specs.Refusals.{finishCarryRows, inspectRows}
 use Rattle.laws.proofs.Conditions.{notDurable}
 use Rattle.model.specs.Index.{slotUsed}
 use Rattle.model.specs.Passes.{imageCount, imagePlace, firstOld, oldLeft}
 use Rattle.model.specs.Outcome.{nothing, refusalOf, decided}
 use Rattle.model.specs.Effects.{noteStored, backupDone, beginDone, changeDone, forceDone, loadDone, releaseDone, restampDone, writeDone}
-use Rattle.model.specs.Calls.{beginOf, loadOf, changeCall, forceOf, writeOf, backupOf, releaseOf, noteCall, startCarryOf, restampOf, finishCarryOf, Call, rowsOf, outcomeOf}
+use Rattle.model.specs.Calls.{beginOf, loadOf, changeCall, forceOf, writeOf, backupOf, releaseOf, noteCall}
+use Rattle.model.specs.Calls.{startCarryOf, restampOf, finishCarryOf, Call, rowsOf, outcomeOf}
 use Rattle.model.specs.Restart.{restartOf, makeOf, inspectOf, Made, Inspected}
 use Rattle.model.specs.declared.{geometry.Heading.Heading, geometry.Heading.the-variants.First, change.Change.Change}
 use Rattle.model.specs.declared.{state.State.State, state.PendingNote.PendingNote}
@@ -41,23 +45,56 @@ use Rattle.model.specs.Demand1.{ByTable, StoresItem, Keeps, Arrays, Demand1}
 begin-keeps : (v m : List ℕ) (s : State) (page frame fill : ℕ) → KeepsBy (beginRows v m s page frame) v m s (beginOf v m s page frame fill)
 unfolding decided beginDone beginRows
 begin-keeps v m s page frame fill =
-    let own : Numbered (beginRows v m s page frame) =
-    (eqb-false 1 0 refl, (eqb-false 2 0 refl, (eqb-false 2 0 refl, (eqb-false 3 0 refl, (eqb-false 4 0 refl, (eqb-false 9 0 refl, (eqb-false 10 0 refl, (eqb-false 11 0 refl, (eqb-false 12 0 refl, tt))))))))) in
+    let own : Numbered (beginRows v m s page frame) = (
+      eqb-false 1 0 refl,
+      (
+        eqb-false 2 0 refl,
+        (
+          eqb-false 2 0 refl,
+          (
+            eqb-false 3 0 refl,
+            (eqb-false 4 0 refl, (eqb-false 9 0 refl, (eqb-false 10 0 refl, (eqb-false 11 0 refl, (eqb-false 12 0 refl, tt))))),
+          ),
+        ),
+      ),
+    ) in
     keeps-by _ v m s _ own refl (λ _. tt)
 
 load-keeps : (v m : List ℕ) (s : State) (page frame : ℕ) → KeepsBy (loadRows v m s page frame) v m s (loadOf v m s page frame)
 unfolding decided loadDone loadRows
 load-keeps v m s page frame =
-    let own : Numbered (loadRows v m s page frame) =
-    (eqb-false 1 0 refl, (eqb-false 2 0 refl, (eqb-false 2 0 refl, (eqb-false 3 0 refl, (eqb-false 4 0 refl, (eqb-false 7 0 refl, (eqb-false 9 0 refl, (eqb-false 10 0 refl, (eqb-false 19 0 refl, (eqb-false 23 0 refl, tt)))))))))) in
+    let own : Numbered (loadRows v m s page frame) = (
+      eqb-false 1 0 refl,
+      (
+        eqb-false 2 0 refl,
+        (
+          eqb-false 2 0 refl,
+          (
+            eqb-false 3 0 refl,
+            (
+              eqb-false 4 0 refl,
+              (eqb-false 7 0 refl, (eqb-false 9 0 refl, (eqb-false 10 0 refl, (eqb-false 19 0 refl, (eqb-false 23 0 refl, tt))))),
+            ),
+          ),
+        ),
+      ),
+    ) in
     keeps-by _ v m s _ own refl (λ _. tt)
 
 change-keeps : (v m : List ℕ) (s : State) (page : ℕ) (c : Change) (payload : List ℕ)
     → KeepsBy (changeRows v m s page c) v m s (changeCall v m s page c payload)
 unfolding decided changeDone changeRows
 change-keeps v m s page c payload =
-    let own : Numbered (changeRows v m s page c) =
-    (eqb-false 1 0 refl, (eqb-false 2 0 refl, (eqb-false 2 0 refl, (eqb-false 3 0 refl, (eqb-false 6 0 refl, (eqb-false 8 0 refl, (eqb-false 11 0 refl, (eqb-false 12 0 refl, tt)))))))) in
+    let own : Numbered (changeRows v m s page c) = (
+      eqb-false 1 0 refl,
+      (
+        eqb-false 2 0 refl,
+        (
+          eqb-false 2 0 refl,
+          (eqb-false 3 0 refl, (eqb-false 6 0 refl, (eqb-false 8 0 refl, (eqb-false 11 0 refl, (eqb-false 12 0 refl, tt))))),
+        ),
+      ),
+    ) in
     keeps-by _ v m s _ own refl (λ _. tt)
 
 release-keeps : (v m : List ℕ) (s : State) (page : ℕ) → KeepsBy (releaseRows v m s page) v m s (releaseOf v m s page)

@@ -13,7 +13,9 @@ use Rattle.laws.proofs.Fields.{bytesOf-length, field-back}
 use Rattle.laws.proofs.Zeros.{zeros, drop-zeros, take-zeros}
 use Rattle.laws.proofs.Places.{In, Counts, counts-bounds}
 use Rattle.model.specs.Bytes.{bytesOf, field, byteAt, part, startsWith}
-use Rattle.model.specs.Geometry.{tagOf, magic, knownMagic, slotCountAt, recordCountAt, noteCountAt, lengthFor, pagesOf, slotsOf, recordsOf, notesOf, geometryOf, validCounts, validVolume, emptyVolume, Place, pageAt, slotAt, recordAt, noteAt, width, start, item}
+use Rattle.model.specs.Geometry.{tagOf, magic, knownMagic, slotCountAt, recordCountAt, noteCountAt, lengthFor, pagesOf}
+use Rattle.model.specs.Geometry.{slotsOf, recordsOf, notesOf, geometryOf, validCounts, validVolume, emptyVolume, Place}
+use Rattle.model.specs.Geometry.{pageAt, slotAt, recordAt, noteAt, width, start, item}
 use Rattle.model.specs.declared.{geometry.Geometry.Geometry, geometry.Heading.Heading}
 use Rattle.model.specs.declared.geometry.Heading.the-variants.{First, Second}
 

@@ -20,7 +20,8 @@ use Rattle.model.specs.Tables.{Row, within}
 use Rattle.model.specs.Geometry.{most, mostNotes, geometryOf}
 use Rattle.model.specs.Item.{noteLayout}
 use Rattle.model.specs.Index.{emptyEntry, entryOf, withLast}
-use Rattle.model.specs.State.{frameCount, frameRow, holder, held, lastNumber, logFull, notesFull, pendingNoteFits, frameFits, entryFits, pageFits, wellFormed}
+use Rattle.model.specs.State.{frameCount, frameRow, holder, held, lastNumber, logFull, notesFull, pendingNoteFits}
+use Rattle.model.specs.State.{frameFits, entryFits, pageFits, wellFormed}
 use Rattle.model.specs.Refusals.{frameBlocked}
 use Rattle.model.specs.Effects.{withFrame, withFrames, appendedState, nextNote}
 use Rattle.model.specs.Demand1.{Arrays}

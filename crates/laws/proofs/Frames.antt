@@ -15,7 +15,8 @@ use Rattle.laws.proofs.WellFormed.{Formed}
 use Rattle.model.specs.Tables.{every}
 use Rattle.model.specs.Geometry.{most, mostNotes}
 use Rattle.model.specs.Index.{entryRow, entryOf}
-use Rattle.model.specs.State.{emptyFrame, frameRow, holderFrom, holder, held, blank, lastNumber, pendingNoteFits, firstHolder, frameFits, entryFits, entryZero, pageFits, wellFormed}
+use Rattle.model.specs.State.{emptyFrame, frameRow, holderFrom, holder, held, blank, lastNumber, pendingNoteFits}
+use Rattle.model.specs.State.{firstHolder, frameFits, entryFits, entryZero, pageFits, wellFormed}
 use Rattle.model.specs.declared.{geometry.Geometry.Geometry, state.Entry.Entry, state.Frame.Frame, state.State.State}
 
 -- ---- the search for a page

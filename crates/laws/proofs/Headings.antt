@@ -15,7 +15,9 @@ use Rattle.laws.proofs.Tables.{all-holds, and-left, and-right, or-cases
 use Rattle.laws.proofs.Parts.{splice-length, splice-at, splice-after, part-after}
 use Rattle.laws.proofs.Places.{In, place-after, field-of-part, valid-facts, same-counts, same-four}
 use Rattle.model.specs.Bytes.{le, field, byteAt, part, splice, startsWith}
-use Rattle.model.specs.Geometry.{tagOf, carryTag, magicOf, headed, knownMagic, slotCountAt, recordCountAt, noteCountAt, lengthFor, pagesOf, slotsOf, recordsOf, notesOf, geometryOf, withTag, validCounts, validVolume, Place, pageAt, slotAt, recordAt, noteAt, item, storeHeading, ring}
+use Rattle.model.specs.Geometry.{tagOf, carryTag, magicOf, headed, knownMagic, slotCountAt, recordCountAt, noteCountAt}
+use Rattle.model.specs.Geometry.{lengthFor, pagesOf, slotsOf, recordsOf, notesOf, geometryOf, withTag, validCounts}
+use Rattle.model.specs.Geometry.{validVolume, Place, pageAt, slotAt, recordAt, noteAt, item, storeHeading, ring}
 use Rattle.model.specs.Demand1.{DiffersInTag}
 use Rattle.model.specs.declared.geometry.Geometry.{Geometry}
 use Rattle.model.specs.declared.geometry.Heading.the-variants.{First, Second}

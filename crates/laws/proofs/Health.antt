@@ -17,7 +17,8 @@ use Rattle.model.specs.Geometry.{geometryOf}
 use Rattle.model.specs.Item.{imageLsn, validImage, isFormat, recordOf}
 use Rattle.model.specs.Index.{entryOf}
 use Rattle.model.specs.Scan.{indexOf}
-use Rattle.model.specs.Repair.{View, Walk, walkOf, walkFrom, startOf, classOf, ownStart, backupStart, chainRecord, repairOf, stateView, scannedView}
+use Rattle.model.specs.Repair.{View, Walk, walkOf, walkFrom, startOf, classOf, ownStart, backupStart, chainRecord}
+use Rattle.model.specs.Repair.{repairOf, stateView, scannedView}
 use Rattle.model.specs.State.{frameCount, held, blank, lastNumber, entryFits, pageFits}
 use Rattle.model.specs.Refusals.{loadRows, inspectRows, frameBlocked}
 use Rattle.laws.proofs.Conditions.{chainBroken, chainBelow}

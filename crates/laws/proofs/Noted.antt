@@ -18,7 +18,8 @@ use Rattle.model.specs.Checksum.{sealed}
 use Rattle.model.specs.Geometry.{item, noteSlot}
 use Rattle.model.specs.Item.{noteLayout, isWritten}
 use Rattle.model.specs.Index.{emptyEntry, entryOf, withNote, enterNote, slotUsed, settled}
-use Rattle.model.specs.Scan.{logRecord, noteRecord, durableCount, firstHeld, validLog, noteCount, firstNote, runIndex, noteIndex, noteFollows, noteFits, validNotes, indexOf}
+use Rattle.model.specs.Scan.{logRecord, noteRecord, durableCount, firstHeld, validLog, noteCount, firstNote, runIndex}
+use Rattle.model.specs.Scan.{noteIndex, noteFollows, noteFits, validNotes, indexOf}
 use Rattle.model.specs.declared.{geometry.Geometry.Geometry, item.Note.Note, state.Entry.Entry}
 
 -- ---- one note

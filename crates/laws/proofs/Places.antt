@@ -15,7 +15,9 @@ use Rattle.laws.proofs.Parts.{part-at, part-length, splice-length, part
 use Rattle.laws.proofs.Fields.{le-take}
 use Rattle.model.specs.Tables.{within}
 use Rattle.model.specs.Bytes.{le, field, byteAt, part, splice, startsWith}
-use Rattle.model.specs.Geometry.{magic, magicOf, carryTag, knownMagic, slotCountAt, recordCountAt, noteCountAt, lengthFor, pagesOf, slotsOf, recordsOf, notesOf, geometryOf, validCounts, validVolume, Place, pageAt, slotAt, recordAt, noteAt, itemOf, width, start, item, store}
+use Rattle.model.specs.Geometry.{magic, magicOf, carryTag, knownMagic, slotCountAt, recordCountAt, noteCountAt}
+use Rattle.model.specs.Geometry.{lengthFor, pagesOf, slotsOf, recordsOf, notesOf, geometryOf, validCounts, validVolume}
+use Rattle.model.specs.Geometry.{Place, pageAt, slotAt, recordAt, noteAt, itemOf, width, start, item, store}
 use Rattle.model.specs.declared.geometry.Geometry.{Geometry}
 use Rattle.model.specs.declared.geometry.Heading.the-variants.{First, Second}
 

@@ -10,7 +10,9 @@ use borrow.Author.Tests.{le-leb}
 use Rattle.laws.proofs.Tables.{byCases, and-left, and-right}
 use Rattle.laws.proofs.Decided.{later}
 use Rattle.model.specs.Tables.{Row}
-use Rattle.model.specs.Refusals.{makeRows, restartRows, beginRows, loadRows, changeRows, forceRows, writeRows, backupRows, releaseRows, noteRows, startCarryRows, restampRows, finishCarryRows, inspectRows}
+use Rattle.model.specs.Refusals.{makeRows, restartRows, beginRows, loadRows, changeRows, forceRows, writeRows}
+use Rattle.model.specs.Refusals.{backupRows, releaseRows, noteRows, startCarryRows, restampRows, finishCarryRows}
+use Rattle.model.specs.Refusals.{inspectRows}
 use Rattle.model.specs.Calls.{Call, rowsOf}
 use Rattle.model.specs.declared.state.State.{State}
 use Rattle.model.specs.declared.command.Command.the-variants.{Begin, Load, Force, Write, Release, StartCarry, Restamp, FinishCarry}

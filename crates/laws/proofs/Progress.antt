@@ -26,7 +26,9 @@ use Rattle.model.specs.Calls.{restampOf, finishCarryOf}
 use Rattle.model.specs.Carry.{oldCount, restamps, AllDone, Progress, passesOn, DropsNone}
 use Rattle.model.specs.declared.{geometry.Heading.the-variants.Second, state.State.State}
 use Rattle.model.specs.declared.answer.Answer.the-variants.{Refused, Nothing, Done}
-use Rattle.laws.proofs.Restamped.{isDone, not-done, isNothing, not-nothing, image-number, opened, left-found, found-old, found-none, answer-found, done-rows, stored-is, stored-none, same-geometry, one-less, after-passes, after-front, rows-again}
+use Rattle.laws.proofs.Restamped.{isDone, not-done, isNothing, not-nothing, image-number, opened, left-found}
+use Rattle.laws.proofs.Restamped.{found-old, found-none, answer-found, done-rows, stored-is, stored-none}
+use Rattle.laws.proofs.Restamped.{same-geometry, one-less, after-passes, after-front, rows-again}
 
 -- ---- progress
 

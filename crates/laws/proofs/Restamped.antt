@@ -14,11 +14,13 @@ use Rattle.laws.proofs.Places.{In, valid-facts, item-length, item-store
 use Rattle.laws.proofs.Headings.{headed-tag, tag-headed}
 use Rattle.laws.proofs.Search.{first-from, found-some, count-less}
 use Rattle.laws.proofs.Items.{sealImage-length}
-use Rattle.laws.proofs.Carry.{wordsHold, bytesHold, placed, passes-split, sealed-either, only-old, restamp-bytes, restamp-front, restamp-placed, image-in, image-place}
+use Rattle.laws.proofs.Carry.{wordsHold, bytesHold, placed, passes-split, sealed-either, only-old, restamp-bytes}
+use Rattle.laws.proofs.Carry.{restamp-front, restamp-placed, image-in, image-place}
 use Rattle.laws.proofs.WellFormed.{ready-behind}
 use Rattle.model.specs.Tables.{firstOf}
 use Rattle.model.specs.Checksum.{sealImage}
-use Rattle.model.specs.Geometry.{tagOf, carryTag, headed, geometryOf, validVolume, Place, pageAt, slotAt, recordAt, noteAt, width, start, item, store}
+use Rattle.model.specs.Geometry.{tagOf, carryTag, headed, geometryOf, validVolume, Place, pageAt, slotAt, recordAt}
+use Rattle.model.specs.Geometry.{noteAt, width, start, item, store}
 use Rattle.model.specs.Passes.{passesAt, isImage, onlyOld, imageCount, imagePlace, oldAt, firstOld, oldLeft}
 use Rattle.model.specs.Refusals.{restampRows}
 use Rattle.model.specs.Outcome.{nothing, oneItem, decided}

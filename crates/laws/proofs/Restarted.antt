@@ -20,7 +20,8 @@ use Rattle.model.specs.Tables.{Row, firstOf}
 use Rattle.model.specs.Bytes.{field, part, Octets}
 use Rattle.model.specs.Geometry.{Place, recordAt, noteAt, start, width, item, topNumber, most, mostNotes, geometryOf, validVolume}
 use Rattle.model.specs.Index.{emptyEntry, emptyIndex, entryRow, settled}
-use Rattle.model.specs.Scan.{Section, countIn, logSlots, noteSlots, durableCount, validLog, noteCount, firstNote, noteIndex, validNotes, indexOf}
+use Rattle.model.specs.Scan.{Section, countIn, logSlots, noteSlots, durableCount, validLog, noteCount, firstNote}
+use Rattle.model.specs.Scan.{noteIndex, validNotes, indexOf}
 use Rattle.model.specs.State.{frameCount, validMemory, zeroState, emptyFrame, pendingNoteFits, pageFits, wellFormed}
 use Rattle.model.specs.Refusals.{restartRows}
 use Rattle.model.specs.Outcome.{decided}
@@ -119,7 +120,8 @@ module _ (v : List ℕ) (o : Octets v) (ok : validVolume v ≡ true) (log : vali
   page-ok i b = page-fits g s i (entry-ok i) (λ past. rw (row-past g v few-pages log notes i past))
 
   restarted-formed : (frames : ℕ) → wellFormed g frames s ≡ true
-  restarted-formed frames = idle-formed g frames (durableCount g v) (noteCount g v) (indexOf g v) (durable-most g v o) (notes-most g v o) page-ok
+  restarted-formed frames = idle-formed g frames (durableCount g v) (noteCount g v) (indexOf g v) (durable-most g v o)
+      (notes-most g v o) page-ok
 
   restarted-arrays : Arrays s
   restarted-arrays =

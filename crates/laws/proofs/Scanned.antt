@@ -19,7 +19,8 @@ use Rattle.model.specs.Checksum.{sealed}
 use Rattle.model.specs.Geometry.{recordAt, start, item, slotOf, logSlot, ring}
 use Rattle.model.specs.Item.{recordOf, recordLayout, firstIsFormat}
 use Rattle.model.specs.Index.{emptyEntry, emptyIndex, entryOf}
-use Rattle.model.specs.Scan.{Section, countIn, firstIn, logSlots, logRecord, durableCount, firstHeld, logIndex, linked, recordFits, validLog, gone}
+use Rattle.model.specs.Scan.{Section, countIn, firstIn, logSlots, logRecord, durableCount, firstHeld, logIndex, linked}
+use Rattle.model.specs.Scan.{recordFits, validLog, gone}
 use Rattle.model.specs.declared.{geometry.Geometry.Geometry, item.LogRecord.LogRecord, state.Entry.Entry}
 
 -- ---- the records of a run from number f on
@@ -150,7 +151,8 @@ pub first-low : (s : Section) (n : ℕ) → 1 ≤ firstIn s n
 unfolding firstIn
 first-low s n =
     byCases (s .ring)
-    (λ t. rw t (byCases (sealed (s .size) (s .slot (slotOf (s .slots) (suc (n - s .slots))))) (λ u. rw u (omega arith)) (λ u. rw u (omega arith))))
+    (λ t. rw t (byCases (sealed (s .size) (s .slot (slotOf (s .slots) (suc (n - s .slots))))) (λ u. rw u (omega arith))
+    (λ u. rw u (omega arith))))
     (λ t. rw t (omega arith))
 
 pub held-low : (g : Geometry) (v : List ℕ) (n : ℕ) → 1 ≤ firstHeld g v n

@@ -10,7 +10,9 @@ use Rattle.laws.proofs.Parts.{drop-from}
 use Rattle.model.specs.Bytes.{part}
 use Rattle.model.specs.Checksum.{sealedRun}
 use Rattle.model.specs.Geometry.{recordAt, noteAt, start, item, ring, logSlot}
-use Rattle.model.specs.Scan.{Section, countIn, firstIn, restZero, endsIn, logSlots, noteSlots, durableCount, firstHeld, logIndex, recordFits, validLog, noteCount, firstNote, runIndex, noteIndex, noteFits, validNotes, indexOf, noteRecord}
+use Rattle.model.specs.Scan.{Section, countIn, firstIn, restZero, endsIn, logSlots, noteSlots, durableCount, firstHeld}
+use Rattle.model.specs.Scan.{logIndex, recordFits, validLog, noteCount, firstNote, runIndex, noteIndex, noteFits}
+use Rattle.model.specs.Scan.{validNotes, indexOf, noteRecord}
 use Rattle.model.specs.declared.{geometry.Geometry.Geometry, state.Entry.Entry}
 
 module _ (g : Geometry) (v w : List ℕ) (e : drop (start g (recordAt 1)) w ≡ drop (start g (recordAt 1)) v) where

@@ -16,7 +16,8 @@ use Rattle.laws.proofs.Tabulated.{replicate-at}
 use Rattle.laws.proofs.Scanned.{log-fits}
 use Rattle.laws.proofs.Noted.{Marked, notes-fit, down-newest, run-entry, before}
 use Rattle.model.specs.Index.{emptyEntry, emptyIndex, entryRow, entryOf, enterNote, settled}
-use Rattle.model.specs.Scan.{validRun, noteSlots, logRecord, noteRecord, durableCount, firstHeld, logIndex, validLog, noteCount, firstNote, runIndex, noteIndex, noteFits, validNotes, indexOf}
+use Rattle.model.specs.Scan.{validRun, noteSlots, logRecord, noteRecord, durableCount, firstHeld, logIndex, validLog}
+use Rattle.model.specs.Scan.{noteCount, firstNote, runIndex, noteIndex, noteFits, validNotes, indexOf}
 use Rattle.model.specs.declared.{geometry.Geometry.Geometry, state.Entry.Entry}
 
 -- the last clause of the notes' rule

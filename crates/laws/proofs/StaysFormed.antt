@@ -16,7 +16,8 @@ use Rattle.laws.proofs.Decided.{geometryWith, geometry-after, either}
 use Rattle.laws.proofs.Headings.{headed-tag, no-ring}
 use Rattle.laws.proofs.FormedTags.{formed-tag}
 use Rattle.laws.proofs.Demand1.{call-keeps}
-use Rattle.laws.proofs.FormedStates.{Good, unblocked, at-low, at-within, at-place, at-page, at-alone, appended-good, framed-good, emptied-good, next-fits, noted-good}
+use Rattle.laws.proofs.FormedStates.{Good, unblocked, at-low, at-within, at-place, at-page, at-alone}
+use Rattle.laws.proofs.FormedStates.{appended-good, framed-good, emptied-good, next-fits, noted-good}
 use Rattle.model.specs.Tables.{Row, firstOf, within}
 use Rattle.model.specs.Geometry.{tagOf, carryTag, headed, geometryOf}
 use Rattle.model.specs.Change.{fits}
@@ -24,11 +25,13 @@ use Rattle.model.specs.Item.{imageLsn, noteLayout}
 use Rattle.model.specs.Index.{entryOf, slotUsed}
 use Rattle.model.specs.Passes.{imageCount, firstOld, oldLeft}
 use Rattle.model.specs.State.{frameCount, frameBytes, holder, held, blank, logFull, notesFull, notePending, wellFormed}
-use Rattle.model.specs.Refusals.{frameBlocked, pageDirty, beginRows, loadRows, changeRows, writeRows, backupRows, releaseRows, startCarryRows, restampRows, finishCarryRows}
+use Rattle.model.specs.Refusals.{frameBlocked, pageDirty, beginRows, loadRows, changeRows, writeRows, backupRows}
+use Rattle.model.specs.Refusals.{releaseRows, startCarryRows, restampRows, finishCarryRows}
 use Rattle.laws.proofs.Conditions.{notDurable, chainBroken, chainBelow}
 use Rattle.model.specs.Outcome.{newHeading, Outcome, decided}
 use Rattle.model.specs.Effects.{backupDone, beginDone, changeDone, loadDone, releaseDone, restampDone, writeDone}
-use Rattle.model.specs.Calls.{beginOf, loadOf, changeCall, writeOf, backupOf, releaseOf, startCarryOf, restampOf, finishCarryOf, Call, outcomeOf}
+use Rattle.model.specs.Calls.{beginOf, loadOf, changeCall, writeOf, backupOf, releaseOf, startCarryOf, restampOf}
+use Rattle.model.specs.Calls.{finishCarryOf, Call, outcomeOf}
 use Rattle.model.specs.declared.{geometry.Geometry.Geometry, change.Change.Change, state.State.State}
 use Rattle.model.specs.declared.command.Command.the-variants.{Begin, Load, Force, Write, Release, StartCarry, Restamp, FinishCarry}
 use Rattle.model.specs.declared.geometry.Heading.the-variants.{First, Second}

@@ -14,7 +14,9 @@ use Rattle.laws.proofs.Parts.{part-length}
 use Rattle.model.specs.Tables.{Row, firstOf, every, within}
 use Rattle.model.specs.Geometry.{most, mostNotes, geometryOf, validVolume}
 use Rattle.model.specs.Item.{noteLayout, isWritten}
-use Rattle.model.specs.State.{frameCount, validMemory, pendingAt, pendingBytes, frameAt, frameBytes, emptyFrame, frameRow, frameOf, holderFrom, holder, held, blank, pendingNoteFits, firstHolder, frameFits, pageFits, wellFormed}
+use Rattle.model.specs.State.{frameCount, validMemory, pendingAt, pendingBytes, frameAt, frameBytes, emptyFrame}
+use Rattle.model.specs.State.{frameRow, frameOf, holderFrom, holder, held, blank, pendingNoteFits, firstHolder}
+use Rattle.model.specs.State.{frameFits, pageFits, wellFormed}
 use Rattle.model.specs.Refusals.{stateRows}
 use Rattle.model.specs.declared.{geometry.Geometry.Geometry, item.Note.Note, state.Frame.Frame, state.State.State}
 use Rattle.model.specs.declared.state.PendingNote.the-variants.{Present}

@@ -52,8 +52,16 @@ tail-is stop broken below a b eo el ea eb = rw (eb, ea, eo, el)
 module _ (v m : List ℕ) (s : State) (page frame : ℕ) where
   pub early-numbered : Numbered (earlyRows v m s page frame)
   unfolding earlyRows
-  early-numbered =
-      (eqb-false 1 0 refl, (eqb-false 2 0 refl, (eqb-false 2 0 refl, (eqb-false 3 0 refl, (eqb-false 4 0 refl, (eqb-false 7 0 refl, (eqb-false 9 0 refl, (eqb-false 10 0 refl, tt))))))))
+  early-numbered = (
+    eqb-false 1 0 refl,
+    (
+      eqb-false 2 0 refl,
+      (
+        eqb-false 2 0 refl,
+        (eqb-false 3 0 refl, (eqb-false 4 0 refl, (eqb-false 7 0 refl, (eqb-false 9 0 refl, (eqb-false 10 0 refl, tt))))),
+      ),
+    ),
+  )
 
   -- where the walk for the page stops
   abbrev pub stopOf : Stop

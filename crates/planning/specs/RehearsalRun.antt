@@ -76,7 +76,8 @@ victimRow n past s = firstFrom n (λ i. every n (λ j. leb (useOf past s i) (use
 -- Begin itself
 abbrev pub evictionCalls : Settings → Frame → List Call
 evictionCalls t x =
-    cond (x .dirty) (cond (victimWritten (t .victim)) ((Write (x .page), noPayload) ∷ (Note, noPayload) ∷ []) ((Release (x .page), noPayload) ∷ [])) []
+    cond (x .dirty)
+    (cond (victimWritten (t .victim)) ((Write (x .page), noPayload) ∷ (Note, noPayload) ∷ []) ((Release (x .page), noPayload) ∷ [])) []
 
 -- page p is brought into the victim's frame: by its Begin, which is its first change, or by a Load
 unfoldable pub bringIn : Settings → Choice → List ℕ → State → ℕ → List Call

@@ -10,7 +10,9 @@ use lib.Dec.{eqb, ltb}
 use lib.ListN.{length, getD, set, replicate}
 use lib.Seq.{getD-set-same, getD-set-other, set-out}
 use Rattle.laws.proofs.Tables.{byCases}
-use Rattle.planning.specs.Rehearsal.{noFigures, pageRow, withLoad, withImage, withRecord, withChange, victimWritten, replayedBy, useRow, evicted, broughtIn, holding, leastUsed, touched, changed, stepOn, idle}
+use Rattle.planning.specs.Rehearsal.{noFigures, pageRow, withLoad, withImage, withRecord, withChange, victimWritten}
+use Rattle.planning.specs.Rehearsal.{replayedBy, useRow, evicted, broughtIn, holding, leastUsed, touched, changed}
+use Rattle.planning.specs.Rehearsal.{stepOn, idle}
 use Rattle.planning.specs.declared.rehearsal.Settings.{Settings}
 use Rattle.planning.specs.declared.rehearsal.Figures.{Figures}
 use Rattle.planning.specs.declared.rehearsal.Rehearsal.{Rehearsal}

@@ -12,7 +12,10 @@ use lib.Seq.{drop-cons, set-out}
 use borrow.Author.Tests.{eq-eqb, ne-eqb, lt-ltb, le-ltb, leb-true, not-false}
 use Rattle.laws.proofs.Tables.{byCases, none-at, within-bounds}
 use Rattle.model.specs.Tables.{firstOf, within}
-use Rattle.planning.specs.Rehearsal.{accessOf, pageIn, noFigures, pageRow, setRow, withImage, withLoad, withRecord, withBackup, withChange, victimWritten, useRow, holding, leastUsed, evicted, broughtIn, replayedBy, playFrom, foundIn, missing, touched, changed, stepOn, pagesFit, plus, totalOf, settings, idle, rehearsalRows, rehearsalOf}
+use Rattle.planning.specs.Rehearsal.{accessOf, pageIn, noFigures, pageRow, setRow, withImage, withLoad, withRecord}
+use Rattle.planning.specs.Rehearsal.{withBackup, withChange, victimWritten, useRow, holding, leastUsed, evicted}
+use Rattle.planning.specs.Rehearsal.{broughtIn, replayedBy, playFrom, foundIn, missing, touched, changed, stepOn}
+use Rattle.planning.specs.Rehearsal.{pagesFit, plus, totalOf, settings, idle, rehearsalRows, rehearsalOf}
 use Rattle.model.specs.declared.answer.Answer.the-variants.{Refused, Done}
 use Rattle.planning.specs.declared.rehearsal.Victim.{Victim}
 use Rattle.planning.specs.declared.rehearsal.Settings.{Settings}

@@ -164,7 +164,8 @@ module _ {C : Type 0} {g : Geometry} {v m : List ℕ} {past : List StoredItem} {
         memory = note₁ .memory;
         past = note₁ .past;
         state = note₁ .state;
-        run-is = ap (λ (y : Played). playCall y (NoteCall, noPayload)) run₁ ∙ (note₁ .run-is ∙ ap (λ (l : List Figures). Run (note₁ .volume) (note₁ .memory)
+        run-is = ap (λ (y : Played). playCall y (NoteCall, noPayload)) run₁ ∙
+            (note₁ .run-is ∙ ap (λ (l : List Figures). Run (note₁ .volume) (note₁ .memory)
             (note₁ .past) (note₁ .state) l) (row-twice fs p lo p64 (rows .size) oneBackup oneNote));
         ctx = note₁ .ctx;
         holds = (

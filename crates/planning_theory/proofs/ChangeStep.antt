@@ -222,7 +222,8 @@ module _ {C : Type 0} {g : Geometry} {v m : List ℕ} {past : List StoredItem} {
         past = nothing ∷ past;
         state = done .state;
         run-is = run-as v m past s fs (Begin p (suc f) fill, noPayload) nr refl done done-is;
-        ctx = ctx-as v m past s fs (Begin p (suc f) fill, noPayload) nr x refl refl done done-is k (loggedChange p (Format fill) [] ∷ []) refl;
+        ctx = ctx-as v m past s fs (Begin p (suc f) fill, noPayload) nr x refl refl done done-is k
+            (loggedChange p (Format fill) [] ∷ []) refl;
         holds = (refl, refl);
       }
     where

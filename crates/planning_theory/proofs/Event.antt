@@ -17,7 +17,8 @@ use Rattle.model.specs.declared.{geometry.Geometry.Geometry, state.PendingNote.
 use Rattle.model.specs.declared.command.Command.the-variants.{Load, Write, Release}
 use Rattle.model.specs.declared.command.Command.the-variants.{Note}
 use Rattle.model.specs.AbstractLog.{Logged}
-use Rattle.planning.specs.Rehearsal.{victimWritten, useRow, pageRow, setRow, withLoad, withImage, holding, leastUsed, evicted, broughtIn, replayedBy, foundIn, missing, touched}
+use Rattle.planning.specs.Rehearsal.{victimWritten, useRow, pageRow, setRow, withLoad, withImage, holding, leastUsed}
+use Rattle.planning.specs.Rehearsal.{evicted, broughtIn, replayedBy, foundIn, missing, touched}
 use Rattle.planning.specs.RehearsalRun.{changesOf, victimRow, evictionCalls, Played, playCall, playCalls}
 use Rattle.planning.specs.declared.rehearsal.Victim.{Victim}
 use Rattle.planning.specs.declared.rehearsal.Victim.the-variants.{Written, Released}
@@ -30,7 +31,8 @@ use Rattle.history.proofs.Context.{Ctx, Found, found-frame}
 use Rattle.planning_theory.proofs.Counts.{countOf}
 use Rattle.planning_theory.proofs.Searches.{holding-none, holding-one, stamped, victim-is}
 use Rattle.planning_theory.proofs.Play.{Run, Stage, call-stays}
-use Rattle.planning_theory.proofs.Relation.{DirtyIn, OnDisk, Mine, Sim, Backups, Arrived, Rows, last-is, is-blank, not-blank, one-row}
+use Rattle.planning_theory.proofs.Relation.{DirtyIn, OnDisk, Mine, Sim, Backups, Arrived, Rows, last-is}
+use Rattle.planning_theory.proofs.Relation.{is-blank, not-blank, one-row}
 use Rattle.planning_theory.proofs.LoadStep.{load-step}
 use Rattle.planning_theory.proofs.AwayStep.{Away, away-clean, away-release}
 use Rattle.planning_theory.proofs.WriteStep.{away-write}
@@ -252,14 +254,16 @@ module _ {C : Type 0} {g : Geometry} {v m : List ℕ} {past : List StoredItem} {
         → playCall (playCalls (Run v m past s (mo .pages)) (evictionCalls t (frameRow s row))) (Load p (suc row), noPayload) .refused ≡ false
         → Stage C g (playCall (playCalls (Run v m past s (mo .pages)) (evictionCalls t (frameRow s row))) (Load p (suc row), noPayload))
         (broughtIn t (evicted t mo row) p) k []
-        (λ v′ s′. Arrived t events (mo .frames) g v′ s′ k row p (not (victimWritten (t .victim))) × Rows (broughtIn t (evicted t mo row) p) k)
+        (λ v′ s′. Arrived t events (mo .frames) g v′ s′ k row p (not (victimWritten (t .victim))) × Rows
+        (broughtIn t (evicted t mo row) p) k)
     unfolding broughtIn
     loaded nz nr =
         let r = playCalls (Run v m past s (mo .pages)) (evictionCalls t (frameRow s row)) in
         let a = eviction-stage (call-stays r (Load p (suc row), noPayload) nr) in
         let l = evicted t mo row in
         let b = load-step (a .ctx) ok t events ms row p row-low F16 l (subst (λ (y : Played). playCall y
-        (Load p (suc row), noPayload) .refused ≡ false) (a .run-is) nr) (a .holds .sim) (a .holds .backs) (a .holds .quiet) (a .holds .rows) in
+        (Load p (suc row), noPayload) .refused ≡ false) (a .run-is) nr) (a .holds .sim) (a .holds .backs)
+        (a .holds .quiet) (a .holds .rows) in
         let c : pageRow l p .records ≡ countOf p k = a .holds .rows .records p lo hi in
         let z : eqb (pageRow l p .records) 0 ≡ false = ne-eqb (pageRow l p .records) 0 (λ y. nz (sym c ∙ y)) in
         let q : setRow l p (withLoad (pageRow l p) (replayedBy t (countOf p k))) ≡ cond (eqb (pageRow l p .records) 0) l

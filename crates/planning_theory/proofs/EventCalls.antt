@@ -25,7 +25,8 @@ use Rattle.planning_theory.proofs.Counts.{countOf, count-none}
 use Rattle.planning_theory.proofs.Play.{Run, Stage, call-stays, calls-append, rows-none}
 use Rattle.planning_theory.proofs.Relation.{Arrived, Rows}
 use Rattle.planning_theory.proofs.ChangeStep.{Changed, changed-step, begin-step, put-step}
-use Rattle.planning_theory.proofs.Event.{Full, stage-as, in-frame, blank-yes, blank-not, fo, f16, row, row-low, row-victim, eviction-stage}
+use Rattle.planning_theory.proofs.Event.{Full, stage-as, in-frame, blank-yes, blank-not, fo, f16, row, row-low}
+use Rattle.planning_theory.proofs.Event.{row-victim, eviction-stage}
 use Rattle.planning_theory.proofs.Backed.{holder-of, page-high, no-page, begin-high}
 use Rattle.model.specs.declared.command.Command.the-variants.{Change as ChangeCall}
 

@@ -17,7 +17,8 @@ use Rattle.model.specs.Calls.{Call, noPayload}
 use Rattle.model.specs.declared.{geometry.Geometry.Geometry, change.Change.the-variants.Put, state.State.State}
 use Rattle.model.specs.declared.command.Command.the-variants.{Begin, Load, Force}
 use Rattle.model.specs.AbstractLog.{Logged}
-use Rattle.planning.specs.Rehearsal.{pageIn, victimWritten, pageRow, setRow, withChange, evicted, broughtIn, touched, changed, stepOn, totalOf}
+use Rattle.planning.specs.Rehearsal.{pageIn, victimWritten, pageRow, setRow, withChange, evicted, broughtIn, touched}
+use Rattle.planning.specs.Rehearsal.{changed, stepOn, totalOf}
 use Rattle.planning.specs.RehearsalRun.{Choice, evictionCalls, backUp, callsOf, Played, playCall, playCalls}
 use Rattle.planning.specs.declared.rehearsal.Settings.{Settings}
 use Rattle.planning.specs.declared.rehearsal.Access.{Access}
@@ -30,13 +31,17 @@ use Rattle.planning_theory.proofs.Counts.{countOf}
 use Rattle.planning_theory.proofs.Play.{Run, Stage}
 use Rattle.planning_theory.proofs.Relation.{Arrived, Rows, row-same, is-blank, not-blank, in-volume}
 use Rattle.planning_theory.proofs.AwayStep.{Away}
-use Rattle.planning_theory.proofs.Event.{Full, row-count, blank-yes, blank-not, fo, f16, low, arrived-found, touched-found, absent, row, row-low, row16, alike, touched-missing, eviction-stage, loaded}
+use Rattle.planning_theory.proofs.Event.{Full, row-count, blank-yes, blank-not, fo, f16, low, arrived-found}
+use Rattle.planning_theory.proofs.Event.{touched-found, absent, row, row-low, row16, alike, touched-missing}
+use Rattle.planning_theory.proofs.Event.{eviction-stage, loaded}
 use Rattle.planning_theory.proofs.Backed.{page-high}
-use Rattle.planning_theory.proofs.EventCalls.{putOf, putLogged, beginLogged, put-on, found-calls, read-calls, loaded-calls, begun-calls, begin-on}
+use Rattle.planning_theory.proofs.EventCalls.{putOf, putLogged, beginLogged, put-on, found-calls, read-calls}
+use Rattle.planning_theory.proofs.EventCalls.{loaded-calls, begun-calls, begin-on}
 use Rattle.planning_theory.proofs.Taken.{begin-free, change-free, load-free}
 use Rattle.planning_theory.proofs.Totals.{notes-grow, grows-trans, brought-grows, change-grows}
 use Rattle.planning_theory.proofs.Tally.{Tally}
-use Rattle.planning_theory.proofs.Going.{Going, going, not-refused, going-any, tally-of, begin-goes, change-goes, load-goes, force-goes}
+use Rattle.planning_theory.proofs.Going.{Going, going, not-refused, going-any, tally-of, begin-goes, change-goes}
+use Rattle.planning_theory.proofs.Going.{load-goes, force-goes}
 use Rattle.planning_theory.proofs.StepRoom.{way-goes, change-record, record-room, backed-goes}
 
 -- room for an event that leaves these figures, and makes its calls by choice c for page p
@@ -165,7 +170,8 @@ module _ {C : Type 0} {g : Geometry} {v m : List ℕ} {past : List StoredItem} {
       let go₁ = put-goes x ok t F1 F16 K1 events mo full p lo hi (c .slot) y c pays (room .puts) r f d l fl a go
       (record-room C g t events (mo .frames) f p f16 lo hi l k (a .ctx) (a .holds .1) (room .records)) in
       let a₁ = put-on x ok t F1 F16 K1 events mo full p lo hi c pays r f d l fl a (not-refused go₁) in
-      backed-goes C g t events (mo .frames) f p f16 lo hi l (k ++ (putLogged c p ∷ [])) (playCall (playCall r (putOf c p)) (Force, noPayload)) c
+      backed-goes C g t events (mo .frames) f p f16 lo hi l (k ++ (putLogged c p ∷ []))
+      (playCall (playCall r (putOf c p)) (Force, noPayload)) c
       (countOf p k) (a .holds .1 .records p lo hi) (a .holds .1 .size) a₁ go₁
       (room .slot-low) (room .slot-high) (page-high (a .ctx) p f lo f16 pg) (room .notes)
 

@@ -97,7 +97,8 @@ module _ {C : Type 0} {g : Geometry} {v m : List ℕ} {past : List StoredItem} {
   put-end ea r f d l b q a nr =
       let h = a .holds .0 in
       let pg = ap (λ y. y .page) (h .row-is) in
-      let a₁ = put-on x ok t F1 F16 K1 events mo full p lo hi c pays r f d l b a (calls-stay bu (playCall (playCall r put) (Force, noPayload)) nr) in
+      let a₁ = put-on x ok t F1 F16 K1 events mo full p lo hi c pays r f d l b a
+      (calls-stay bu (playCall (playCall r put) (Force, noPayload)) nr) in
       change-end ea (playCalls (playCall (playCall r put) (Force, noPayload)) bu) f l (putLogged c p) refl b q
       (backed C g t F16 K1 events (mo .frames) f p (countOf p k) b lo (page-high (a .ctx) p f lo (omega arith) pg) hi l (a .holds .1 .size)
       (a .holds .1 .records p lo hi) (k ++ (putLogged c p ∷ []))
@@ -117,7 +118,8 @@ module _ {C : Type 0} {g : Geometry} {v m : List ℕ} {past : List StoredItem} {
     change-found : (h : held s p ≡ true) → End (playCalls (Run v m past s (mo .pages)) (callsOf t c events s (Change p)))
     change-found h =
         let f = fo x ok t F1 F16 K1 events mo full p lo hi h .row in
-        end-as (playCalls (playCall (playCall run put) (Force, noPayload)) bu) (found-calls x ok t F1 F16 K1 events mo full p lo hi c pays h)
+        end-as (playCalls (playCall (playCall run put) (Force, noPayload)) bu)
+        (found-calls x ok t F1 F16 K1 events mo full p lo hi c pays h)
         (put-end ea run f (frameRow s f .dirty) (mo .pages) (low x ok t F1 F16 K1 events mo full p lo hi h)
         (touched-found x ok t F1 F16 K1 events mo full p lo hi h i true)
         (record {
@@ -153,7 +155,8 @@ module _ {C : Type 0} {g : Geometry} {v m : List ℕ} {past : List StoredItem} {
 
       change-begun : countOf p k ≡ 0 → End (playCalls (Run v m past s (mo .pages)) (callsOf t c events s (Change p)))
       unfolding broughtIn
-      change-begun z = end-as (playCalls (playCall (playCall (playCalls run mw) (Begin p (suc f) (c .fill), noPayload)) (Force, noPayload)) bu)
+      change-begun z = end-as (playCalls
+          (playCall (playCall (playCalls run mw) (Begin p (suc f) (c .fill), noPayload)) (Force, noPayload)) bu)
           (begun-calls x ok t F1 F16 K1 events mo full p lo hi c pays h z) begun
         where
           begun : playCalls (playCall (playCall (playCalls run mw) (Begin p (suc f) (c .fill), noPayload)) (Force, noPayload)) bu .refused ≡ false
@@ -162,7 +165,8 @@ module _ {C : Type 0} {g : Geometry} {v m : List ℕ} {past : List StoredItem} {
               let r = playCall (playCall (playCalls run mw) (Begin p (suc f) (c .fill), noPayload)) (Force, noPayload) in
               let l = evicted t mo f in
               let n₁ = calls-stay bu r n in
-              let a = eviction-stage x ok t F1 F16 K1 events mo full p lo hi h (call-stays (playCalls run mw) (Begin p (suc f) (c .fill), noPayload)
+              let a = eviction-stage x ok t F1 F16 K1 events mo full p lo hi h
+              (call-stays (playCalls run mw) (Begin p (suc f) (c .fill), noPayload)
               (call-stays (playCall (playCalls run mw) (Begin p (suc f) (c .fill), noPayload)) (Force, noPayload) n₁)) in
               let b = begin-on x ok t F1 F16 K1 events mo full p lo hi c pays h z n₁ in
               let pg : p ≤ g .pages = page-high (b .ctx) p f lo (omega (arith, f-low)) (ap (λ y. y .page) (b .holds .0 .row-is)) in

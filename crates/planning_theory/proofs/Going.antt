@@ -18,7 +18,9 @@ use Rattle.model.specs.Repair.{repairOf, rebuilt, classIn, stateView}
 use Rattle.model.specs.State.{pendingBytes, frameAt, frameBytes, lastNumber, holder}
 use Rattle.model.specs.Refusals.{pageDirty}
 use Rattle.model.specs.Outcome.{StoredItem, nothing, oneItem, Outcome, volumeAfter, unchanged, decided}
-use Rattle.model.specs.Effects.{withFrame, withFrames, appendedState, appendedMemory, changedImage, isGood, nextNote, forcedState, notedState, backupDone, beginDone, changeDone, forceDone, loadDone, releaseDone, writeDone}
+use Rattle.model.specs.Effects.{withFrame, withFrames, appendedState, appendedMemory, changedImage, isGood, nextNote}
+use Rattle.model.specs.Effects.{forcedState, notedState, backupDone, beginDone, changeDone, forceDone, loadDone}
+use Rattle.model.specs.Effects.{releaseDone, writeDone}
 use Rattle.model.specs.Calls.{Call, rowsOf, outcomeOf, noPayload}
 use Rattle.model.specs.declared.{geometry.Geometry.Geometry, change.Change.Change, state.PendingNote.PendingNote}
 use Rattle.model.specs.declared.state.State.{State}
@@ -43,7 +45,8 @@ use Rattle.planning_theory.proofs.Play.{Run, run-as, ctx-as}
 use Rattle.planning_theory.proofs.Relation.{row-same}
 use Rattle.planning_theory.proofs.Taken.{taken-call, note-free, force-free}
 use Rattle.planning_theory.proofs.StoreSteps.{read}
-use Rattle.planning_theory.proofs.Tally.{Tally, preserved-same, preserved-row, pending-same, tally-any, tally-frames, splice-grows, tally-appended, tally-forced, tally-noted}
+use Rattle.planning_theory.proofs.Tally.{Tally, preserved-same, preserved-row, pending-same, tally-any}
+use Rattle.planning_theory.proofs.Tally.{tally-frames, splice-grows, tally-appended, tally-forced, tally-noted}
 
 pub record Going (C : Type 0) (g : Geometry) (t : Settings) (b : ℕ) (r : Played) : Type 0 where
   pub volume : List ℕ

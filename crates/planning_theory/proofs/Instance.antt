@@ -11,7 +11,9 @@ use Rattle.model.specs.Change.{changeFits}
 use Rattle.model.specs.Refusals.{makeRows}
 use Rattle.model.specs.Outcome.{refusalOf}
 use Rattle.model.specs.Restart.{makeOf}
-use Rattle.planning.specs.Rehearsal.{settings, accessOf, pagesFit, rehearsalRows, rehearsalOf, playFrom, idle, stepOn, touched, holding, leastUsed, evicted, broughtIn, changed, withChange, noFigures, pageRow, totalOf}
+use Rattle.planning.specs.Rehearsal.{settings, accessOf, pagesFit, rehearsalRows, rehearsalOf, playFrom, idle, stepOn}
+use Rattle.planning.specs.Rehearsal.{touched, holding, leastUsed, evicted, broughtIn, changed, withChange, noFigures}
+use Rattle.planning.specs.Rehearsal.{pageRow, totalOf}
 use Rattle.planning.specs.RehearsalRun.{Choices, Site, Tried, Roomy, realRun, freeSlot, backedUp}
 use Rattle.model.specs.declared.geometry.Heading.the-variants.{First}
 use Rattle.planning.specs.declared.rehearsal.Victim.the-variants.{Written}

@@ -14,8 +14,10 @@ use Rattle.model.specs.Outcome.{refusalOf, decided}
 use Rattle.model.specs.Restart.{makeOf, restartOf, restartState}
 use Rattle.model.specs.History.{restart, step, freshMachine}
 use Rattle.model.specs.Claim.{fresh}
-use Rattle.planning.specs.Rehearsal.{accessOf, pageIn, noFigures, pageRow, playFrom, idle, pagesFit, rehearsalRows, rehearsalOf, stepOn, totalOf}
-use Rattle.planning.specs.RehearsalRun.{Choices, Played, playCalls, callsIn, playEvents, Site, restartedSite, realRun, Tried, freeSlot, backedUp, Roomy, EnoughRoom}
+use Rattle.planning.specs.Rehearsal.{accessOf, pageIn, noFigures, pageRow, playFrom, idle, pagesFit, rehearsalRows}
+use Rattle.planning.specs.Rehearsal.{rehearsalOf, stepOn, totalOf}
+use Rattle.planning.specs.RehearsalRun.{Choices, Played, playCalls, callsIn, playEvents, Site, restartedSite, realRun}
+use Rattle.planning.specs.RehearsalRun.{Tried, freeSlot, backedUp, Roomy, EnoughRoom}
 use Rattle.model.specs.declared.{geometry.Geometry.Geometry, change.Change.the-variants.Put, state.Entry.Entry}
 use Rattle.model.specs.declared.{state.PendingNote.PendingNote, state.PendingNote.the-variants.Absent}
 use Rattle.model.specs.declared.state.State.{State}
@@ -27,7 +29,8 @@ use Rattle.history.proofs.Reached.{Undamaged, madeWith}
 use Rattle.planning_theory.proofs.Play.{Run}
 use Rattle.planning_theory.proofs.Event.{After}
 use Rattle.planning_theory.proofs.EventStep.{event}
-use Rattle.planning_theory.proofs.Totals.{Grows, step-grows, play-grows, records-grow, notes-grow, backed-grows, backed-low, grows-trans}
+use Rattle.planning_theory.proofs.Totals.{Grows, step-grows, play-grows, records-grow, notes-grow, backed-grows}
+use Rattle.planning_theory.proofs.Totals.{backed-low, grows-trans}
 use Rattle.planning_theory.proofs.Slots.{free-slot, slotted-backed}
 use Rattle.planning_theory.proofs.Tally.{PendingCounted, Tally, tally-free}
 use Rattle.planning_theory.proofs.Going.{Going, going, not-refused, tally-of}

@@ -116,6 +116,7 @@ module _ (C : Type 0) (g : Geometry) (t : Settings) (events : List ℕ) (ms : Li
       let one = notes-set more p lo p64 (y .size) (withBackup (pageRow more p)) in
       let taken = backup-free (a .ctx) p f (c .slot) lo hi f16 (ap (λ u. u .page) (a .holds .0 .row-is)) slo shi (a .holds .0 .quiet)
       (omega (arith, one, y .notes)) (y .spare (λ u. omega arith)) in
-      rw z (subst (λ (u : Played). Going C g t 0 (playCall (playCall u (Backup p (c .slot), noPayload)) (Note, noPayload))) (sym (a .run-is))
+      rw z (subst (λ (u : Played). Going C g t 0
+      (playCall (playCall u (Backup p (c .slot), noPayload)) (Note, noPayload))) (sym (a .run-is))
       (note-goes (backup-goes (a .ctx) t more (tally-any y) p (c .slot) taken))))
       (λ z. rw z (going-any go))

@@ -21,7 +21,8 @@ use Rattle.model.specs.AbstractLog.{AbstractLog, emptyLog}
 use Rattle.model.specs.History.{on, Event, restart, step, allowed, stepLog, freshMachine, allAllowed, run, logAfter}
 use Rattle.model.specs.Claim.{History, Legal, fresh, reached, logOf, durableOf}
 use Rattle.planning.specs.Rehearsal.{accessOf, pageIn, noFigures, unused, playFrom, idle, pagesFit, rehearsalRows, rehearsalOf, stepOn}
-use Rattle.planning.specs.RehearsalRun.{Choices, changesOf, lastUse, Played, playCalls, callsIn, playEvents, Site, restartedSite, realRun, SameFigures}
+use Rattle.planning.specs.RehearsalRun.{Choices, changesOf, lastUse, Played, playCalls, callsIn, playEvents, Site}
+use Rattle.planning.specs.RehearsalRun.{restartedSite, realRun, SameFigures}
 use Rattle.model.specs.declared.{geometry.Geometry.Geometry, state.State.State}
 use Rattle.planning.specs.declared.rehearsal.Victim.{Victim}
 use Rattle.planning.specs.declared.rehearsal.Victim.the-variants.{Written, Released}

@@ -11,7 +11,9 @@ use lib.Dec.{eqb, ltb}
 use borrow.Author.Tests.{ne-eqb, eqb-false}
 use Rattle.laws.proofs.Tables.{byCases}
 use Rattle.model.specs.AbstractLog.{Logged}
-use Rattle.planning.specs.Rehearsal.{accessOf, victimWritten, noFigures, pageRow, setRow, withLoad, withRecord, withImage, withBackup, useRow, holding, leastUsed, evicted, broughtIn, replayedBy, touched, withChange, changed, stepOn, playFrom, totalOf}
+use Rattle.planning.specs.Rehearsal.{accessOf, victimWritten, noFigures, pageRow, setRow, withLoad, withRecord}
+use Rattle.planning.specs.Rehearsal.{withImage, withBackup, useRow, holding, leastUsed, evicted, broughtIn, replayedBy}
+use Rattle.planning.specs.Rehearsal.{touched, withChange, changed, stepOn, playFrom, totalOf}
 use Rattle.planning.specs.RehearsalRun.{backedUp}
 use Rattle.planning.specs.declared.rehearsal.Settings.{Settings}
 use Rattle.planning.specs.declared.rehearsal.Access.{Access}

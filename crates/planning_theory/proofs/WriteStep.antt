@@ -205,7 +205,8 @@ module _ {C : Type 0} {g : Geometry} {v m : List ℕ} {past : List StoredItem} {
             memory = note₁ .memory;
             past = note₁ .past;
             state = note₁ .state;
-            run-is = ap (λ (y : Played). playCall y (NoteCall, noPayload)) run₁ ∙ (note₁ .run-is ∙ ap (λ (l : List Figures). Run (note₁ .volume)
+            run-is = ap (λ (y : Played). playCall y (NoteCall, noPayload)) run₁ ∙
+                (note₁ .run-is ∙ ap (λ (l : List Figures). Run (note₁ .volume)
                 (note₁ .memory) (note₁ .past) (note₁ .state) l)
                 (row-twice fs q (low-page x f f16 d) (q64 x f f16 d) (rows .size) oneImage oneNote));
             ctx = note₁ .ctx;

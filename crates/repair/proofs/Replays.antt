@@ -14,7 +14,8 @@ use Rattle.laws.proofs.Parts.{splice-length, put-part, put-splice}
 use Rattle.model.specs.Bytes.{part}
 use Rattle.model.specs.Geometry.{pageAt, slotAt, item}
 use Rattle.model.specs.Item.{imageLsn, imageBody, validImage, frameImage, recordLayout, applyRecord}
-use Rattle.model.specs.Repair.{classOf, isBroken, View, viewOf, walkFrom, walkOf, ownStart, backupStart, replayChain, startBody, rebuiltBody, rebuilt, repairOf}
+use Rattle.model.specs.Repair.{classOf, isBroken, View, viewOf, walkFrom, walkOf, ownStart, backupStart, replayChain}
+use Rattle.model.specs.Repair.{startBody, rebuiltBody, rebuilt, repairOf}
 use Rattle.model.specs.declared.{answer.Stop.Stop, answer.Class.Class, answer.Repair.Repair, state.Entry.Entry}
 use Rattle.model.specs.declared.geometry.Geometry.{Geometry}
 use Rattle.model.specs.declared.answer.Stop.the-variants.{Broken, Below}

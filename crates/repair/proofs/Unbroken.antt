@@ -48,7 +48,8 @@ module _ (g : Geometry) (v : List ℕ) (few : g .pages ≤ 64)
     prev-is : Linked first (entryOf (logIndex g v first i) p .last) (logRecord g v (first + i) .prev)
     prev-is =
         subst (λ (q : ℕ). Linked first (entryOf (logIndex g v first i) q .last) (logRecord g v (first + i) .prev)) page-is
-        (link-cases first (entryOf (logIndex g v first i) (logRecord g v (first + i) .page) .last) (logRecord g v (first + i)) (here .links))
+        (link-cases first (entryOf (logIndex g v first i) (logRecord g v (first + i) .page) .last)
+        (logRecord g v (first + i)) (here .links))
 
     -- its previous number is lower
     falls : logRecord g v (first + i) .prev < first + i

@@ -14,13 +14,16 @@ use Rattle.laws.proofs.Tabulated.{tabulate-length}
 use Rattle.laws.proofs.Places.{valid-facts, item-length}
 use Rattle.laws.proofs.Ring.{slot-in}
 use Rattle.laws.proofs.Scanned.{Fit, newest, down, firstLsn, held-low, whole-start, whole-run, whole-few, whole-fits}
-use Rattle.reports_laws.proofs.ArchiveSegments.{pages-one, valid-cut, counted-cut, Laid, segment-length, parted-back, valid-back, only}
+use Rattle.reports_laws.proofs.ArchiveSegments.{pages-one, valid-cut, counted-cut, Laid, segment-length}
+use Rattle.reports_laws.proofs.ArchiveSegments.{parted-back, valid-back, only}
 use Rattle.model.specs.Tables.{Row, firstOf, tabulate}
 use Rattle.model.specs.Geometry.{geometryOf, validVolume, recordAt, slotOf, item, logSlot}
 use Rattle.model.specs.Item.{recordOf}
 use Rattle.model.specs.Scan.{logRecord, durableCount, firstHeld, gone, linked, validLog, validNotes}
 use Rattle.reports.specs.Reading.{wholeRows, pageRecords, heldRecords}
-use Rattle.reports.specs.Archive.{segmentBytes, archiveBytes, segmentsOf, archiveLength, archiveRows, filledBy, archiveOf, inSegment, validSegment, validFrom, partedFrom, lastNumberIn, validSegments, ArchiveClaim}
+use Rattle.reports.specs.Archive.{segmentBytes, archiveBytes, segmentsOf, archiveLength, archiveRows, filledBy}
+use Rattle.reports.specs.Archive.{archiveOf, inSegment, validSegment, validFrom, partedFrom, lastNumberIn}
+use Rattle.reports.specs.Archive.{validSegments, ArchiveClaim}
 use Rattle.model.specs.declared.{geometry.Geometry.Geometry, answer.Answer.the-variants.Done}
 
 -- ---- one segment

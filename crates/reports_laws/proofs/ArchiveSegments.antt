@@ -14,7 +14,9 @@ use Rattle.laws.proofs.Tables.{byCases, all-at, and-left, and-right, and-both, 
 use Rattle.laws.proofs.Fields.{bytesOf-length, read-back, write-back, bytes-drop}
 use Rattle.model.specs.Tables.{all}
 use Rattle.model.specs.Bytes.{le, bytesOf, Octets}
-use Rattle.reports.specs.Archive.{joined, segmentBytes, archiveBytes, validSegment, recordsFrom, frontSegment, pastSegment, segmentFits, validFrom, partedFrom, validSegments, pagesFrom, archivePages, cutInto}
+use Rattle.reports.specs.Archive.{joined, segmentBytes, archiveBytes, validSegment, recordsFrom, frontSegment}
+use Rattle.reports.specs.Archive.{pastSegment, segmentFits, validFrom, partedFrom, validSegments, pagesFrom}
+use Rattle.reports.specs.Archive.{archivePages, cutInto}
 
 -- ---- one number of pages
 

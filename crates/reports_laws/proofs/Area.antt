@@ -20,7 +20,9 @@ use Rattle.model.specs.Checksum.{sealed}
 use Rattle.model.specs.Change.{zeroBody, changeOf, changeFits, applyChange}
 use Rattle.model.specs.Item.{recordOf, recordLayout, payloadOf, applyRecord}
 use Rattle.model.specs.Scan.{linked}
-use Rattle.reports.specs.Archive.{inSegment, validSegment, recordsFrom, frontSegment, pastSegment, validFrom, partedFrom, replayRecords, lastNumberIn, segmentImage, areaFrom, validArea, readRows, readOf, imageAt}
+use Rattle.reports.specs.Archive.{inSegment, validSegment, recordsFrom, frontSegment, pastSegment, validFrom}
+use Rattle.reports.specs.Archive.{partedFrom, replayRecords, lastNumberIn, segmentImage, areaFrom, validArea, readRows}
+use Rattle.reports.specs.Archive.{readOf, imageAt}
 use Rattle.model.specs.declared.answer.Answer.the-variants.{Done}
 
 -- ---- the length of an image

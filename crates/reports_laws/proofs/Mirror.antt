@@ -21,7 +21,8 @@ use Rattle.model.specs.Geometry.{geometryOf, validVolume}
 use Rattle.model.specs.Item.{recordOf, payloadOf}
 use Rattle.model.specs.Index.{entryOf}
 use Rattle.model.specs.Scan.{enterRecord, linked, logRecord, logIndex, validLog, validNotes, gone}
-use Rattle.reports.specs.Mirror.{sameChange, recordIn, durableIn, commonFrom, commonOf, touchedIn, mirrorRows, comparison, mirrorOf, mirrorRefusal, exchanged, listed, CommonRecords, MirrorClaim}
+use Rattle.reports.specs.Mirror.{sameChange, recordIn, durableIn, commonFrom, commonOf, touchedIn, mirrorRows}
+use Rattle.reports.specs.Mirror.{comparison, mirrorOf, mirrorRefusal, exchanged, listed, CommonRecords, MirrorClaim}
 use Rattle.model.specs.declared.{item.LogRecord.LogRecord, state.Entry.Entry}
 
 -- ---- bytes

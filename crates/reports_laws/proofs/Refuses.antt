@@ -49,7 +49,8 @@ sizes v = by-rows {A = ℕ} (wholeRows v []) (omega arith) sizeRefusal (λ (r : 
 writes : (v x : List ℕ) → Refuses (archiveRows v (length x)) (refusalOf (archiveOf v x .answer)) (archiveOf v x .buffer) x
 unfolding archiveOf archiveRows
 writes v x =
-    by-rows (archiveRows v (length x)) (omega arith) (λ (r : Filled). refusalOf (r .answer)) (λ (r : Filled). r .buffer) _ _ _ refl refl refl
+    by-rows (archiveRows v (length x)) (omega arith) (λ (r : Filled). refusalOf (r .answer)) (λ (r : Filled). r .buffer)
+    _ _ _ refl refl refl
 
 reads : (a x : List ℕ) → Refuses (readRows a (length x)) (refusalOf (readOf a x .answer)) (readOf a x .buffer) x
 unfolding readOf readRows
@@ -59,7 +60,8 @@ reads a x =
 compares : (v w x : List ℕ) → Refuses (compareRows v w (length x)) (compareOf v w x .refusal) (compareOf v w x .report) x
 unfolding compareOf compareRows
 compares v w x =
-    by-rows (compareRows v w (length x)) (omega arith) (λ (r : CompareReport). r .refusal) (λ (r : CompareReport). r .report) _ _ _ refl refl
+    by-rows (compareRows v w (length x)) (omega arith) (λ (r : CompareReport). r .refusal)
+    (λ (r : CompareReport). r .report) _ _ _ refl refl
     refl
 
 examines : (v : List ℕ) (p : ℕ) (x y : List ℕ)

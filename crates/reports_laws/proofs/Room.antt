@@ -67,7 +67,8 @@ module _ (v w : List ℕ) (s : State) (i : ℕ) (few : i < geometryOf v .records
 -- ---- the claims
 
 records : (v : List ℕ) (i : ℕ) → Restarts v → i < roomOf v .log .count → logFullAfter (geometryOf v) v (restartState v) i ≡ false
-records v i h l = first-from (logFullAfter (geometryOf v) v (restartState v)) (geometryOf v .records) 0 .before i (omega arith) (rw (count-is v h) at l)
+records v i h l = first-from (logFullAfter (geometryOf v) v (restartState v)) (geometryOf v .records) 0 .before i
+    (omega arith) (rw (count-is v h) at l)
 
 full : (v : List ℕ) → Restarts v → roomOf v .log .count < geometryOf v .records
     → logFullAfter (geometryOf v) v (restartState v) (roomOf v .log .count) ≡ true
@@ -76,7 +77,8 @@ full v h l =
     (first-from (logFullAfter (geometryOf v) v (restartState v)) (geometryOf v .records) 0 .hit (omega (arith, l, count-is v h)))
 
 notes : (v : List ℕ) (i : ℕ) → Restarts v → i < roomOf v .notes .count → notesFullAfter (geometryOf v) v (restartState v) i ≡ false
-notes v i h l = first-from (notesFullAfter (geometryOf v) v (restartState v)) (geometryOf v .notes) 0 .before i (omega arith) (rw (notes-is v h) at l)
+notes v i h l = first-from (notesFullAfter (geometryOf v) v (restartState v)) (geometryOf v .notes) 0 .before i
+    (omega arith) (rw (notes-is v h) at l)
 
 filled : (v : List ℕ) → Restarts v → roomOf v .notes .count < geometryOf v .notes
     → notesFullAfter (geometryOf v) v (restartState v) (roomOf v .notes .count) ≡ true

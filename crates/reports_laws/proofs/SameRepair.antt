@@ -23,7 +23,8 @@ use Rattle.model.specs.Geometry.{geometryOf}
 use Rattle.model.specs.Item.{recordOf, isFormat, validImage, imageLsn, imageBody, frameImage}
 use Rattle.model.specs.Index.{entryOf}
 use Rattle.model.specs.Scan.{durableCount, firstHeld, indexOf}
-use Rattle.model.specs.Repair.{Walk, chainRecord, walkFrom, walkOf, replayChain, startBody, rebuiltBody, rebuilt, classOf, classIn, ownStart, backupStart, startOf, repairOf}
+use Rattle.model.specs.Repair.{Walk, chainRecord, walkFrom, walkOf, replayChain, startBody, rebuiltBody, rebuilt}
+use Rattle.model.specs.Repair.{classOf, classIn, ownStart, backupStart, startOf, repairOf}
 use Rattle.reports.specs.Reading.{Restarts, pageView, heldRecords}
 use Rattle.reports.specs.Neighbours.{SamePage}
 use Rattle.model.specs.declared.{geometry.Geometry.Geometry, answer.Class.Class, answer.Stop.Stop, answer.Repair.Repair}

@@ -24,7 +24,8 @@ use Rattle.model.specs.Scan.{logRecord, gone}
 use Rattle.reports.specs.Reading.{pageRecords, heldRecords}
 use Rattle.model.specs.AbstractLog.{Logged, lastPlace, replay}
 use Rattle.model.specs.Claim.{History, Legal, reached, durableOf, inspection, Gone, Inspects}
-use Rattle.reports.specs.Archive.{archiveBytes, segmentsOf, archiveOf, replayRecords, lastNumberIn, segmentImage, readOf, imageAt, Rebuilds, ArchiveHistory}
+use Rattle.reports.specs.Archive.{archiveBytes, segmentsOf, archiveOf, replayRecords, lastNumberIn, segmentImage}
+use Rattle.reports.specs.Archive.{readOf, imageAt, Rebuilds, ArchiveHistory}
 use Rattle.model.specs.declared.{geometry.Geometry.Geometry, item.LogRecord.LogRecord, item.Note.Note}
 use Rattle.model.specs.declared.answer.Answer.the-variants.{Done}
 use Rattle.history.proofs.Logs.{at, lastAt, replayAt, last-hit, last-miss, replay-hit, replay-miss, replay-is, last-is}

@@ -13,7 +13,7 @@ use lib.ListN.{length}
 use borrow.Author.Tests.{eq-eqb, ne-eqb, eqb-true, ltb-true}
 use Rattle.laws.proofs.Tables.{byCases, and-left, and-right, or-cases, or-other, true-not-false}
 use Rattle.laws.proofs.Ring.{Seat, seat, highest-le, highest-ge}
-use Rattle.model.specs.Bytes.{le, field}
+use Rattle.model.specs.Bytes.{field}
 use Rattle.model.specs.Checksum.{sealed, sealedRun}
 use Rattle.model.specs.Geometry.{slotOf}
 use Rattle.model.specs.Scan.{highest, restZero, countIn, firstIn, endsIn}

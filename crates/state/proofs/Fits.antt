@@ -1,5 +1,5 @@
 -- The tests of a state as the code makes them: what its callees give comes to the model's clauses.
-use Prim.Native.Nat.{ℕ, _+_, _-_, _%_}
+use Prim.Native.Nat.{ℕ, _+_, _-_, _%_, _≤_}
 use mathlib.Core.Path.{_≡_, refl, ap, sym, _∙_}
 use mathlib.Core.List.{List, [], _∷_}
 use mathlib.Core.Bool.{Bool, true, false, _&&_, _||_, not, cond}
@@ -12,10 +12,11 @@ use borrow.Author.Tests.{leb-true, le-leb, ltb-true, ltb-false, eqb-true, eq-eqb
 use Rattle.laws.proofs.Tables.{byCases, true-not-false, every-same, when-true, when-false}
 use Rattle.model.specs.Tables.{Row, all, every, firstOf}
 use Rattle.model.specs.Geometry.{geometryOf, validVolume, most, mostNotes}
-use Rattle.model.specs.Index.{emptyEntry, entryRow, entryOf}
-use Rattle.model.specs.State.{emptyFrame, holderFrom, frameCount, validMemory, pendingNoteFits, frameFits, entryFits, pageFits, wellFormed}
+use Rattle.model.specs.Index.{emptyEntry, entryOf}
+use Rattle.model.specs.State.{emptyFrame, frameCount, validMemory, pendingNoteFits, frameFits, entryFits, pageFits, wellFormed}
 use Rattle.model.specs.Refusals.{stateRows}
-use Rattle.state.specs.Clauses.{firstIn, soleIn, frameClauses, frameIn, entryClauses, settledClauses, pageIn, countClauses}
+use Rattle.state.specs.Clauses.{firstIn, soleIn, frameClauses, rowClauses, frameIn, entryClauses, settledClauses}
+use Rattle.state.specs.Clauses.{pageIn, countClauses}
 use Rattle.model.specs.declared.geometry.Geometry.{Geometry}
 use Rattle.model.specs.declared.state.Entry.{Entry}
 use Rattle.model.specs.declared.state.Frame.{Frame}
@@ -69,40 +70,46 @@ given : (g : Geometry) (count i : ℕ) (f : Frame) (a b : Bool) (m n : ℕ) → 
     → frameClauses g count i f a m ≡ frameClauses g count i f b n
 given g count i f a b m n e d = rw (e, d)
 
-frame-is : (g : Geometry) (count : ℕ) (table : List Frame) (index : List Entry) (i last : ℕ) (only r : Bool)
-    → only ≡ soleIn table i
-    → last ≡ entryOf index (getD table i emptyFrame .page) .last
-    → r ≡ frameClauses g count i (getD table i emptyFrame) only last
-    → r ≡ frameIn g count table index i
-frame-is g count table index i last only r eo el er =
+-- a row that is tested
+pub row-tested : (g : Geometry) (count : ℕ) (table : List Frame) (i last : ℕ) (only r : Bool) → only ≡ soleIn table i
+    → r ≡ frameClauses g count i (getD table i emptyFrame) only last → r ≡ rowClauses g count table i last
+row-tested g count table i last only r eo er =
     er
-    ∙ given g count i (getD table i emptyFrame) only (soleIn table i) last (entryOf index (getD table i emptyFrame .page) .last) eo el
-    ∙ frame-once g count i (getD table i emptyFrame) (firstIn table i) (entryOf index (getD table i emptyFrame .page) .last)
+    ∙ given g count i (getD table i emptyFrame) only (soleIn table i) last last eo refl
+    ∙ frame-once g count i (getD table i emptyFrame) (firstIn table i) last
 
--- the same with the page's last number as it is read from the index
-pub frame-read : (g : Geometry) (count : ℕ) (table : List Frame) (index : List Entry) (i page k last : ℕ) (only r : Bool)
-    → length index ≡ 64
-    → only ≡ soleIn table i
-    → page ≡ getD table i emptyFrame .page
-    → k ≡ page - 1
-    → last ≡ cond (ltb k 64) (getD index (k % 64) emptyEntry .last) 0
-    → r ≡ frameClauses g count i (getD table i emptyFrame) only last
-    → r ≡ frameIn g count table index i
-frame-read g count table index i page k last only r long eo ep ek el er =
-    frame-is g count table index i last only r eo (el ∙ last-is index _ k (ek ∙ ap (λ (n : ℕ). n - 1) ep) long) er
-
--- an empty frame that is clean is passed over
+-- a row that is empty and clean is passed over
 neither : (a b : Bool) → (not a || b) ≡ false → (a ≡ true) × (b ≡ false)
 neither true b e = (refl, e)
 neither false b e = absurd (true-not-false refl e)
 
-pub frame-passed : (g : Geometry) (count : ℕ) (table : List Frame) (index : List Entry) (i : ℕ)
-    → let f = getD table i emptyFrame in (not (eqb (f .page) 0) || f .dirty) ≡ false → frameIn g count table index i ≡ true
-frame-passed g count table index i e =
+pub row-passed : (g : Geometry) (count : ℕ) (table : List Frame) (i last : ℕ)
+    → let f = getD table i emptyFrame in (not (eqb (f .page) 0) || f .dirty) ≡ false → true ≡ rowClauses g count table i last
+row-passed g count table i last e =
     let f = getD table i emptyFrame in
     let n = neither (eqb (f .page) 0) (f .dirty) e in
     let l : leb (f .page) (g .pages) ≡ true = le-leb (f .page) (g .pages) (omega (arith, eqb-true (f .page) 0 (n .0))) in
-    rw (l, n .0, n .1) (or-last (ltb i count) true refl)
+    sym (rw (l, n .0, n .1) (or-last (ltb i count) true refl))
+
+-- the page's last number as it is read from the index
+pub frame-read : (g : Geometry) (count : ℕ) (table : List Frame) (index : List Entry) (i page k last : ℕ) (r : Bool)
+    → length index ≡ 64
+    → page ≡ getD table i emptyFrame .page
+    → k ≡ page - 1
+    → last ≡ cond (ltb k 64) (getD index (k % 64) emptyEntry .last) 0
+    → r ≡ rowClauses g count table i last
+    → r ≡ frameIn g count table index i
+frame-read g count table index i page k last r long ep ek el er =
+    er
+    ∙ given g count i (getD table i emptyFrame) (firstIn table i) (firstIn table i) last (entryOf index (getD table i emptyFrame .page) .last)
+    refl (el ∙ last-is index _ k (ek ∙ ap (λ (n : ℕ). n - 1) ep) long)
+
+-- past the table's end there are no frames to test
+pub frame-past : (g : Geometry) (count : ℕ) (table : List Frame) (index : List Entry) (i : ℕ) → length table ≤ i
+    → frameIn g count table index i ≡ true
+frame-past g count table index i h =
+    let e = List·getD-eq-default table emptyFrame {n = i} h in
+    sym (row-passed g count table i (entryOf index (getD table i emptyFrame .page) .last) (rw e))
 
 module _ (g : Geometry) (s : State) where
   frames-are : (count : ℕ) → every 16 (frameIn g count (s .frames) (s .index)) ≡ every 16 (frameFits g count s)
@@ -148,14 +155,22 @@ module _ (g : Geometry) (s : State) where
   two-fails true b c e = sym (rw e)
   two-fails false b c e = refl
 
+  three-fails : (a b c : Bool) → c ≡ false → false ≡ (a && (b && c))
+  three-fails true true c e = sym e
+  three-fails true false c e = refl
+  three-fails false b c e = refl
+
   pub counts-fail : (count : ℕ) → counts ≡ false → false ≡ wellFormed g count s
   counts-fail count e = one-fails counts (frames count) pages e ∙ sym (formed-is count)
 
   pub frames-fail : (count : ℕ) → frames count ≡ false → false ≡ wellFormed g count s
   frames-fail count e = two-fails counts (frames count) pages e ∙ sym (formed-is count)
 
-  pub formed : (count : ℕ) → counts ≡ true → frames count ≡ true → (r : Bool) → r ≡ pages → r ≡ wellFormed g count s
-  formed count ec ef r er = er ∙ two-hold counts (frames count) pages ec ef ∙ sym (formed-is count)
+  pub pages-fail : (count : ℕ) → pages ≡ false → false ≡ wellFormed g count s
+  pages-fail count e = three-fails counts (frames count) pages e ∙ sym (formed-is count)
+
+  pub formed : (count : ℕ) → counts ≡ true → frames count ≡ true → pages ≡ true → true ≡ wellFormed g count s
+  formed count ec ef ep = sym ep ∙ two-hold counts (frames count) pages ec ef ∙ sym (formed-is count)
 
 -- the code's tests, in the table's order, come to the rows 1, 2, 2
 module _ (s : State) (v m : List ℕ) where

@@ -28,11 +28,13 @@ frameClauses g count i f only last =
     (leb (f .page) (g .pages) ∷ (empty || only) ∷ (empty || not (eqb last 0)) ∷ (not empty || not (f .dirty)) ∷
     (ltb i count || empty) ∷ [])
 
+-- the same of row i of a frame table
+abbrev pub rowClauses : Geometry → ℕ → List Frame → ℕ → ℕ → Bool
+rowClauses g count table i last = frameClauses g count i (getD table i emptyFrame) (firstIn table i) last
+
 -- the same, with the tables of frames and entries
 abbrev pub frameIn : Geometry → ℕ → List Frame → List Entry → ℕ → Bool
-frameIn g count table index i =
-    let f = getD table i emptyFrame in
-    frameClauses g count i f (firstIn table i) (entryOf index (f .page) .last)
+frameIn g count table index i = rowClauses g count table i (entryOf index (getD table i emptyFrame .page) .last)
 
 -- the entry of a page of the volume, which is in a frame or not, beside the counts of durable and pending records
 abbrev pub entryClauses : Geometry → ℕ → ℕ → Bool → Entry → Bool

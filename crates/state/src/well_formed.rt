@@ -4,7 +4,7 @@ ghost use mathlib.Core.Path.{_≡_};
 ghost use Prim.Native.Nat.{_+_, _<_};
 ghost use lib.Dec.{ltb};
 ghost use Rattle.model.specs.State.{holderFrom, pendingNoteFits, entryZero, wellFormed};
-ghost use Rattle.state.specs.Clauses.{firstIn, soleIn, frameClauses};
+ghost use Rattle.state.specs.Clauses.{firstIn, soleIn, frameClauses, rowClauses};
 ghost use Rattle.state.specs.Clauses.{entryClauses, settledClauses, pageClauses, countClauses};
 ghost use Rattle.model.specs.declared.state.PendingNote.the-variants.{Present};
 use crate::frames;
@@ -79,6 +79,19 @@ fn frame_fits(g: Geometry, count: usize, i: usize, f: Frame, only: bool, last: u
             & ((empty | !(last == 0)) & ((!empty | !f.dirty) & ((i < count) | empty))))
 }
 
+// Row i of the frames may be so, beside its page's last number: one that is empty and clean always may.
+fn row_fits(g: Geometry, count: usize, table: [Frame; 16], i: usize, last: u32) -> bool
+    requires { ⌜ i < 16 ⌝ }
+    ensures { λ r. ⌜ r ≡ rowClauses g count table i last ⌝ }
+{
+    let f = table[i];
+    if (f.page != 0) | f.dirty {
+        let only = sole(table, i);
+        return frame_fits(g, count, i, f, only, last);
+    }
+    true
+}
+
 // The entry may be that of one of the volume's pages, which is in a frame or not.
 fn entry_fits(g: Geometry, durable: u32, pending: u32, in_frame: bool, e: Entry) -> bool
     ensures { λ r. ⌜ r ≡ entryClauses g durable pending in_frame e ⌝ }
@@ -140,8 +153,8 @@ fn counts_fit(g: Geometry, durable: u32, pending: u32, notes: u32, p: PendingNot
         & ((pending <= 16) & ((notes <= most_notes) & fits))
 }
 
-// The state is well formed for the geometry and a number of frames. Both loops stand here, since each function that
-// reads entries by a number has a copy of the state made for it.
+// The state is well formed for the geometry and a number of frames. One loop goes through the frames and the entries
+// together, since each function that reads entries by a number has a copy of the state made for it.
 pub fn well_formed(s: State, g: Geometry, count: usize) -> bool
     ensures { λ r. ⌜ r ≡ wellFormed g count s ⌝ }
 {
@@ -151,26 +164,20 @@ pub fn well_formed(s: State, g: Geometry, count: usize) -> bool
     }
     let table = s.frames;
     let mut i = 0;
-    while i < 16 {
-        let f = table[i];
-        if (f.page != 0) | f.dirty {
-            let only = sole(table, i);
-            let k = crate::row(u16_u32(f.page));
+    while i < 64 {
+        if i < 16 {
+            let k = crate::row(u16_u32(table[i].page));
             let e = s.index[k % 64];
             let last = rows::first(k < 64, e.last, 0);
-            if !frame_fits(g, count, i, f, only, last) {
+            if !row_fits(g, count, table, i, last) {
                 return false;
             }
         }
-        i += 1;
-    }
-    let mut j = 0;
-    while j < 64 {
-        let e = s.index[j];
-        if !page_fits(g, s.durable, s.pending, table, j, e) {
+        let e = s.index[i];
+        if !page_fits(g, s.durable, s.pending, table, i, e) {
             return false;
         }
-        j += 1;
+        i += 1;
     }
     true
 }

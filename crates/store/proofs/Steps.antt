@@ -9,8 +9,10 @@ use Rattle.laws.proofs.Tables.{byCases}
 use Rattle.model.specs.Tables.{Row, firstOf}
 use Rattle.model.specs.Outcome.{nothing, Outcome, replyOf, volumeAfter, decided}
 use Rattle.model.specs.Effects.{noteStored, backupDone, beginDone, changeDone, forceDone, loadDone, releaseDone, restampDone, writeDone}
-use Rattle.model.specs.Calls.{outcomeOf, beginOf, loadOf, changeCall, forceOf, writeOf, backupOf, releaseOf, noteCall, startCarryOf, restampOf, finishCarryOf}
-use Rattle.model.specs.Refusals.{beginRows, loadRows, changeRows, forceRows, writeRows, backupRows, releaseRows, noteRows, startCarryRows, restampRows, finishCarryRows, pageDirty}
+use Rattle.model.specs.Calls.{outcomeOf, beginOf, loadOf, changeCall, forceOf, writeOf, backupOf, releaseOf, noteCall}
+use Rattle.model.specs.Calls.{startCarryOf, restampOf, finishCarryOf}
+use Rattle.model.specs.Refusals.{beginRows, loadRows, changeRows, forceRows, writeRows, backupRows, releaseRows}
+use Rattle.model.specs.Refusals.{noteRows, startCarryRows, restampRows, finishCarryRows, pageDirty}
 use Rattle.model.specs.Geometry.{geometryOf}
 use Rattle.model.specs.Passes.{imageCount, firstOld}
 use Rattle.model.specs.declared.change.Change.{Change}

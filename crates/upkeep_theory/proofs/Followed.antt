@@ -20,7 +20,8 @@ use Rattle.model.specs.declared.command.Command.the-variants.{Begin, Load, Forc
 use Rattle.model.specs.declared.command.Command.the-variants.{Change, Backup, Note}
 use Rattle.model.specs.History.{Power, off, on, Machine, Event, restart, perform, crash, crashIn, damage, step}
 use Rattle.model.specs.Carry.{carries}
-use Rattle.upkeep_policy.specs.Upkeep.{Advice, idle, stuck, make, sameCall, followsCall, follows, adviceOf, cutsAfter, writtenPages, reservedFits, inBounds, disciplined}
+use Rattle.upkeep_policy.specs.Upkeep.{Advice, idle, stuck, make, sameCall, followsCall, follows, adviceOf, cutsAfter}
+use Rattle.upkeep_policy.specs.Upkeep.{writtenPages, reservedFits, inBounds, disciplined}
 
 -- ---- a command from its code
 

@@ -21,7 +21,8 @@ use Rattle.model.specs.Item.{imageBody, frameImage, encodeChange, recordBytes}
 use Rattle.model.specs.State.{frameCount, pendingAt, frameAt, frameBytes, frameOf, holder, lastNumber, emptyFrame}
 use Rattle.model.specs.Refusals.{pageDirty, loadRows, changeRows, forceRows, writeRows, backupRows, noteRows}
 use Rattle.model.specs.Outcome.{StoredItem, Outcome, decided}
-use Rattle.model.specs.Effects.{changedImage, forcedState, noteStored, notedState, appendedState, appendedMemory, backupDone, changeDone, forceDone, loadDone, writeDone}
+use Rattle.model.specs.Effects.{changedImage, forcedState, noteStored, notedState, appendedState, appendedMemory}
+use Rattle.model.specs.Effects.{backupDone, changeDone, forceDone, loadDone, writeDone}
 use Rattle.model.specs.Calls.{Call, outcomeOf, noPayload}
 use Rattle.model.specs.declared.{change.Change.the-variants.Put, geometry.Geometry.Geometry, state.Frame.Frame}
 use Rattle.model.specs.declared.{state.PendingNote.PendingNote, state.State.State}

@@ -109,7 +109,8 @@ module _ {C : Type 0} {g : Geometry} {v m : List ℕ} {past : List StoredItem} {
         (outcomeOf (NoteCall, noPayload) v m s .state .notes) k ≤ W) (t′ .1)
         (written-bound x′ turns n2 cuts (t′ .0) W (few-live x′ W fw)) in
         let bb = subst (λ (k : ℕ). outcomeOf (NoteCall, noPayload) v m s .state .notes - k
-        - sinceWritten g (volumeAfter v (outcomeOf (NoteCall, noPayload) v m s .stored)) (outcomeOf (NoteCall, noPayload) v m s .state .notes) k
+        - sinceWritten g (volumeAfter v (outcomeOf (NoteCall, noPayload) v m s .stored))
+        (outcomeOf (NoteCall, noPayload) v m s .state .notes) k
         ≤ g .pages) (t′ .1)
         (backup-bound x′ turns n2 cuts (t′ .0) W (few-live x′ W fw)) in
         let y = note-phase N _ (outcomeOf (NoteCall, noPayload) v m s .memory) _ (o .0) (o .1) wb bb h b in

@@ -18,7 +18,8 @@ use Rattle.model.specs.Scan.{noteRecord}
 use Rattle.model.specs.State.{pendingBytes, holder, frameBytes}
 use Rattle.model.specs.Refusals.{pageDirty, loadRows, changeRows, forceRows, writeRows, backupRows, noteRows}
 use Rattle.model.specs.Outcome.{StoredItem, volumeAfter, decided}
-use Rattle.model.specs.Effects.{noteStored, withFrame, withFrames, appendedState, forcedState, notedState, backupDone, changeDone, forceDone, loadDone, writeDone}
+use Rattle.model.specs.Effects.{noteStored, withFrame, withFrames, appendedState, forcedState, notedState, backupDone}
+use Rattle.model.specs.Effects.{changeDone, forceDone, loadDone, writeDone}
 use Rattle.model.specs.Calls.{Call, outcomeOf, noPayload}
 use Rattle.model.specs.declared.{change.Change.the-variants.Put, geometry.Geometry.Geometry, item.Note.Note}
 use Rattle.model.specs.declared.{state.Frame.Frame, state.PendingNote.PendingNote, state.State.State}

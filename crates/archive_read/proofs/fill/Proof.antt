@@ -10,9 +10,6 @@ use Rattle.archive_read.proofs.fill.Tie as tie
 zero : (c : tie.Else1) → c .before .refusal .result ≡ 0
 zero c = omega (arith, c .if1 .left)
 
-refusal-requires : tie.Need-refusal-requires
-refusal-requires c κs = search needs
-
 returns : tie.Need-returns
 returns c = (c .before .refusal .ensures, refused-area _ _ _ (c .before .refusal .ensures) (c .if1 .taken))
 
@@ -28,9 +25,6 @@ rebuild-requires c κs =
     let i = none-area _ _ (sym f ∙ z) in
     (none-archive _ _ (sym f ∙ z), i .high, i .whole)
 
-same-length : tie.Need-same-length
-same-length c = search needs
-
 returns-2 : tie.Need-returns-2
 returns-2 c =
     let f = c .before .before .before .before .before .refusal .ensures in
@@ -39,4 +33,4 @@ returns-2 c =
 
 pub fill-spec : {M : Type 1} → statement M
 fill-spec =
-    tie.close (tie.spec refusal-requires returns cast-pages rebuild-requires same-length returns-2)
+    tie.close (tie.spec (λ c κs. search needs) returns cast-pages rebuild-requires (λ c. search needs) returns-2)

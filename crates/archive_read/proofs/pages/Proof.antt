@@ -46,14 +46,4 @@ returns-2 c = counted-all _ _ _ (c .before .loop .inv) (c .loop-test .left)
 pub pages-spec : {M : Type 1} → statement M
 pages-spec =
     tie.close
-    (tie.spec
-    Inv-loop
-    μ-loop
-    loop-holds
-    fits-requires
-    returns
-    past-requires
-    add-k
-    loop-less
-    loop-again
-    returns-2)
+    (tie.spec Inv-loop μ-loop loop-holds fits-requires returns past-requires add-k loop-less loop-again returns-2)

@@ -5,20 +5,11 @@ use borrow.Author.Needs.{needs}
 use Rattle.archive_read.proofs.read.Statement.{statement}
 use Rattle.archive_read.proofs.read.Tie as tie
 
-fill-requires : tie.Need-fill-requires
-fill-requires c κs = search needs
-
-same-length : tie.Need-same-length
-same-length c = search needs
-
 returns : tie.Need-returns
 returns c = let f = c .before .before .before .fill in (refused-answer _ _ _ (f .ensures .0) (c .if1 .taken), f .ensures .1)
-
-same-length-2 : tie.Need-same-length-2
-same-length-2 c = search needs
 
 returns-2 : tie.Need-returns-2
 returns-2 c = let f = c .before .before .before .fill in (done-answer _ _ _ (f .ensures .0) (omega (arith, c .if1 .left)), f .ensures .1)
 
 pub read-spec : {M : Type 1} → statement M
-read-spec = tie.close (tie.spec fill-requires same-length returns same-length-2 returns-2)
+read-spec = tie.close (tie.spec (λ c κs. search needs) (λ c. search needs) returns (λ c. search needs) returns-2)

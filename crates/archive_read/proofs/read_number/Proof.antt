@@ -5,14 +5,8 @@ use borrow.Author.Needs.{needs}
 use Rattle.archive_read.proofs.read_number.Statement.{statement}
 use Rattle.archive_read.proofs.read_number.Tie as tie
 
-fill-requires : tie.Need-fill-requires
-fill-requires c κs = search needs
-
-same-length : tie.Need-same-length
-same-length c = search needs
-
 returns : tie.Need-returns
 returns c = let f = c .before .before .fill in (f .ensures .0 ∙ number-is _ _, f .ensures .1)
 
 pub read-number-spec : {M : Type 1} → statement M
-read-number-spec = tie.close (tie.spec fill-requires same-length returns)
+read-number-spec = tie.close (tie.spec (λ c κs. search needs) (λ c. search needs) returns)

@@ -12,17 +12,11 @@ use Rattle.archive_read.proofs.refusal.Tie as tie
 images : (c : tie.Else1) → validArea (c .before .before .before .args .size) ≡ true
 images c = sym (c .before .holds-images .ensures) ∙ not-false _ (c .if1 .left)
 
-holds-images-requires : tie.Need-holds-images-requires
-holds-images-requires c κs = search needs
-
 returns : tie.Need-returns
 returns c = row-area _ _ (sym (c .before .holds-images .ensures) ∙ not-true _ (c .if1 .taken))
 
 cast-valid : tie.Need-cast-valid
 cast-valid c = let i = area-images (c .before .before .before .args .size) (images c) in search needs
-
-valid-requires : tie.Need-valid-requires
-valid-requires c κs = search needs
 
 returns-2 : tie.Need-returns-2
 returns-2 c = row-archive _ _ (images (c .before .before)) (sym (c .before .valid .ensures) ∙ not-true _ (c .if2 .taken))
@@ -31,6 +25,4 @@ returns-3 : tie.Need-returns-3
 returns-3 c = row-none _ _ (images (c .before .before)) (sym (c .before .valid .ensures) ∙ not-false _ (c .if2 .left))
 
 pub refusal-spec : {M : Type 1} → statement M
-refusal-spec =
-    tie.close
-    (tie.spec holds-images-requires returns cast-valid valid-requires returns-2 returns-3)
+refusal-spec = tie.close (tie.spec (λ c κs. search needs) returns cast-valid (λ c κs. search needs) returns-2 returns-3)

@@ -16,23 +16,8 @@ number : (c : tie.After-first2)
     c .first2 .result ≡ cond (not (eqb (e .refusal) 0)) (e .refusal) (cond (not (eqb (length b) (e .size))) 21 0)
 number c = c .first2 .ensures ∙ rw (c .before .first .ensures)
 
-measure-requires : tie.Need-measure-requires
-measure-requires c κs = search needs
-
-cast-other : tie.Need-cast-other
-cast-other c = search needs
-
-first-requires : tie.Need-first-requires
-first-requires c κs = search needs
-
-first-requires-2 : tie.Need-first-requires-2
-first-requires-2 c κs = search needs
-
 returns : tie.Need-returns
 returns c = write-refused _ _ (c .before .before .before .before .before .measure .ensures) _ _ (number (c .before)) (c .if1 .taken)
-
-geometry-requires : tie.Need-geometry-requires
-geometry-requires c κs = search needs
 
 segments-requires : tie.Need-segments-requires
 segments-requires c κs =
@@ -40,9 +25,6 @@ segments-requires c κs =
     let o = c .before .before in
     write-ready _ _ (o .before .before .before .before .before .measure .ensures) b _ (number (o .before)) (o .if1 .left) _
     (c .before .geometry .ensures)
-
-same-length : tie.Need-same-length
-same-length c = search needs
 
 returns-2 : tie.Need-returns-2
 returns-2 c =
@@ -53,13 +35,5 @@ returns-2 c =
 pub fill-spec : {M : Type 1} → statement M
 fill-spec =
     tie.close
-    (tie.spec
-    measure-requires
-    cast-other
-    first-requires
-    first-requires-2
-    returns
-    geometry-requires
-    segments-requires
-    same-length
-    returns-2)
+    (tie.spec (λ c κs. search needs) (λ c. search needs) (λ c κs. search needs) (λ c κs. search needs) returns
+    (λ c κs. search needs) segments-requires (λ c. search needs) returns-2)

@@ -4,9 +4,6 @@ use Rattle.archive_write.proofs.Outcomes.{length-refused, length-told}
 use Rattle.archive_write.proofs.length.Statement.{statement}
 use Rattle.archive_write.proofs.length.Tie as tie
 
-measure-requires : tie.Need-measure-requires
-measure-requires c κs = search needs
-
 returns : tie.Need-returns
 returns c = length-refused _ _ (c .before .before .measure .ensures) (c .if1 .taken)
 
@@ -14,4 +11,4 @@ returns-2 : tie.Need-returns-2
 returns-2 c = length-told _ _ (c .before .before .measure .ensures) (c .if1 .left)
 
 pub length-spec : {M : Type 1} → statement M
-length-spec = tie.close (tie.spec measure-requires returns returns-2)
+length-spec = tie.close (tie.spec (λ c κs. search needs) returns returns-2)

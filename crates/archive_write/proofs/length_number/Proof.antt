@@ -4,11 +4,8 @@ use Rattle.archive_write.proofs.Outcomes.{length-number}
 use Rattle.archive_write.proofs.length_number.Statement.{statement}
 use Rattle.archive_write.proofs.length_number.Tie as tie
 
-measure-requires : tie.Need-measure-requires
-measure-requires c κs = search needs
-
 returns : tie.Need-returns
 returns c = length-number _ _ (c .measure .ensures)
 
 pub length-number-spec : {M : Type 1} → statement M
-length-number-spec = tie.close (tie.spec measure-requires returns)
+length-number-spec = tie.close (tie.spec (λ c κs. search needs) returns)

@@ -20,17 +20,8 @@ opened c =
     let k = r .before .count in
     known _ _ (c .geometry .ensures) (k .result) (k .ensures .0) (k .ensures .1) (sym (number r) ∙ c .before .if1 .left)
 
-count-requires : tie.Need-count-requires
-count-requires c κs = search needs
-
-refusal-requires : tie.Need-refusal-requires
-refusal-requires c κs = search needs
-
 returns : tie.Need-returns
 returns c = extent-none _ _ (number (c .before)) (c .if1 .taken)
-
-geometry-requires : tie.Need-geometry-requires
-geometry-requires c κs = search needs
 
 mul-t6 : tie.Need-mul-t6
 mul-t6 c = omega (arith, opened (c .before) .pages)
@@ -47,12 +38,5 @@ returns-2 c = extent-some _ _ _ (opened (c .before .before))
 pub measure-spec : {M : Type 1} → statement M
 measure-spec =
     tie.close
-    (tie.spec
-    count-requires
-    refusal-requires
-    returns
-    geometry-requires
-    mul-t6
-    mul-t7
-    add-t8
+    (tie.spec (λ c κs. search needs) (λ c κs. search needs) returns (λ c κs. search needs) mul-t6 mul-t7 add-t8
     returns-2)

@@ -5,20 +5,11 @@ use Rattle.archive_write.proofs.Outcomes.{answer-refused, answer-done}
 use Rattle.archive_write.proofs.write.Statement.{statement}
 use Rattle.archive_write.proofs.write.Tie as tie
 
-fill-requires : tie.Need-fill-requires
-fill-requires c κs = search needs
-
-same-length : tie.Need-same-length
-same-length c = search needs
-
 returns : tie.Need-returns
 returns c =
     let a = c .before .before .before .before .before .before .before .args in
     let e = c .before .before .before .fill .ensures in
     (answer-refused (now (a .volume)) (now (a .buffer)) _ (e .0) (c .if1 .taken), e .1)
-
-same-length-2 : tie.Need-same-length-2
-same-length-2 c = search needs
 
 returns-2 : tie.Need-returns-2
 returns-2 c =
@@ -27,4 +18,4 @@ returns-2 c =
     (answer-done (now (a .volume)) (now (a .buffer)) _ (e .0) (c .if1 .left), e .1)
 
 pub write-spec : {M : Type 1} → statement M
-write-spec = tie.close (tie.spec fill-requires same-length returns same-length-2 returns-2)
+write-spec = tie.close (tie.spec (λ c κs. search needs) (λ c. search needs) returns (λ c. search needs) returns-2)

@@ -7,9 +7,6 @@ use borrow.Author.Needs.{needs}
 use Rattle.bench_calls.proofs.command.Statement.{statement}
 use Rattle.bench_calls.proofs.command.Tie as tie
 
-add-page : tie.Need-add-page
-add-page c = search needs
-
 returns : tie.Need-returns
 unfolding commandIn
 returns c = rw (c .match .keys1)
@@ -40,5 +37,4 @@ returns-7 c = let e : c .before .args .j % 7 ≡ 6 = omega (arith, c .match .res
 
 pub command-spec : {M : Type 1} → statement M
 command-spec =
-    tie.close
-    (tie.spec add-page returns returns-2 returns-3 returns-4 returns-5 returns-6 returns-7)
+    tie.close (tie.spec (λ c. search needs) returns returns-2 returns-3 returns-4 returns-5 returns-6 returns-7)

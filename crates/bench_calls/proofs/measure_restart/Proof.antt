@@ -6,15 +6,6 @@ use borrow.Author.Needs.{needs}
 use Rattle.bench_calls.proofs.measure_restart.Statement.{statement}
 use Rattle.bench_calls.proofs.measure_restart.Tie as tie
 
-restart-requires : tie.Need-restart-requires
-restart-requires c κs = search needs
-
-refused-requires : tie.Need-refused-requires
-refused-requires c κs = search needs
-
-same-length : tie.Need-same-length
-same-length c = search needs
-
 returns : tie.Need-returns
 returns c =
     let r = c .before .before .before in
@@ -22,4 +13,4 @@ returns c =
     (ap (λ (x : Run). x .refused) e, ap (λ (x : Run). x .memory) e)
 
 pub measure-restart-spec : {M : Type 1} → statement M
-measure-restart-spec = tie.close (tie.spec restart-requires refused-requires same-length returns)
+measure-restart-spec = tie.close (tie.spec (λ c κs. search needs) (λ c κs. search needs) (λ c. search needs) returns)

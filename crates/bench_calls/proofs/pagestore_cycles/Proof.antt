@@ -17,38 +17,8 @@ Inv-loop volume₀ memory₀ count store₀ total₀ most j₀ volume memory sto
 abbrev μ-loop : tie.MeasureT-loop
 μ-loop volume₀ memory₀ count store₀ total₀ most j₀ volume memory store total j = most - j
 
-restart-requires : tie.Need-restart-requires Inv-loop μ-loop
-restart-requires c κs = search needs
-
-refused-requires : tie.Need-refused-requires Inv-loop μ-loop
-refused-requires c κs = search needs
-
-cut-requires : tie.Need-cut-requires Inv-loop μ-loop
-cut-requires c κs = search needs
-
-mul-most : tie.Need-mul-most Inv-loop μ-loop
-mul-most c = search needs
-
 loop-holds : tie.Need-loop-holds Inv-loop μ-loop
 loop-holds c = (run-none _, search needs, search needs, search needs, search needs, search needs)
-
-command-requires : tie.Need-command-requires Inv-loop μ-loop
-command-requires c κs = search needs
-
-perform-requires : tie.Need-perform-requires Inv-loop μ-loop
-perform-requires c κs = search needs
-
-refused-requires-2 : tie.Need-refused-requires-2 Inv-loop μ-loop
-refused-requires-2 c κs = search needs
-
-add-total : tie.Need-add-total Inv-loop μ-loop
-add-total c = search needs
-
-add-j : tie.Need-add-j Inv-loop μ-loop
-add-j c = search needs
-
-loop-less : tie.Need-loop-less Inv-loop μ-loop
-loop-less c = search needs
 
 loop-again : tie.Need-loop-again Inv-loop μ-loop
 loop-again c =
@@ -65,12 +35,6 @@ loop-again c =
       search needs,
     )
 
-same-length : tie.Need-same-length Inv-loop μ-loop
-same-length c = search needs
-
-same-length-2 : tie.Need-same-length-2 Inv-loop μ-loop
-same-length-2 c = search needs
-
 returns : tie.Need-returns Inv-loop μ-loop
 returns c =
     let a = c .before .before .before in
@@ -85,21 +49,6 @@ returns c =
 pub pagestore-cycles-spec : {M : Type 1} → statement M
 pagestore-cycles-spec =
     tie.close
-    (tie.spec
-    Inv-loop
-    μ-loop
-    restart-requires
-    refused-requires
-    cut-requires
-    mul-most
-    loop-holds
-    command-requires
-    perform-requires
-    refused-requires-2
-    add-total
-    add-j
-    loop-less
-    loop-again
-    same-length
-    same-length-2
-    returns)
+    (tie.spec Inv-loop μ-loop (λ c κs. search needs) (λ c κs. search needs) (λ c κs. search needs) (λ c. search needs)
+    loop-holds (λ c κs. search needs) (λ c κs. search needs) (λ c κs. search needs) (λ c. search needs)
+    (λ c. search needs) (λ c. search needs) loop-again (λ c. search needs) (λ c. search needs) returns)

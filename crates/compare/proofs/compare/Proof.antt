@@ -31,5 +31,4 @@ returns-2 : tie.Need-returns-2
 returns-2 c = search needs
 
 pub compare-spec : {M : Type 1} → statement M
-compare-spec =
-    tie.close (tie.spec known-requires known-requires-2 returns judged-requires returns-2)
+compare-spec = tie.close (tie.spec known-requires known-requires-2 returns judged-requires returns-2)

@@ -106,18 +106,6 @@ returns-2 c =
 pub judged-spec : {M : Type 1} → statement M
 judged-spec =
     tie.close
-    (tie.spec
-    count-requires
-    count-requires-2
-    refusal-requires
-    returns
-    geometry-requires
-    geometry-requires-2
-    smaller-requires
-    common-requires
-    slice-aggregate-mark-behind
-    mark-behind-requires
-    slice-aggregate-mark-behind-2
-    mark-behind-requires-2
-    answer-requires
-    returns-2)
+    (tie.spec count-requires count-requires-2 refusal-requires returns geometry-requires geometry-requires-2
+    smaller-requires common-requires slice-aggregate-mark-behind mark-behind-requires slice-aggregate-mark-behind-2
+    mark-behind-requires-2 answer-requires returns-2)

@@ -46,11 +46,4 @@ returns c =
 pub refusal-spec : {M : Type 1} → statement M
 refusal-spec =
     tie.close
-    (tie.spec
-    gone-requires
-    gone-requires-2
-    first-requires
-    first-requires-2
-    first-requires-3
-    first-requires-4
-    returns)
+    (tie.spec gone-requires gone-requires-2 first-requires first-requires-2 first-requires-3 first-requires-4 returns)

@@ -18,9 +18,6 @@ returns-2 c =
     let i = c .before .before in
     force-idle _ _ _ (sym (i .before .before .before .pre) ∙ i .if1 .left) (c .if2 .taken)
 
-geometry-requires : tie.Need-geometry-requires
-geometry-requires c κs = search needs
-
 -- past the tests: the call is not refused, a record is pending
 abbrev entry : tie.After-struct-known2 → tie.Start
 entry c = c .before .before .before .before .before .before .before .before
@@ -37,23 +34,8 @@ bounds c = room _ _ _ _ (c .before .geometry .ensures) (calm c) (c .before .befo
 add-n : tie.Need-add-n
 add-n c = omega (arith, bounds c .durable)
 
-pending-at-requires : tie.Need-pending-at-requires
-pending-at-requires c κs = search needs
-
-add-end : tie.Need-add-end
-add-end c = search needs
-
-sub-record : tie.Need-sub-record
-sub-record c = search needs
-
-part-record-start : tie.Need-part-record-start
-part-record-start c = search needs
-
 part-record-end : tie.Need-part-record-end
 part-record-end c = omega (arith, c .pending-at .ensures, bounds (c .before) .memory)
-
-u16-at-requires : tie.Need-u16-at-requires
-u16-at-requires c κs = search needs
 
 log-slot-requires : tie.Need-log-slot-requires
 log-slot-requires c κs = bounds (c .before .before .before .before) .records
@@ -63,16 +45,10 @@ put-requires c κs =
     let p = c .before .before .before .before in
     lent-fits _ _ _ _ _ _ (bounds (p .before)) (p .pending-at .ensures) (c .log-slot .ensures)
 
-cast-forced : tie.Need-cast-forced
-cast-forced c = search needs
-
 forced-requires : tie.Need-forced-requires
 forced-requires c κs =
     let b = bounds (c .before .before .before .before .before .before .before .before) in
     (b .pages, b .pending, omega (arith, b .durable))
-
-same-length : tie.Need-same-length
-same-length c = search needs
 
 returns-3 : tie.Need-returns-3
 returns-3 c =
@@ -85,20 +61,6 @@ returns-3 c =
 pub force-spec : {M : Type 1} → statement M
 force-spec =
     tie.close
-    (tie.spec
-    returns
-    returns-2
-    geometry-requires
-    add-n
-    pending-at-requires
-    add-end
-    sub-record
-    part-record-start
-    part-record-end
-    u16-at-requires
-    log-slot-requires
-    put-requires
-    cast-forced
-    forced-requires
-    same-length
-    returns-3)
+    (tie.spec returns returns-2 (λ c κs. search needs) add-n (λ c κs. search needs) (λ c. search needs)
+    (λ c. search needs) (λ c. search needs) part-record-end (λ c κs. search needs) log-slot-requires put-requires
+    (λ c. search needs) forced-requires (λ c. search needs) returns-3)

@@ -4,9 +4,6 @@ use borrow.Author.Needs.{needs}
 use Rattle.forecast.proofs.figure.Statement.{statement}
 use Rattle.forecast.proofs.figure.Tie as tie
 
-below-requires : tie.Need-below-requires
-below-requires c κs = search needs
-
 returns : tie.Need-returns
 returns c = rw (sym (c .before .below .ensures) ∙ c .if1 .taken)
 
@@ -14,4 +11,4 @@ returns-2 : tie.Need-returns-2
 returns-2 c = rw (sym (c .before .below .ensures) ∙ c .if1 .left)
 
 pub figure-spec : {M : Type 1} → statement M
-figure-spec = tie.close (tie.spec below-requires returns returns-2)
+figure-spec = tie.close (tie.spec (λ c κs. search needs) returns returns-2)

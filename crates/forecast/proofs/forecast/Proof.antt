@@ -4,14 +4,8 @@ use Rattle.forecast.proofs.Outcomes.{refused, indexed, done}
 use Rattle.forecast.proofs.forecast.Statement.{statement}
 use Rattle.forecast.proofs.forecast.Tie as tie
 
-scan-requires : tie.Need-scan-requires
-scan-requires c κs = search needs
-
 returns : tie.Need-returns
 returns c = refused _ _ (c .before .scan .ensures .0) (c .if1 .taken)
-
-geometry-requires : tie.Need-geometry-requires
-geometry-requires c κs = search needs
 
 rows-requires : tie.Need-rows-requires
 rows-requires c κs =
@@ -25,4 +19,4 @@ returns-2 c =
     (c .before .before .geometry .ensures) (c .rows .ensures)
 
 pub forecast-spec : {M : Type 1} → statement M
-forecast-spec = tie.close (tie.spec scan-requires returns geometry-requires rows-requires returns-2)
+forecast-spec = tie.close (tie.spec (λ c κs. search needs) returns (λ c κs. search needs) rows-requires returns-2)

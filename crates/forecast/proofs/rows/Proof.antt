@@ -24,17 +24,11 @@ abbrev μ-loop : tie.MeasureT-loop
 loop-holds : tie.Need-loop-holds Inv-loop μ-loop
 loop-holds c = (omega arith, none-filled _ (counted 0) 64)
 
-cast-k : tie.Need-cast-k Inv-loop μ-loop
-cast-k c = search needs
-
 mul-e : tie.Need-mul-e Inv-loop μ-loop
 mul-e c = omega (arith, few _ _ (c .before .before .before .pre), c .loop-test .taken)
 
 array-copy-out-e : tie.Need-array-copy-out-e Inv-loop μ-loop
 array-copy-out-e c = omega (arith, few _ _ (c .before .before .before .pre), c .loop-test .taken)
-
-add-follow : tie.Need-add-follow Inv-loop μ-loop
-add-follow c = search needs
 
 follow-requires : tie.Need-follow-requires Inv-loop μ-loop
 follow-requires c κs =
@@ -42,21 +36,12 @@ follow-requires c κs =
     let i = c .before .before .loop .i in
     (page-ready _ _ _ _ p i (c .before .loop-test .taken), page-whole _ _ _ _ p i)
 
-figure-requires : tie.Need-figure-requires Inv-loop μ-loop
-figure-requires c κs = search needs
-
 mul-pages : tie.Need-mul-pages Inv-loop μ-loop
 mul-pages c = omega (arith, few _ _ (c .before .before .before .before .before .before .pre), c .before .before .before .loop-test .taken)
 
 array-set-from-pages : tie.Need-array-set-from-pages Inv-loop μ-loop
 array-set-from-pages c =
     omega (arith, few _ _ (c .before .before .before .before .before .before .pre), c .before .before .before .loop-test .taken)
-
-add-i : tie.Need-add-i Inv-loop μ-loop
-add-i c = search needs
-
-loop-less : tie.Need-loop-less Inv-loop μ-loop
-loop-less c = search needs
 
 loop-again : tie.Need-loop-again Inv-loop μ-loop
 loop-again c =
@@ -80,19 +65,5 @@ returns c =
 pub rows-spec : {M : Type 1} → statement M
 rows-spec =
     tie.close
-    (tie.spec
-    Inv-loop
-    μ-loop
-    loop-holds
-    cast-k
-    mul-e
-    array-copy-out-e
-    add-follow
-    follow-requires
-    figure-requires
-    mul-pages
-    array-set-from-pages
-    add-i
-    loop-less
-    loop-again
-    returns)
+    (tie.spec Inv-loop μ-loop loop-holds (λ c. search needs) mul-e array-copy-out-e (λ c. search needs) follow-requires
+    (λ c κs. search needs) mul-pages array-set-from-pages (λ c. search needs) (λ c. search needs) loop-again returns)

@@ -9,26 +9,12 @@ use denote.Ref.{now}
 use Rattle.codec.proofs.Stores.{fill-more}
 use Rattle.index.proofs.clear.Statement.{statement}
 use Rattle.index.proofs.clear.Tie as tie
-use Rattle.index.proofs.clear.Reads as reads
-use Rattle.index.proofs.clear.Lts as lts
 
 abbrev Inv-loop : tie.InvT-loop
 Inv-loop column₀ i₀ column i = (i ≤ length column) × (length column ≡ length column₀) × (take i column ≡ replicate i 0)
 
 abbrev μ-loop : tie.MeasureT-loop
 μ-loop column₀ i₀ column i = length column - i
-
-loop-holds : tie.Need-loop-holds Inv-loop μ-loop
-loop-holds c = search needs
-
-mul-column : tie.Need-mul-column Inv-loop μ-loop
-mul-column c = search needs
-
-slice-write-column : tie.Need-slice-write-column Inv-loop μ-loop
-slice-write-column c = search needs
-
-add-i : tie.Need-add-i Inv-loop μ-loop
-add-i c = search needs
 
 loop-less : tie.Need-loop-less Inv-loop μ-loop
 loop-less c = simp length-set (omega arith)
@@ -41,9 +27,6 @@ loop-again c =
       fill-more 0 (l .i) (l .column) (c .loop-test .taken) (l .inv .2),
     )
 
-same-length : tie.Need-same-length Inv-loop μ-loop
-same-length c = search needs
-
 returns : tie.Need-returns Inv-loop μ-loop
 returns c =
     let l = c .before .loop in
@@ -53,14 +36,5 @@ returns c =
 pub clear-spec : {M : Type 1} → statement M
 clear-spec =
     tie.close
-    (tie.spec
-    Inv-loop
-    μ-loop
-    loop-holds
-    mul-column
-    slice-write-column
-    add-i
-    loop-less
-    loop-again
-    same-length
-    returns)
+    (tie.spec Inv-loop μ-loop (λ c. search needs) (λ c. search needs) (λ c. search needs) (λ c. search needs) loop-less
+    loop-again (λ c. search needs) returns)

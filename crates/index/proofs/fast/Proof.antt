@@ -1,5 +1,5 @@
 -- `index::fast` meets its contract: FastLaws says what each case is.
-use mathlib.Core.Path.{_≡_, refl}
+use mathlib.Core.Path.{refl}
 use native.Mathlib.Omega.{arith}
 use borrow.Author.Needs.{needs}
 use borrow.Author.Tests.{not-true, not-false}
@@ -11,25 +11,12 @@ use Rattle.index.proofs.FastLaws.{log-next, notes-next, fast-refused, f
 use Rattle.index.proofs.Whole.{sized}
 use Rattle.index.proofs.fast.Statement.{statement}
 use Rattle.index.proofs.fast.Tie as tie
-use Rattle.index.proofs.fast.Reads as reads
-use Rattle.index.proofs.fast.Lts as lts
-use Rattle.index.proofs.columns.ordered.Reads as ordered-reads
-use Rattle.log_scan.proofs.sweep.Reads as log-sweep-reads
-use Rattle.index.proofs.notes.sweep.Reads as notes-sweep-reads
-use Rattle.index.proofs.refused.Reads as refused-reads
-use Rattle.index.proofs.total.Reads as total-reads
 
 size : (c : tie.Start) → Sized (c .args .g) (now (c .args .volume))
 size c = sized _ (c .pre .0 .0) _ (c .pre .0 .1)
 
-refused-requires : tie.Need-refused-requires
-refused-requires c κs = search needs
-
 sweep-requires : tie.Need-sweep-requires
 sweep-requires c κs = let s = c .before .before .before .before .before .before .before in (size s, s .pre .1 .0)
-
-same-length : tie.Need-same-length
-same-length c = search needs
 
 returns : tie.Need-returns
 returns c =
@@ -45,20 +32,14 @@ returns c =
 
 sweep-requires-2 : tie.Need-sweep-requires-2
 sweep-requires-2 c κs =
-    let s = c .before .before .before .before .before .before .before .before .before .before .before .before .before .before .before in
-    (size s, (c .before .before .before .before .before .before .before .sweep .ensures .0 (not-false _ (c .before .before .before .if1 .left)) .held, s .pre .1 .1))
-
-same-length-2 : tie.Need-same-length-2
-same-length-2 c = search needs
-
-same-length-3 : tie.Need-same-length-3
-same-length-3 c = search needs
-
-same-length-4 : tie.Need-same-length-4
-same-length-4 c = search needs
-
-same-length-5 : tie.Need-same-length-5
-same-length-5 c = search needs
+    let s = c .before .before .before .before .before .before .before .before .before .before .before .before .before .before .before in (
+      size s,
+      (
+        c .before .before .before .before .before .before .before .sweep .ensures .0
+            (not-false _ (c .before .before .before .if1 .left)) .held,
+        s .pre .1 .1,
+      ),
+    )
 
 returns-2 : tie.Need-returns-2
 returns-2 c =
@@ -72,9 +53,6 @@ returns-2 c =
       },
     )
 
-cast-ordered : tie.Need-cast-ordered
-cast-ordered c = search needs
-
 ordered-requires : tie.Need-ordered-requires
 ordered-requires c κs =
     let w = c .before .before .before .before .before .before .before .before .before .before .before .before .before .sweep2 .ensures .1 in (
@@ -86,18 +64,6 @@ ordered-requires c κs =
       },
       size (c .before .before .before .before .before .before .before .before .before .before .before .before .before .before .before .before .before .before .before .before .before .before .before .before .before .before .before .before .before) .pages,
     )
-
-same-length-6 : tie.Need-same-length-6
-same-length-6 c = search needs
-
-same-length-7 : tie.Need-same-length-7
-same-length-7 c = search needs
-
-same-length-8 : tie.Need-same-length-8
-same-length-8 c = search needs
-
-same-length-9 : tie.Need-same-length-9
-same-length-9 c = search needs
 
 returns-3 : tie.Need-returns-3
 returns-3 c =
@@ -122,16 +88,10 @@ total-requires c κs =
     (l .held .order, log-next _ _ _ _ (l .held), notes-next _ _ _ _ _ _ n)
 
 same-length-10 : tie.Need-same-length-10
-same-length-10 c = omega (arith, c .before .before .before .before .before .before .before .before .before .before .before .before .before .before .before .before .before .before .before .before .before .before .before .before .sweep .kept .1 .1 .0)
-
-same-length-11 : tie.Need-same-length-11
-same-length-11 c = search needs
-
-same-length-12 : tie.Need-same-length-12
-same-length-12 c = search needs
-
-same-length-13 : tie.Need-same-length-13
-same-length-13 c = search needs
+same-length-10 c = omega (
+  arith,
+  c .before .before .before .before .before .before .before .before .before .before .before .before .before .before .before .before .before .before .before .before .before .before .before .before .sweep .kept .1 .1 .0,
+)
 
 returns-4 : tie.Need-returns-4
 returns-4 c =
@@ -152,27 +112,7 @@ returns-4 c =
 pub fast-spec : {M : Type 1} → statement M
 fast-spec =
     tie.close
-    (tie.spec
-    refused-requires
-    sweep-requires
-    same-length
-    returns
-    sweep-requires-2
-    same-length-2
-    same-length-3
-    same-length-4
-    same-length-5
-    returns-2
-    cast-ordered
-    ordered-requires
-    same-length-6
-    same-length-7
-    same-length-8
-    same-length-9
-    returns-3
-    total-requires
-    same-length-10
-    same-length-11
-    same-length-12
-    same-length-13
-    returns-4)
+    (tie.spec (λ c κs. search needs) sweep-requires (λ c. search needs) returns sweep-requires-2 (λ c. search needs)
+    (λ c. search needs) (λ c. search needs) (λ c. search needs) returns-2 (λ c. search needs) ordered-requires
+    (λ c. search needs) (λ c. search needs) (λ c. search needs) (λ c. search needs) returns-3 total-requires
+    same-length-10 (λ c. search needs) (λ c. search needs) (λ c. search needs) returns-4)

@@ -23,31 +23,19 @@ known : (c : tie.Else2) → let s = c .before .before .before .before .before .b
 known c = let f = c .before .before .before .seek in opened _ _ _ (f .result) _ (f .ensures .0)
     (c .before .before .before .before .geometry .ensures) (f .ensures .1) (sym (number (c .before)) ∙ c .if2 .left)
 
-known-requires : tie.Need-known-requires
-known-requires c κs = search needs
-
 returns : tie.Need-returns
 returns c = invalid _ _ _ (unknown-read _ (sym (c .before .known .ensures) ∙ not-true _ (c .if1 .taken)))
-
-geometry-requires : tie.Need-geometry-requires
-geometry-requires c κs = search needs
 
 seek-requires : tie.Need-seek-requires
 seek-requires c κs =
     let e = c .before in
     (sym (e .before .known .ensures) ∙ not-false _ (e .if1 .left), c .geometry .ensures)
 
-refusal-requires : tie.Need-refusal-requires
-refusal-requires c κs = search needs
-
 returns-2 : tie.Need-returns-2
 returns-2 c = refused _ _ _ _ (number (c .before)) (c .if2 .taken)
 
 follow-requires : tie.Need-follow-requires
 follow-requires c κs = (known c .ready, known c .whole)
-
-below-requires : tie.Need-below-requires
-below-requires c κs = search needs
 
 returns-3 : tie.Need-returns-3
 returns-3 c = below _ _ _ _ (c .before .before .before .before .before .before .seek .result) (known (c .before .before .before)) _ _
@@ -60,12 +48,6 @@ rebuild-requires c κs = let k = known (c .before .before .before .before) in
 seal-requires : tie.Need-seal-requires
 seal-requires c κs = let z = known (c .before .before .before .before .before .before .before .before) .size in search needs
 
-answer-requires : tie.Need-answer-requires
-answer-requires c κs = search needs
-
-same-length : tie.Need-same-length
-same-length c = search needs
-
 returns-4 : tie.Need-returns-4
 returns-4 c =
     done _ _ _ _ (c .before .before .before .before .before .before .before .before .before .before .before .before .before .before .before .seek .result) (known (c .before .before .before .before .before .before .before .before .before .before .before .before)) _ _ _ _ _ (c .before .before .before .before .before .before .before .before .before .before .before .follow .ensures) (c .before .before .before .before .before .before .before .before .before .before .below .ensures) (c .before .before .before .before .before .before .before .before .before .if3 .left) (answered _ _ _ _ (c .before .before .before .before .before .before .before .before .before .before .before .follow .ensures) _ (c .answer .ensures))
@@ -74,18 +56,6 @@ returns-4 c =
 pub inspect-spec : {M : Type 1} → statement M
 inspect-spec =
     tie.close
-    (tie.spec
-    known-requires
-    returns
-    geometry-requires
-    seek-requires
-    refusal-requires
-    returns-2
-    follow-requires
-    below-requires
-    returns-3
-    rebuild-requires
-    seal-requires
-    answer-requires
-    same-length
-    returns-4)
+    (tie.spec (λ c κs. search needs) returns (λ c κs. search needs) seek-requires (λ c κs. search needs) returns-2
+    follow-requires (λ c κs. search needs) returns-3 rebuild-requires seal-requires (λ c κs. search needs)
+    (λ c. search needs) returns-4)

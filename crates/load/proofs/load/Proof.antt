@@ -25,20 +25,11 @@ returns c =
     refused (now (s .args .volume)) (now (s .args .memory)) (s .args .s) (s .args .page) (s .args .frame) _
     (c .before .refusal .ensures (now (s .args .memory)) refl) (c .if1 .taken)
 
-geometry-requires : tie.Need-geometry-requires
-geometry-requires c κs = search needs
-
-entry-requires : tie.Need-entry-requires
-entry-requires c κs = search needs
-
 first-requires : tie.Need-first-requires
 first-requires c κs = known c .sized
 
 walk-requires : tie.Need-walk-requires
 walk-requires c κs = known (c .before) .ready _ (c .first .ensures)
-
-walk-refusal-requires : tie.Need-walk-refusal-requires
-walk-refusal-requires c κs = search needs
 
 returns-2 : tie.Need-returns-2
 returns-2 c = stopped _ _ _ _ _ _ _ (known (c .before .before .before .before)) _ (c .before .before .before .first .ensures) _ _
@@ -48,15 +39,9 @@ restore-requires : tie.Need-restore-requires
 restore-requires c κs = let k = known (c .before .before .before .before .before) in
     (k .ready _ (c .before .before .before .before .first .ensures), (c .before .before .before .walk .ensures, k .room))
 
-clean-requires : tie.Need-clean-requires
-clean-requires c κs = search needs
-
 loaded-requires : tie.Need-loaded-requires
 loaded-requires c κs = let k = known (c .before .before .before .before .before .before .before .before .before) in
     (k .page-high, k .frame-low, k .frame-high)
-
-same-length : tie.Need-same-length
-same-length c = search needs
 
 returns-3 : tie.Need-returns-3
 returns-3 c =
@@ -71,17 +56,6 @@ returns-3 c =
 pub load-spec : {M : Type 1} → statement M
 load-spec =
     tie.close
-    (tie.spec
-    refusal-requires
-    returns
-    geometry-requires
-    entry-requires
-    first-requires
-    walk-requires
-    walk-refusal-requires
-    returns-2
-    restore-requires
-    clean-requires
-    loaded-requires
-    same-length
+    (tie.spec refusal-requires returns (λ c κs. search needs) (λ c κs. search needs) first-requires walk-requires
+    (λ c κs. search needs) returns-2 restore-requires (λ c κs. search needs) loaded-requires (λ c. search needs)
     returns-3)

@@ -7,15 +7,6 @@ use Rattle.load.proofs.refusal.Tie as tie
 returns : tie.Need-returns
 returns c = λ m e. early-first _ m _ _ (c .before .before .pre m e) _ _ (c .if1 .taken)
 
-geometry-requires : tie.Need-geometry-requires
-geometry-requires c κs = search needs
-
-frames-requires : tie.Need-frames-requires
-frames-requires c κs = search needs
-
-own-requires : tie.Need-own-requires
-own-requires c κs = search needs
-
 returns-2 : tie.Need-returns-2
 returns-2 c = λ m e.
     let g = c .before .before in
@@ -25,4 +16,4 @@ returns-2 c = λ m e.
 
 pub refusal-spec : {M : Type 1} → statement M
 refusal-spec =
-    tie.close (tie.spec returns geometry-requires frames-requires own-requires returns-2)
+    tie.close (tie.spec returns (λ c κs. search needs) (λ c κs. search needs) (λ c κs. search needs) returns-2)

@@ -7,32 +7,11 @@ use borrow.Author.Needs.{needs}
 use Rattle.load.proofs.restore.Statement.{statement}
 use Rattle.load.proofs.restore.Tie as tie
 
-frame-at-requires : tie.Need-frame-at-requires
-frame-at-requires c κs = search needs
-
-add-end : tie.Need-add-end
-add-end c = search needs
-
-sub-rebuild : tie.Need-sub-rebuild
-sub-rebuild c = search needs
-
-part-rebuild-start : tie.Need-part-rebuild-start
-part-rebuild-start c = search needs
-
-part-rebuild-end : tie.Need-part-rebuild-end
-part-rebuild-end c = search needs
-
 rebuild-requires : tie.Need-rebuild-requires
 rebuild-requires c κs =
     let b = c .before .before .before .before in
     let h = b .pre in
     (h .0, (h .1 .0, frame-length (now (b .args .memory)) _ _ (c .before .frame-at .ensures) (h .1 .1)))
-
-answer-requires : tie.Need-answer-requires
-answer-requires c κs = search needs
-
-same-length : tie.Need-same-length
-same-length c = search needs
 
 returns : tie.Need-returns
 returns c =
@@ -48,13 +27,5 @@ returns c =
 pub restore-spec : {M : Type 1} → statement M
 restore-spec =
     tie.close
-    (tie.spec
-    frame-at-requires
-    add-end
-    sub-rebuild
-    part-rebuild-start
-    part-rebuild-end
-    rebuild-requires
-    answer-requires
-    same-length
-    returns)
+    (tie.spec (λ c κs. search needs) (λ c. search needs) (λ c. search needs) (λ c. search needs) (λ c. search needs)
+    rebuild-requires (λ c κs. search needs) (λ c. search needs) returns)

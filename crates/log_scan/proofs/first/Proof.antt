@@ -6,9 +6,6 @@ use borrow.Author.Needs.{needs}
 use Rattle.log_scan.proofs.first.Statement.{statement}
 use Rattle.log_scan.proofs.first.Tie as tie
 
-locate-requires : tie.Need-locate-requires
-locate-requires c κs = search needs
-
 first-requires : tie.Need-first-requires
 first-requires c κs = (rw (c .locate .ensures) (log-placed _ _ (c .before .before .pre)), omega arith)
 
@@ -16,4 +13,4 @@ returns : tie.Need-returns
 returns c = c .first .ensures ∙ rw (c .before .locate .ensures) (log-first _ _ _)
 
 pub first-spec : {M : Type 1} → statement M
-first-spec = tie.close (tie.spec locate-requires first-requires returns)
+first-spec = tie.close (tie.spec (λ c κs. search needs) first-requires returns)

@@ -2,8 +2,6 @@
 use Rattle.log_scan.proofs.LogSweep.{links-below, links-first, links-last}
 use Rattle.log_scan.proofs.links.Statement.{statement}
 use Rattle.log_scan.proofs.links.Tie as tie
-use Rattle.log_scan.proofs.links.Reads as reads
-use Rattle.log_scan.proofs.links.Lts as lts
 
 returns : tie.Need-returns
 returns c =

@@ -3,14 +3,8 @@ use borrow.Author.Needs.{needs}
 use Rattle.log_scan.proofs.locate.Statement.{statement}
 use Rattle.log_scan.proofs.locate.Tie as tie
 
-ring-requires : tie.Need-ring-requires
-ring-requires c κs = search needs
-
-record-at-requires : tie.Need-record-at-requires
-record-at-requires c κs = search needs
-
 returns : tie.Need-returns
 returns c = rw (c .before .ring .ensures, c .record-at .ensures)
 
 pub locate-spec : {M : Type 1} → statement M
-locate-spec = tie.close (tie.spec ring-requires record-at-requires returns)
+locate-spec = tie.close (tie.spec (λ c κs. search needs) (λ c κs. search needs) returns)

@@ -12,18 +12,10 @@ use Rattle.laws.proofs.Tables.{true-not-false}
 use Rattle.model.specs.Geometry.{start, recordAt}
 use Rattle.model.specs.declared.geometry.Geometry.{Geometry}
 use Rattle.section.specs.declared.Section.{Section}
-use Rattle.log_scan.proofs.LogSweep.{Going, right-page, going-none, going-room, going-here, going-length, going-stops, going-ends, going-on}
+use Rattle.log_scan.proofs.LogSweep.{Going, right-page, going-none, going-room, going-here, going-length}
+use Rattle.log_scan.proofs.LogSweep.{going-stops, going-ends, going-on}
 use Rattle.log_scan.proofs.pass.Statement.{statement}
 use Rattle.log_scan.proofs.pass.Tie as tie
-use Rattle.log_scan.proofs.pass.Reads as reads
-use Rattle.log_scan.proofs.pass.Lts as lts
-use Rattle.codec.proofs.field.four.Reads as four-reads
-use Rattle.log_scan.proofs.links.Reads as links-reads
-use Rattle.log_scan.proofs.locate.Reads as locate-reads
-use Rattle.log_scan.proofs.right.Reads as right-reads
-use Rattle.log_scan.proofs.stopped.Reads as stopped-reads
-use Rattle.section.proofs.guess.onward.Reads as onward-reads
-use Rattle.sums.proofs.products.record_holds.Reads as record-holds-reads
 
 abbrev Inv-loop : tie.InvT-loop
 Inv-loop volume g last₀ at stop below past from₀ n₀ last from n = Going g volume n₀ n from last
@@ -89,12 +81,6 @@ bytes a =
     λ k. omega (arith, a .before .before .before .before .before .before .before .before .shared-slice-known .given k) in
     bytes-take (i + 64 - i) (drop i (vol a)) (bytes-drop i (vol a) b)
 
-locate-requires : tie.Need-locate-requires Inv-loop μ-loop
-locate-requires c κs = search needs
-
-cast-stop : tie.Need-cast-stop Inv-loop μ-loop
-cast-stop c = search needs
-
 mul-stop : tie.Need-mul-stop Inv-loop μ-loop
 mul-stop c = omega (arith, lies (c .before), c .before .before .before .before .pre .0 .records)
 
@@ -108,9 +94,6 @@ add-past : tie.Need-add-past Inv-loop μ-loop
 add-past c =
     let s = c .before .before .before .before .before .before .before in
     omega (arith, lies (c .before .before .before .before), s .pre .0 .records, s .pre .1 .0 .low)
-
-cast-from : tie.Need-cast-from Inv-loop μ-loop
-cast-from c = search needs
 
 mul-from : tie.Need-mul-from Inv-loop μ-loop
 mul-from c =
@@ -139,20 +122,11 @@ loop-holds c =
 add-end : tie.Need-add-end Inv-loop μ-loop
 add-end c = omega (arith, room c)
 
-sub-r : tie.Need-sub-r Inv-loop μ-loop
-sub-r c = search needs
-
-part-r-start : tie.Need-part-r-start Inv-loop μ-loop
-part-r-start c = search needs
-
 part-r-end : tie.Need-part-r-end Inv-loop μ-loop
 part-r-end c = room c
 
 record-holds-requires : tie.Need-record-holds-requires Inv-loop μ-loop
 record-holds-requires c κs = long (c .before .before)
-
-stopped-requires : tie.Need-stopped-requires Inv-loop μ-loop
-stopped-requires c κs = search needs
 
 same-length : tie.Need-same-length Inv-loop μ-loop
 same-length c = wide (c .before .before .before .before .before)
@@ -173,9 +147,6 @@ four-requires c κs = omega (arith, long (c .before .before .before .before))
 
 right-requires : tie.Need-right-requires Inv-loop μ-loop
 right-requires c κs = long (c .before .before .before .before .before)
-
-stopped-requires-2 : tie.Need-stopped-requires-2 Inv-loop μ-loop
-stopped-requires-2 c κs = search needs
 
 same-length-2 : tie.Need-same-length-2 Inv-loop μ-loop
 same-length-2 c = wide (c .before .before .before .before .before .before .before .before)
@@ -200,12 +171,6 @@ slice-read-was c = omega (arith, page-in (c .before), turn (c .before) .before .
 four-requires-2 : tie.Need-four-requires-2 Inv-loop μ-loop
 four-requires-2 c κs = omega (arith, long (turn (c .before) .before))
 
-links-requires : tie.Need-links-requires Inv-loop μ-loop
-links-requires c κs = search needs
-
-stopped-requires-3 : tie.Need-stopped-requires-3 Inv-loop μ-loop
-stopped-requires-3 c κs = search needs
-
 same-length-3 : tie.Need-same-length-3 Inv-loop μ-loop
 same-length-3 c = wide (turn (c .before .before .before .before .before) .before)
 
@@ -220,9 +185,6 @@ mul-last c = omega (arith, page-in (c .before .before .before .before))
 slice-write-last : tie.Need-slice-write-last Inv-loop μ-loop
 slice-write-last c =
     let e = c .before .before .before .before in omega (arith, page-in e, turn e .before .loop .inv .judged .long)
-
-onward-requires : tie.Need-onward-requires Inv-loop μ-loop
-onward-requires c κs = search needs
 
 add-n : tie.Need-add-n Inv-loop μ-loop
 add-n c =
@@ -251,9 +213,6 @@ loop-again c =
     (sym (c .before .before .links .ensures ∙ rw (c .before .before .before .four2 .ensures) refl) ∙ not-false _ (c .before .if3 .left))
     _ _ _ (c .onward .result) (lies-at a .0) refl (omega (arith, lies-at a)) (c .onward .ensures)
 
-stopped-requires-4 : tie.Need-stopped-requires-4 Inv-loop μ-loop
-stopped-requires-4 c κs = search needs
-
 same-length-4 : tie.Need-same-length-4 Inv-loop μ-loop
 same-length-4 c = wide (c .before .before)
 
@@ -270,47 +229,9 @@ returns-4 c =
 pub pass-spec : {M : Type 1} → statement M
 pass-spec =
     tie.close
-    (tie.spec
-    Inv-loop
-    μ-loop
-    locate-requires
-    cast-stop
-    mul-stop
-    add-stop
-    sub-below
-    add-past
-    cast-from
-    mul-from
-    add-from
-    loop-holds
-    add-end
-    sub-r
-    part-r-start
-    part-r-end
-    record-holds-requires
-    stopped-requires
-    same-length
-    returns
-    four-requires
-    right-requires
-    stopped-requires-2
-    same-length-2
-    returns-2
-    sub-k
-    cast-k
-    mul-was
-    slice-read-was
-    four-requires-2
-    links-requires
-    stopped-requires-3
-    same-length-3
-    returns-3
-    mul-last
-    slice-write-last
-    onward-requires
-    add-n
-    loop-less
-    loop-again
-    stopped-requires-4
-    same-length-4
-    returns-4)
+    (tie.spec Inv-loop μ-loop (λ c κs. search needs) (λ c. search needs) mul-stop add-stop sub-below add-past
+    (λ c. search needs) mul-from add-from loop-holds add-end (λ c. search needs) (λ c. search needs) part-r-end
+    record-holds-requires (λ c κs. search needs) same-length returns four-requires right-requires
+    (λ c κs. search needs) same-length-2 returns-2 sub-k cast-k mul-was slice-read-was four-requires-2
+    (λ c κs. search needs) (λ c κs. search needs) same-length-3 returns-3 mul-last slice-write-last
+    (λ c κs. search needs) add-n loop-less loop-again (λ c κs. search needs) same-length-4 returns-4)

@@ -5,21 +5,11 @@ use denote.Ref.{now}
 use Rattle.log_scan.proofs.LogSweep.{right-fails, right-holds}
 use Rattle.log_scan.proofs.right.Statement.{statement}
 use Rattle.log_scan.proofs.right.Tie as tie
-use Rattle.log_scan.proofs.right.Reads as reads
-use Rattle.log_scan.proofs.right.Lts as lts
-use Rattle.codec.proofs.field.four.Reads as four-reads
-use Rattle.item.proofs.record.laid_out.Reads as laid-out-reads
-
-four-requires : tie.Need-four-requires
-four-requires c κs = search needs
 
 returns : tie.Need-returns
 returns c =
     let a = c .before .before .before .args in
     right-fails (now (a .r)) (a .n) (a .page) (a .pages) _ (c .before .four .ensures) (not-true _ (c .if1 .taken))
-
-laid-out-requires : tie.Need-laid-out-requires
-laid-out-requires c κs = search needs
 
 returns-2 : tie.Need-returns-2
 returns-2 c =
@@ -28,4 +18,4 @@ returns-2 c =
     (not-false _ (c .before .if1 .left)) (c .laid-out .ensures)
 
 pub right-spec : {M : Type 1} → statement M
-right-spec = tie.close (tie.spec four-requires returns laid-out-requires returns-2)
+right-spec = tie.close (tie.spec (λ c κs. search needs) returns (λ c κs. search needs) returns-2)

@@ -8,12 +8,6 @@ returns : tie.Need-returns
 unfolding rowOf
 returns c = rw (c .if1 .taken)
 
-sub-result : tie.Need-sub-result
-sub-result c = search needs
-
-cast-result : tie.Need-cast-result
-cast-result c = search needs
-
 returns-2 : tie.Need-returns-2
 unfolding rowOf
 returns-2 c = rw (le-leb _ _ (c .if2 .taken))
@@ -23,4 +17,4 @@ unfolding rowOf
 returns-3 c = rw (lt-leb _ _ (c .if2 .left))
 
 pub row-spec : {M : Type 1} → statement M
-row-spec = tie.close (tie.spec returns sub-result cast-result returns-2 returns-3)
+row-spec = tie.close (tie.spec returns (λ c. search needs) (λ c. search needs) returns-2 returns-3)

@@ -14,7 +14,8 @@ use Rattle.model.specs.declared.geometry.Geometry.{Geometry}
 use Rattle.section.specs.declared.Section.{Section}
 use Rattle.log_scan.proofs.RowLaws.{row-below}
 use Rattle.log_scan.proofs.Located.{record-here, record-length, log-placed}
-use Rattle.log_scan.proofs.LogPass.{log-known, Judged, judged-none, judged-more, run-low, log-judged, log-breaks, log-ends, log-columns}
+use Rattle.log_scan.proofs.LogPass.{log-known, Judged, judged-none, judged-more, run-low, log-judged, log-breaks}
+use Rattle.log_scan.proofs.LogPass.{log-ends, log-columns}
 use Rattle.section.proofs.SectionLaws.{slot-starts, slot-low, slot-next, slot-of}
 use Rattle.log_scan.proofs.scan.Statement.{statement}
 use Rattle.log_scan.proofs.scan.Tie as tie
@@ -73,9 +74,6 @@ sub-below c = omega (arith, run-low _ _ _ (c .before .before .pre .1 .0))
 span-requires : tie.Need-span-requires Inv-loop μ-loop
 span-requires c κs = run-low _ _ _ (c .before .before .pre .1 .0)
 
-locate-requires : tie.Need-locate-requires Inv-loop μ-loop
-locate-requires c κs = search needs
-
 start-requires : tie.Need-start-requires Inv-loop μ-loop
 start-requires c κs = run-low _ _ _ (c .before .before .before .before .pre .1 .0)
 
@@ -101,15 +99,6 @@ item-requires c κs =
       slot-low _ _ _ (slots-are a) _ _ (a .loop .inv .2) (s .pre .0 .some),
     )
 
-read-requires : tie.Need-read-requires Inv-loop μ-loop
-read-requires c κs = search needs
-
-cast-row : tie.Need-cast-row Inv-loop μ-loop
-cast-row c = search needs
-
-row-requires : tie.Need-row-requires Inv-loop μ-loop
-row-requires c κs = search needs
-
 mul-was : tie.Need-mul-was Inv-loop μ-loop
 mul-was c = omega (arith, row-at c)
 
@@ -130,9 +119,6 @@ layout-requires c κs =
       record-length (geo a) (vol a) (entry a .pre .0) (c .before .before .before .before .before .before .nth .result),
       ap length (here (c .before .before .before .before .before)),
     )
-
-fits-requires : tie.Need-fits-requires Inv-loop μ-loop
-fits-requires c κs = search needs
 
 same-length : tie.Need-same-length Inv-loop μ-loop
 same-length c = let a = head (c .before) in a .loop .inv .1 .long ∙ sym (ap length (entry a .pre .1 .1) ∙ length-replicate {A = ℕ} 64 0)
@@ -156,12 +142,6 @@ slice-write-last c = omega (arith, row-at (c .before .before .before .before .be
 
 after-requires : tie.Need-after-requires Inv-loop μ-loop
 after-requires c κs = let a = head (c .before) in slot-low _ _ _ (slots-are a) _ _ (a .loop .inv .2) (entry a .pre .0 .some)
-
-add-i : tie.Need-add-i Inv-loop μ-loop
-add-i c = search needs
-
-loop-less : tie.Need-loop-less Inv-loop μ-loop
-loop-less c = search needs
 
 loop-again : tie.Need-loop-again Inv-loop μ-loop
 loop-again c =
@@ -195,32 +175,7 @@ returns-2 c =
 pub scan-spec : {M : Type 1} → statement M
 scan-spec =
     tie.close
-    (tie.spec
-    Inv-loop
-    μ-loop
-    sub-below
-    span-requires
-    locate-requires
-    start-requires
-    loop-holds
-    nth-requires
-    item-requires
-    read-requires
-    cast-row
-    row-requires
-    mul-was
-    slice-read-was
-    whole-requires
-    layout-requires
-    fits-requires
-    same-length
-    returns
-    mul-last
-    slice-write-last
-    after-requires
-    add-i
-    loop-less
-    loop-again
-    ends-requires
-    same-length-2
-    returns-2)
+    (tie.spec Inv-loop μ-loop sub-below span-requires (λ c κs. search needs) start-requires loop-holds nth-requires
+    item-requires (λ c κs. search needs) (λ c. search needs) (λ c κs. search needs) mul-was slice-read-was
+    whole-requires layout-requires (λ c κs. search needs) same-length returns mul-last slice-write-last after-requires
+    (λ c. search needs) (λ c. search needs) loop-again ends-requires same-length-2 returns-2)

@@ -13,28 +13,16 @@ use Rattle.log_scan.proofs.LogSwept.{log-swept}
 use borrow.Author.Needs.{needs}
 use Rattle.log_scan.proofs.sweep.Statement.{statement}
 use Rattle.log_scan.proofs.sweep.Tie as tie
-use Rattle.log_scan.proofs.sweep.Reads as reads
-use Rattle.log_scan.proofs.sweep.Lts as lts
-use Rattle.log_scan.proofs.locate.Reads as locate-reads
-use Rattle.log_scan.proofs.pass.Reads as pass-reads
-use Rattle.section.proofs.guess.closed.Reads as closed-reads
-use Rattle.section.proofs.guess.guess_start.Reads as guess-start-reads
 
 -- the guess is of the log
 guessed : (c : tie.After-guess-start) → Guessed (logSection (c .before .before .before .before .args .g)) (c .guess-start .result)
 guessed c = subst (λ (s : Section). Guessed s (c .guess-start .result)) (c .before .locate .ensures) (c .guess-start .ensures)
-
-locate-requires : tie.Need-locate-requires
-locate-requires c κs = search needs
 
 guess-start-requires : tie.Need-guess-start-requires
 guess-start-requires c κs = rw (c .locate .ensures) (log-placed _ _ (c .before .before .before .pre .0))
 
 pass-requires : tie.Need-pass-requires
 pass-requires c κs = let s = c .before .before .before .before .before in (s .pre .0, (guessed (c .before), s .pre .1))
-
-same-length : tie.Need-same-length
-same-length c = search needs
 
 returns : tie.Need-returns
 returns c = (λ t. absurd (true-not-false t refl), c .before .before .before .before .pass .ensures .1)
@@ -47,9 +35,6 @@ closed-requires : tie.Need-closed-requires
 closed-requires c κs =
     let l = c .before .before .before .before .before .before .before in
     rw (l .locate .ensures) (log-placed _ _ (l .before .before .before .pre .0))
-
-same-length-2 : tie.Need-same-length-2
-same-length-2 c = search needs
 
 returns-2 : tie.Need-returns-2
 returns-2 c =
@@ -70,13 +55,5 @@ returns-2 c =
 pub sweep-spec : {M : Type 1} → statement M
 sweep-spec =
     tie.close
-    (tie.spec
-    locate-requires
-    guess-start-requires
-    pass-requires
-    same-length
-    returns
-    sub-closed
-    closed-requires
-    same-length-2
-    returns-2)
+    (tie.spec (λ c κs. search needs) guess-start-requires pass-requires (λ c. search needs) returns sub-closed
+    closed-requires (λ c. search needs) returns-2)

@@ -20,66 +20,6 @@ abbrev μ-loop : tie.MeasureT-loop
 loop-holds : tie.Need-loop-holds Inv-loop μ-loop
 loop-holds c = (omega arith, length-replicate {A = Entry} 64 emptyEntry, refl)
 
-mul-k : tie.Need-mul-k Inv-loop μ-loop
-mul-k c = search needs
-
-mul-entry-from : tie.Need-mul-entry-from Inv-loop μ-loop
-mul-entry-from c = search needs
-
-shared-slice-read-entry-from : tie.Need-shared-slice-read-entry-from Inv-loop μ-loop
-shared-slice-read-entry-from c = search needs
-
-add-entry-from : tie.Need-add-entry-from Inv-loop μ-loop
-add-entry-from c = search needs
-
-mul-entry-from-2 : tie.Need-mul-entry-from-2 Inv-loop μ-loop
-mul-entry-from-2 c = search needs
-
-shared-slice-read-entry-from-2 : tie.Need-shared-slice-read-entry-from-2 Inv-loop μ-loop
-shared-slice-read-entry-from-2 c = search needs
-
-add-entry-from-2 : tie.Need-add-entry-from-2 Inv-loop μ-loop
-add-entry-from-2 c = search needs
-
-mul-entry-from-3 : tie.Need-mul-entry-from-3 Inv-loop μ-loop
-mul-entry-from-3 c = search needs
-
-shared-slice-read-entry-from-3 : tie.Need-shared-slice-read-entry-from-3 Inv-loop μ-loop
-shared-slice-read-entry-from-3 c = search needs
-
-add-entry-from-3 : tie.Need-add-entry-from-3 Inv-loop μ-loop
-add-entry-from-3 c = search needs
-
-mul-entry-from-4 : tie.Need-mul-entry-from-4 Inv-loop μ-loop
-mul-entry-from-4 c = search needs
-
-shared-slice-read-entry-from-4 : tie.Need-shared-slice-read-entry-from-4 Inv-loop μ-loop
-shared-slice-read-entry-from-4 c = search needs
-
-add-entry-from-4 : tie.Need-add-entry-from-4 Inv-loop μ-loop
-add-entry-from-4 c = search needs
-
-mul-entry-from-5 : tie.Need-mul-entry-from-5 Inv-loop μ-loop
-mul-entry-from-5 c = search needs
-
-shared-slice-read-entry-from-5 : tie.Need-shared-slice-read-entry-from-5 Inv-loop μ-loop
-shared-slice-read-entry-from-5 c = search needs
-
-entry-from-requires : tie.Need-entry-from-requires Inv-loop μ-loop
-entry-from-requires c κs = search needs
-
-mul-index : tie.Need-mul-index Inv-loop μ-loop
-mul-index c = search needs
-
-array-set-from-index : tie.Need-array-set-from-index Inv-loop μ-loop
-array-set-from-index c = search needs
-
-add-i : tie.Need-add-i Inv-loop μ-loop
-add-i c = search needs
-
-loop-less : tie.Need-loop-less Inv-loop μ-loop
-loop-less c = search needs
-
 loop-again : tie.Need-loop-again Inv-loop μ-loop
 loop-again c =
     let k = c .before .before .before .before .before .before in
@@ -101,29 +41,8 @@ returns c =
 pub entries-of-spec : {M : Type 1} → statement M
 entries-of-spec =
     tie.close
-    (tie.spec
-    Inv-loop
-    μ-loop
-    loop-holds
-    mul-k
-    mul-entry-from
-    shared-slice-read-entry-from
-    add-entry-from
-    mul-entry-from-2
-    shared-slice-read-entry-from-2
-    add-entry-from-2
-    mul-entry-from-3
-    shared-slice-read-entry-from-3
-    add-entry-from-3
-    mul-entry-from-4
-    shared-slice-read-entry-from-4
-    add-entry-from-4
-    mul-entry-from-5
-    shared-slice-read-entry-from-5
-    entry-from-requires
-    mul-index
-    array-set-from-index
-    add-i
-    loop-less
-    loop-again
-    returns)
+    (tie.spec Inv-loop μ-loop loop-holds (λ c. search needs) (λ c. search needs) (λ c. search needs)
+    (λ c. search needs) (λ c. search needs) (λ c. search needs) (λ c. search needs) (λ c. search needs)
+    (λ c. search needs) (λ c. search needs) (λ c. search needs) (λ c. search needs) (λ c. search needs)
+    (λ c. search needs) (λ c. search needs) (λ c κs. search needs) (λ c. search needs) (λ c. search needs)
+    (λ c. search needs) (λ c. search needs) loop-again returns)

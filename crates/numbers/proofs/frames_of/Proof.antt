@@ -20,39 +20,6 @@ abbrev μ-loop : tie.MeasureT-loop
 loop-holds : tie.Need-loop-holds Inv-loop μ-loop
 loop-holds c = (omega arith, length-replicate {A = Frame} 16 emptyFrame, refl)
 
-mul-k : tie.Need-mul-k Inv-loop μ-loop
-mul-k c = search needs
-
-mul-frame-from : tie.Need-mul-frame-from Inv-loop μ-loop
-mul-frame-from c = search needs
-
-shared-slice-read-frame-from : tie.Need-shared-slice-read-frame-from Inv-loop μ-loop
-shared-slice-read-frame-from c = search needs
-
-add-frame-from : tie.Need-add-frame-from Inv-loop μ-loop
-add-frame-from c = search needs
-
-mul-frame-from-2 : tie.Need-mul-frame-from-2 Inv-loop μ-loop
-mul-frame-from-2 c = search needs
-
-shared-slice-read-frame-from-2 : tie.Need-shared-slice-read-frame-from-2 Inv-loop μ-loop
-shared-slice-read-frame-from-2 c = search needs
-
-frame-from-requires : tie.Need-frame-from-requires Inv-loop μ-loop
-frame-from-requires c κs = search needs
-
-mul-table : tie.Need-mul-table Inv-loop μ-loop
-mul-table c = search needs
-
-array-set-from-table : tie.Need-array-set-from-table Inv-loop μ-loop
-array-set-from-table c = search needs
-
-add-i : tie.Need-add-i Inv-loop μ-loop
-add-i c = search needs
-
-loop-less : tie.Need-loop-less Inv-loop μ-loop
-loop-less c = search needs
-
 loop-again : tie.Need-loop-again Inv-loop μ-loop
 loop-again c =
     let l = c .before .before .before .before .loop in
@@ -73,20 +40,6 @@ returns c =
 pub frames-of-spec : {M : Type 1} → statement M
 frames-of-spec =
     tie.close
-    (tie.spec
-    Inv-loop
-    μ-loop
-    loop-holds
-    mul-k
-    mul-frame-from
-    shared-slice-read-frame-from
-    add-frame-from
-    mul-frame-from-2
-    shared-slice-read-frame-from-2
-    frame-from-requires
-    mul-table
-    array-set-from-table
-    add-i
-    loop-less
-    loop-again
-    returns)
+    (tie.spec Inv-loop μ-loop loop-holds (λ c. search needs) (λ c. search needs) (λ c. search needs)
+    (λ c. search needs) (λ c. search needs) (λ c. search needs) (λ c κs. search needs) (λ c. search needs)
+    (λ c. search needs) (λ c. search needs) (λ c. search needs) loop-again returns)

@@ -7,17 +7,8 @@ use Rattle.numbers.proofs.note_from.Tie as tie
 returns : tie.Need-returns
 returns c = rw (eq-eqb (c .before .args .kind) 0 (c .if1 .taken))
 
-cast-t8 : tie.Need-cast-t8
-cast-t8 c = search needs
-
-cast-t10 : tie.Need-cast-t10
-cast-t10 c = search needs
-
-cast-t12 : tie.Need-cast-t12
-cast-t12 c = search needs
-
 returns-2 : tie.Need-returns-2
 returns-2 c = rw (ne-eqb (c .before .args .kind) 0 (c .if1 .left))
 
 pub note-from-spec : {M : Type 1} → statement M
-note-from-spec = tie.close (tie.spec returns cast-t8 cast-t10 cast-t12 returns-2)
+note-from-spec = tie.close (tie.spec returns (λ c. search needs) (λ c. search needs) (λ c. search needs) returns-2)

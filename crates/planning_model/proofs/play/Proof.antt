@@ -19,37 +19,16 @@ Inv-loop events t m₀ i₀ m i = (i ≤ length events) × (playFrom t i m (drop
 abbrev μ-loop : tie.MeasureT-loop
 μ-loop events t m₀ i₀ m i = length events - i
 
-start-requires : tie.Need-start-requires Inv-loop μ-loop
-start-requires c κs = search needs
-
 loop-holds : tie.Need-loop-holds Inv-loop μ-loop
 loop-holds c =
     let a = c .before .before .args in
     (search needs, ap (λ (m : Rehearsal). playFrom (a .t) 0 m (now (a .events))) (c .start .ensures), idle-bounded _ (c .start .ensures))
-
-cast-step : tie.Need-cast-step Inv-loop μ-loop
-cast-step c = search needs
-
-add-step : tie.Need-add-step Inv-loop μ-loop
-add-step c = search needs
-
-shared-slice-read-access : tie.Need-shared-slice-read-access Inv-loop μ-loop
-shared-slice-read-access c = search needs
-
-access-requires : tie.Need-access-requires Inv-loop μ-loop
-access-requires c κs = search needs
 
 step-requires : tie.Need-step-requires Inv-loop μ-loop
 step-requires c κs =
     let k = c .before .before .before in
     let q = k .before .before .before .pre in
     (q .2, q .3, q .4, played-room (k .loop .i) _ (k .loop .m .pages) (c .before .before .loop-test .taken) (q .0) (k .loop .inv .2))
-
-add-i : tie.Need-add-i Inv-loop μ-loop
-add-i c = search needs
-
-loop-less : tie.Need-loop-less Inv-loop μ-loop
-loop-less c = search needs
 
 loop-again : tie.Need-loop-again Inv-loop μ-loop
 loop-again c =
@@ -71,17 +50,5 @@ returns c = sym (play-end _ _ _ _ (c .loop-test .left)) ∙ c .before .loop .inv
 pub play-spec : {M : Type 1} → statement M
 play-spec =
     tie.close
-    (tie.spec
-    Inv-loop
-    μ-loop
-    start-requires
-    loop-holds
-    cast-step
-    add-step
-    shared-slice-read-access
-    access-requires
-    step-requires
-    add-i
-    loop-less
-    loop-again
-    returns)
+    (tie.spec Inv-loop μ-loop (λ c κs. search needs) loop-holds (λ c. search needs) (λ c. search needs)
+    (λ c. search needs) (λ c κs. search needs) step-requires (λ c. search needs) (λ c. search needs) loop-again returns)

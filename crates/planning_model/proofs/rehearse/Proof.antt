@@ -4,9 +4,6 @@ use borrow.Author.Needs.{needs}
 use Rattle.planning_model.proofs.rehearse.Statement.{statement}
 use Rattle.planning_model.proofs.rehearse.Tie as tie
 
-refusal-requires : tie.Need-refusal-requires
-refusal-requires c κs = search needs
-
 returns : tie.Need-returns
 returns c = rehearse-refused _ _ _ _ _ (c .before .refusal .ensures) (c .if1 .taken)
 
@@ -18,4 +15,4 @@ returns-2 c =
     rehearse-done _ _ _ _ _ (c .before .before .before .refusal .ensures) (c .before .before .if1 .left) _ (c .before .play .ensures)
 
 pub rehearse-spec : {M : Type 1} → statement M
-rehearse-spec = tie.close (tie.spec refusal-requires returns play-requires returns-2)
+rehearse-spec = tie.close (tie.spec (λ c κs. search needs) returns play-requires returns-2)

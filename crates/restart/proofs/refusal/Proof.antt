@@ -6,16 +6,10 @@ use borrow.Author.Needs.{needs}
 use Rattle.restart.proofs.refusal.Statement.{statement}
 use Rattle.restart.proofs.refusal.Tie as tie
 
-first-requires : tie.Need-first-requires
-first-requires c κs = search needs
-
-first-requires-2 : tie.Need-first-requires-2
-first-requires-2 c κs = search needs
-
 returns : tie.Need-returns
 returns c =
     let a = c .before .before .args in
     chained (eqb (a .scan) 1) (not (a .memory)) (a .scan) _ _ (c .before .first .ensures) (c .first2 .ensures)
 
 pub refusal-spec : {M : Type 1} → statement M
-refusal-spec = tie.close (tie.spec first-requires first-requires-2 returns)
+refusal-spec = tie.close (tie.spec (λ c κs. search needs) (λ c κs. search needs) returns)

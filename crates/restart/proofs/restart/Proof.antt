@@ -16,29 +16,8 @@ number c =
     refusal-is (now (s .args .volume)) (now (s .args .memory)) _ _ _ (c .before .before .scan .ensures .0)
     (c .before .memory .ensures) (c .refusal .ensures)
 
-scan-requires : tie.Need-scan-requires
-scan-requires c κs = search needs
-
-memory-requires : tie.Need-memory-requires
-memory-requires c κs = search needs
-
-refusal-requires : tie.Need-refusal-requires
-refusal-requires c κs = search needs
-
-zero-requires : tie.Need-zero-requires
-zero-requires c κs = search needs
-
 returns : tie.Need-returns
 returns c = refused _ _ _ _ (number (c .before .before)) (c .before .if1 .taken) (c .zero .ensures)
-
-fill-requires : tie.Need-fill-requires
-fill-requires c κs = search needs
-
-resumed-requires : tie.Need-resumed-requires
-resumed-requires c κs = search needs
-
-same-length : tie.Need-same-length
-same-length c = search needs
 
 returns-2 : tie.Need-returns-2
 returns-2 c =
@@ -50,13 +29,5 @@ returns-2 c =
 pub restart-spec : {M : Type 1} → statement M
 restart-spec =
     tie.close
-    (tie.spec
-    scan-requires
-    memory-requires
-    refusal-requires
-    zero-requires
-    returns
-    fill-requires
-    resumed-requires
-    same-length
-    returns-2)
+    (tie.spec (λ c κs. search needs) (λ c κs. search needs) (λ c κs. search needs) (λ c κs. search needs) returns
+    (λ c κs. search needs) (λ c κs. search needs) (λ c. search needs) returns-2)

@@ -4,17 +4,8 @@ use borrow.Author.Needs.{needs}
 use Rattle.room_report.proofs.left.Statement.{statement}
 use Rattle.room_report.proofs.left.Tie as tie
 
-scan-requires : tie.Need-scan-requires
-scan-requires c κs = search needs
-
 returns : tie.Need-returns
 returns c = refused _ _ (c .before .scan .ensures .0) (c .if1 .taken)
-
-geometry-requires : tie.Need-geometry-requires
-geometry-requires c κs = search needs
-
-resumed-requires : tie.Need-resumed-requires
-resumed-requires c κs = search needs
 
 left-requires : tie.Need-left-requires
 left-requires c κs =
@@ -36,11 +27,5 @@ returns-2 c =
 pub left-spec : {M : Type 1} → statement M
 left-spec =
     tie.close
-    (tie.spec
-    scan-requires
-    returns
-    geometry-requires
-    resumed-requires
-    left-requires
-    left-requires-2
-    returns-2)
+    (tie.spec (λ c κs. search needs) returns (λ c κs. search needs) (λ c κs. search needs) left-requires
+    left-requires-2 returns-2)

@@ -5,12 +5,6 @@ use Rattle.section.proofs.SectionLaws.{count-ring, count-run, front-slo
 use Rattle.section.proofs.count.Statement.{statement}
 use Rattle.section.proofs.count.Tie as tie
 
-cast-highest : tie.Need-cast-highest
-cast-highest c = search needs
-
-cast-highest-2 : tie.Need-cast-highest-2
-cast-highest-2 c = search needs
-
 highest-requires : tie.Need-highest-requires
 highest-requires c κs =
     let p = c .before .before .before in
@@ -29,4 +23,4 @@ returns-2 c =
     count-run _ _ _ (front-slots (s .size) (now (p .args .v)) (s .at) (s .slots) _ (p .pre .1)) (c .if1 .left)
 
 pub count-spec : {M : Type 1} → statement M
-count-spec = tie.close (tie.spec cast-highest cast-highest-2 highest-requires returns returns-2)
+count-spec = tie.close (tie.spec (λ c. search needs) (λ c. search needs) highest-requires returns returns-2)

@@ -14,12 +14,6 @@ next-requires c κs = (c .before .before .before .before .pre, omega arith)
 add-rest : tie.Need-add-rest
 add-rest c = omega (arith, c .before .before .before .before .before .before .pre .short)
 
-cast-rest : tie.Need-cast-rest
-cast-rest c = search needs
-
-cast-rest-2 : tie.Need-cast-rest-2
-cast-rest-2 c = search needs
-
 rest-requires : tie.Need-rest-requires
 rest-requires c κs = c .before .before .before .before .before .before .before .pre .room
 
@@ -29,5 +23,4 @@ returns-2 c = ends-here _ _ _ _ _ _ (c .before .before .before .before .before .
 
 pub ends-spec : {M : Type 1} → statement M
 ends-spec =
-    tie.close
-    (tie.spec returns next-requires add-rest cast-rest cast-rest-2 rest-requires returns-2)
+    tie.close (tie.spec returns next-requires add-rest (λ c. search needs) (λ c. search needs) rest-requires returns-2)

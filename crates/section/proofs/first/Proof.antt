@@ -8,23 +8,8 @@ use Rattle.section.proofs.first.Tie as tie
 returns : tie.Need-returns
 returns c = first-one _ _ _ (not-true _ (c .if1 .taken))
 
-above-requires : tie.Need-above-requires
-above-requires c κs = search needs
-
 next-requires : tie.Need-next-requires
 next-requires c κs = c .before .before .before .before .pre
-
-cast-result : tie.Need-cast-result
-cast-result c = search needs
-
-add-result : tie.Need-add-result
-add-result c = search needs
-
-cast-result-2 : tie.Need-cast-result-2
-cast-result-2 c = search needs
-
-add-result-2 : tie.Need-add-result-2
-add-result-2 c = search needs
 
 returns-2 : tie.Need-returns-2
 returns-2 c = first-whole _ _ _ _ _ (c .before .before .above .ensures) (c .before .next .ensures)
@@ -37,13 +22,5 @@ returns-3 c = first-torn _ _ _ _ _ (c .before .before .above .ensures) (c .befor
 pub first-spec : {M : Type 1} → statement M
 first-spec =
     tie.close
-    (tie.spec
-    returns
-    above-requires
-    next-requires
-    cast-result
-    add-result
-    cast-result-2
-    add-result-2
-    returns-2
-    returns-3)
+    (tie.spec returns (λ c κs. search needs) next-requires (λ c. search needs) (λ c. search needs) (λ c. search needs)
+    (λ c. search needs) returns-2 returns-3)

@@ -7,9 +7,6 @@ use Rattle.section.proofs.SectionLaws.{held-is, front-low}
 use Rattle.section.proofs.held.Statement.{statement}
 use Rattle.section.proofs.held.Tie as tie
 
-cast-sealed : tie.Need-cast-sealed
-cast-sealed c = search needs
-
 sealed-requires : tie.Need-sealed-requires
 sealed-requires c κs = let p = c .before .before .pre in (p .room, p .short, p .few)
 
@@ -28,4 +25,4 @@ returns c =
     (ap (λ (f : Front). f .slots) (c .before .before .sealed .ensures))
 
 pub held-spec : {M : Type 1} → statement M
-held-spec = tie.close (tie.spec cast-sealed sealed-requires count-requires first-requires returns)
+held-spec = tie.close (tie.spec (λ c. search needs) sealed-requires count-requires first-requires returns)

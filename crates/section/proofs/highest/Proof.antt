@@ -28,43 +28,16 @@ loop-holds c =
     let a = c .before .args in
     (p .1 .0, front-room (a .n + 4) (a .most) (a .front) (a .at) _ (p .1 .0) (p .0 .0), refl, p .1 .1)
 
-add-from : tie.Need-add-from Inv-loop μ-loop
-add-from c = search needs
-
 mul-from : tie.Need-mul-from Inv-loop μ-loop
 mul-from c = let a = c .before .args in omega (arith, front-in (a .n + 4) (a .most) (a .front) (c .before .pre .1 .0))
 
 add-from-2 : tie.Need-add-from-2 Inv-loop μ-loop
 add-from-2 c = let a = c .before .args in omega (arith, front-in (a .n + 4) (a .most) (a .front) (c .before .pre .1 .0))
 
-add-end : tie.Need-add-end Inv-loop μ-loop
-add-end c = search needs
-
-add-end-2 : tie.Need-add-end-2 Inv-loop μ-loop
-add-end-2 c = search needs
-
-sub-number : tie.Need-sub-number Inv-loop μ-loop
-sub-number c = search needs
-
-part-number-start : tie.Need-part-number-start Inv-loop μ-loop
-part-number-start c = search needs
-
 part-number-end : tie.Need-part-number-end Inv-loop μ-loop
 part-number-end c =
     let a = c .before .before .before .args in
     omega (arith, turn (a .n + 4) (a .most) (c .before .loop .k) (c .loop-test .taken))
-
-number-requires : tie.Need-number-requires Inv-loop μ-loop
-number-requires c κs = search needs
-
-larger-requires : tie.Need-larger-requires Inv-loop μ-loop
-larger-requires c κs = search needs
-
-add-k : tie.Need-add-k Inv-loop μ-loop
-add-k c = search needs
-
-loop-less : tie.Need-loop-less Inv-loop μ-loop
-loop-less c = search needs
 
 loop-again : tie.Need-loop-again Inv-loop μ-loop
 loop-again c =
@@ -90,21 +63,6 @@ returns c =
 pub highest-spec : {M : Type 1} → statement M
 highest-spec =
     tie.close
-    (tie.spec
-    Inv-loop
-    μ-loop
-    add-from
-    mul-from
-    add-from-2
-    loop-holds
-    add-end
-    add-end-2
-    sub-number
-    part-number-start
-    part-number-end
-    number-requires
-    larger-requires
-    add-k
-    loop-less
-    loop-again
-    returns)
+    (tie.spec Inv-loop μ-loop (λ c. search needs) mul-from add-from-2 loop-holds (λ c. search needs)
+    (λ c. search needs) (λ c. search needs) (λ c. search needs) part-number-end (λ c κs. search needs)
+    (λ c κs. search needs) (λ c. search needs) (λ c. search needs) loop-again returns)

@@ -29,12 +29,6 @@ add-end c = omega (arith, c .before .before .before .pre .0 .short)
 add-end-2 : tie.Need-add-end-2
 add-end-2 c = let s = c .before .before in omega (arith, seat s, s .before .pre .0 .room)
 
-sub-result : tie.Need-sub-result
-sub-result c = search needs
-
-part-result-start : tie.Need-part-result-start
-part-result-start c = search needs
-
 part-result-end : tie.Need-part-result-end
 part-result-end c = let s = c .before .before in omega (arith, seat s, s .before .pre .0 .room)
 
@@ -46,13 +40,5 @@ returns c =
 pub item-spec : {M : Type 1} → statement M
 item-spec =
     tie.close
-    (tie.spec
-    add-from
-    mul-from
-    add-from-2
-    add-end
-    add-end-2
-    sub-result
-    part-result-start
-    part-result-end
+    (tie.spec add-from mul-from add-from-2 add-end add-end-2 (λ c. search needs) (λ c. search needs) part-result-end
     returns)

@@ -14,9 +14,6 @@ use Rattle.section.proofs.next.Tie as tie
 returns : tie.Need-returns
 returns c = none-whole _ _ _ _ (c .before .before .before .pre .0 .none (c .if1 .taken))
 
-turned-requires : tie.Need-turned-requires
-turned-requires c κs = search needs
-
 item-requires : tie.Need-item-requires
 item-requires c κs = (c .before .before .before .before .pre .0, c .turned .ensures .1)
 
@@ -35,4 +32,4 @@ returns-2 c =
     ∙ ap (λ (k : ℕ). sealed (a .s .size) (slotBytes (now (a .v)) (a .s) k)) (c .before .before .turned .ensures .0)
 
 pub next-spec : {M : Type 1} → statement M
-next-spec = tie.close (tie.spec returns turned-requires item-requires whole-requires returns-2)
+next-spec = tie.close (tie.spec returns (λ c κs. search needs) item-requires whole-requires returns-2)

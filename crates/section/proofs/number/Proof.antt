@@ -5,12 +5,6 @@ use Rattle.laws.proofs.Tables.{when-true, when-false}
 use Rattle.section.proofs.number.Statement.{statement}
 use Rattle.section.proofs.number.Tie as tie
 
-holds-requires : tie.Need-holds-requires
-holds-requires c κs = search needs
-
-u32-at-requires : tie.Need-u32-at-requires
-u32-at-requires c κs = search needs
-
 returns : tie.Need-returns
 returns c = c .u32-at .ensures ∙ sym (when-true _ _ (sym (c .before .before .holds .ensures) ∙ c .before .if1 .taken))
 
@@ -18,4 +12,4 @@ returns-2 : tie.Need-returns-2
 returns-2 c = sym (when-false _ _ (sym (c .before .holds .ensures) ∙ c .if1 .left))
 
 pub number-spec : {M : Type 1} → statement M
-number-spec = tie.close (tie.spec holds-requires u32-at-requires returns returns-2)
+number-spec = tie.close (tie.spec (λ c κs. search needs) (λ c κs. search needs) returns returns-2)

@@ -9,9 +9,6 @@ use Rattle.section.proofs.rest.Tie as tie
 returns : tie.Need-returns
 returns c = sym (rest-none _ _ _ _ _ (c .if1 .taken))
 
-add-from : tie.Need-add-from
-add-from c = search needs
-
 mul-from : tie.Need-mul-from
 mul-from c =
     let a = c .before .before .args in
@@ -21,12 +18,6 @@ add-from-2 : tie.Need-add-from-2
 add-from-2 c =
     let a = c .before .before .args in
     omega (arith, rest-fits (a .size) (a .count) (a .n) (c .if1 .left))
-
-mul-end : tie.Need-mul-end
-mul-end c = search needs
-
-add-end : tie.Need-add-end
-add-end c = search needs
 
 sub-zero : tie.Need-sub-zero
 sub-zero c =
@@ -38,12 +29,6 @@ part-zero-start c =
     let a = c .before .before .args in
     omega (arith, rest-fits (a .size) (a .count) (a .n) (c .if1 .left))
 
-part-zero-end : tie.Need-part-zero-end
-part-zero-end c = search needs
-
-zero-requires : tie.Need-zero-requires
-zero-requires c κs = search needs
-
 returns-2 : tie.Need-returns-2
 returns-2 c =
     let a = c .before .before .before .before .args in
@@ -52,15 +37,5 @@ returns-2 c =
 pub rest-spec : {M : Type 1} → statement M
 rest-spec =
     tie.close
-    (tie.spec
-    returns
-    add-from
-    mul-from
-    add-from-2
-    mul-end
-    add-end
-    sub-zero
-    part-zero-start
-    part-zero-end
-    zero-requires
-    returns-2)
+    (tie.spec returns (λ c. search needs) mul-from add-from-2 (λ c. search needs) (λ c. search needs) sub-zero
+    part-zero-start (λ c. search needs) (λ c κs. search needs) returns-2)

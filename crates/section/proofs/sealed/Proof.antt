@@ -12,7 +12,8 @@ use Rattle.laws.proofs.Tables.{when-true}
 use Rattle.model.specs.Bytes.{field, part}
 use Rattle.model.specs.Checksum.{sealed}
 use Rattle.section.specs.Section.{highestAt}
-use Rattle.section.proofs.SectionLaws.{Whole, whole-none, whole-room, whole-all, whole-stops, whole-on, none, one-more, step-on, front-is}
+use Rattle.section.proofs.SectionLaws.{Whole, whole-none, whole-room, whole-all, whole-stops, whole-on, none}
+use Rattle.section.proofs.SectionLaws.{one-more, step-on, front-is}
 use Rattle.section.proofs.sealed.Statement.{statement}
 use Rattle.section.proofs.sealed.Tie as tie
 
@@ -25,35 +26,11 @@ abbrev μ-loop : tie.MeasureT-loop
 loop-holds : tie.Need-loop-holds Inv-loop μ-loop
 loop-holds c = (whole-none _ _ _ _ (c .before .pre .0), omega arith, none _ _ _)
 
-add-end : tie.Need-add-end Inv-loop μ-loop
-add-end c = search needs
-
 add-end-2 : tie.Need-add-end-2 Inv-loop μ-loop
 add-end-2 c = omega (arith, whole-room _ _ _ _ _ _ (c .before .loop .inv .0) (c .loop-test .taken))
 
-sub-item : tie.Need-sub-item Inv-loop μ-loop
-sub-item c = search needs
-
-part-item-start : tie.Need-part-item-start Inv-loop μ-loop
-part-item-start c = search needs
-
 part-item-end : tie.Need-part-item-end Inv-loop μ-loop
 part-item-end c = whole-room _ _ _ _ _ _ (c .before .loop .inv .0) (c .loop-test .taken)
-
-holds-requires : tie.Need-holds-requires Inv-loop μ-loop
-holds-requires c κs = search needs
-
-u32-at-requires : tie.Need-u32-at-requires Inv-loop μ-loop
-u32-at-requires c κs = search needs
-
-larger-requires : tie.Need-larger-requires Inv-loop μ-loop
-larger-requires c κs = search needs
-
-add-k : tie.Need-add-k Inv-loop μ-loop
-add-k c = search needs
-
-loop-less : tie.Need-loop-less Inv-loop μ-loop
-loop-less c = search needs
 
 loop-again : tie.Need-loop-again Inv-loop μ-loop
 loop-again c =
@@ -86,20 +63,6 @@ returns c =
 pub sealed-spec : {M : Type 1} → statement M
 sealed-spec =
     tie.close
-    (tie.spec
-    Inv-loop
-    μ-loop
-    loop-holds
-    add-end
-    add-end-2
-    sub-item
-    part-item-start
-    part-item-end
-    holds-requires
-    u32-at-requires
-    larger-requires
-    add-k
-    loop-less
-    loop-again
-    cast-t16
-    returns)
+    (tie.spec Inv-loop μ-loop loop-holds (λ c. search needs) add-end-2 (λ c. search needs) (λ c. search needs)
+    part-item-end (λ c κs. search needs) (λ c κs. search needs) (λ c κs. search needs) (λ c. search needs)
+    (λ c. search needs) loop-again cast-t16 returns)

@@ -10,17 +10,8 @@ use Rattle.section.proofs.start.Tie as tie
 returns : tie.Need-returns
 returns c = λ h. absurd (omega (arith, c .if1 .taken))
 
-sub-b : tie.Need-sub-b
-sub-b c = search needs
-
-cast-result : tie.Need-cast-result
-cast-result c = search needs
-
 returns-2 : tie.Need-returns-2
 returns-2 c = λ h. sym (mod-eq-of-lt (c .if2 .taken))
-
-rem-result : tie.Need-rem-result
-rem-result c = search needs
 
 cast-result-2 : tie.Need-cast-result-2
 cast-result-2 c =
@@ -28,10 +19,8 @@ cast-result-2 c =
     let m : (a .first - 1) % a .slots < a .slots = mod-lt (a .first - 1) (omega (arith, c .before .if1 .left)) in
     omega (arith, m)
 
-returns-3 : tie.Need-returns-3
-returns-3 c = search needs
-
 pub start-spec : {M : Type 1} → statement M
 start-spec =
     tie.close
-    (tie.spec returns sub-b cast-result returns-2 rem-result cast-result-2 returns-3)
+    (tie.spec returns (λ c. search needs) (λ c. search needs) returns-2 (λ c. search needs) cast-result-2
+    (λ c. search needs))

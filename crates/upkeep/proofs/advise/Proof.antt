@@ -6,20 +6,11 @@ use borrow.Author.Needs.{needs}
 use Rattle.upkeep.proofs.advise.Statement.{statement}
 use Rattle.upkeep.proofs.advise.Tie as tie
 
-refusal-requires : tie.Need-refusal-requires
-refusal-requires c κs = search needs
-
-refused-requires : tie.Need-refused-requires
-refused-requires c κs = search needs
-
 returns : tie.Need-returns
 returns c =
     let a = c .before .before .before .before .before .args in
     advise-refused (now (a .volume)) (now (a .memory)) (a .s) (a .frame) _ (c .before .before .refusal .ensures) _
     (c .before .if1 .taken) (c .refused .ensures)
-
-geometry-requires : tie.Need-geometry-requires
-geometry-requires c κs = search needs
 
 policy-requires : tie.Need-policy-requires
 policy-requires c κs =
@@ -38,10 +29,4 @@ returns-2 c =
 pub advise-spec : {M : Type 1} → statement M
 advise-spec =
     tie.close
-    (tie.spec
-    refusal-requires
-    refused-requires
-    returns
-    geometry-requires
-    policy-requires
-    returns-2)
+    (tie.spec (λ c κs. search needs) (λ c κs. search needs) returns (λ c κs. search needs) policy-requires returns-2)

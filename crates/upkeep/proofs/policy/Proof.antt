@@ -11,32 +11,17 @@ use Rattle.upkeep.proofs.policy.Tie as tie
 enum-told : tie.Need-enum-told
 enum-told c = search needs
 
-make-requires : tie.Need-make-requires
-make-requires c κs = search needs
-
 returns : tie.Need-returns
 returns c =
     let a = c .before .before .before .before .before .args in
     policy-note (now (a .volume)) (now (a .memory)) (a .s) (a .frame) _
     (ap notePending (c .before .enum-told .given .1)) (c .make .ensures)
 
-enum-told-2 : tie.Need-enum-told-2
-enum-told-2 c = search needs
-
-make-requires-2 : tie.Need-make-requires-2
-make-requires-2 c κs = search needs
-
 returns-2 : tie.Need-returns-2
 returns-2 c =
     let a = c .before .before .before .before .before .before .before .args in
     policy-force (now (a .volume)) (now (a .memory)) (a .s) (a .frame) _
     (ap notePending (c .before .before .before .enum-told2 .given .1)) (c .before .if1 .taken) (c .make2 .ensures)
-
-ring-requires : tie.Need-ring-requires
-ring-requires c κs = search needs
-
-idle-requires : tie.Need-idle-requires
-idle-requires c κs = search needs
 
 returns-3 : tie.Need-returns-3
 returns-3 c =
@@ -64,15 +49,5 @@ returns-4 c =
 pub policy-spec : {M : Type 1} → statement M
 policy-spec =
     tie.close
-    (tie.spec
-    enum-told
-    make-requires
-    returns
-    enum-told-2
-    make-requires-2
-    returns-2
-    ring-requires
-    idle-requires
-    returns-3
-    renewed-requires
-    returns-4)
+    (tie.spec enum-told (λ c κs. search needs) returns (λ c. search needs) (λ c κs. search needs) returns-2
+    (λ c κs. search needs) (λ c κs. search needs) returns-3 renewed-requires returns-4)

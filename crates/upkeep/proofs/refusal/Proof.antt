@@ -30,5 +30,4 @@ returns c =
     (c .before .first .ensures) (c .first2 .ensures)
 
 pub refusal-spec : {M : Type 1} → statement M
-refusal-spec =
-    tie.close (tie.spec refusal-requires frames-requires first-requires first-requires-2 returns)
+refusal-spec = tie.close (tie.spec refusal-requires frames-requires first-requires first-requires-2 returns)

@@ -8,9 +8,6 @@ use borrow.Author.Needs.{needs}
 use Rattle.upkeep.proofs.renewed.Statement.{statement}
 use Rattle.upkeep.proofs.renewed.Tie as tie
 
-first-requires : tie.Need-first-requires
-first-requires c κs = search needs
-
 full-requires : tie.Need-full-requires
 full-requires c κs = c .before .before .before .pre .2
 
@@ -20,9 +17,6 @@ at-requires c κs =
     let p = c .before .before .before .before .before .pre in
     let h = note-hit (a .g) (now (a .volume)) (a .s) _ (c .before .before .first .ensures) (c .if1 .taken) in
     (p .0, p .1, h .0, h .1)
-
-cast-renew : tie.Need-cast-renew
-cast-renew c = search needs
 
 renew-requires : tie.Need-renew-requires
 renew-requires c κs =
@@ -37,9 +31,6 @@ returns c =
     let p = c .before .before .before .before .before .before .before .before .before .pre in
     ring-note (now (a .volume)) (now (a .memory)) (a .s) (a .frame) _ (a .g) (p .1) _
     (q .before .before .before .first .ensures) _ (q .before .if1 .taken) (q .at .ensures) (c .renew .ensures)
-
-first-requires-2 : tie.Need-first-requires-2
-first-requires-2 c κs = search needs
 
 page-requires : tie.Need-page-requires
 page-requires c κs =
@@ -63,9 +54,6 @@ returns-2 c =
     (q .before .before .before .first .ensures) (q .before .if1 .left) _ (q .first2 .ensures) _
     (c .before .before .if2 .taken) (c .before .page .ensures) (c .renew2 .ensures)
 
-idle-requires : tie.Need-idle-requires
-idle-requires c κs = search needs
-
 returns-3 : tie.Need-returns-3
 returns-3 c =
     let q = c .before .before .before in
@@ -78,16 +66,5 @@ returns-3 c =
 pub renewed-spec : {M : Type 1} → statement M
 renewed-spec =
     tie.close
-    (tie.spec
-    first-requires
-    full-requires
-    at-requires
-    cast-renew
-    renew-requires
-    returns
-    first-requires-2
-    page-requires
-    renew-requires-2
-    returns-2
-    idle-requires
-    returns-3)
+    (tie.spec (λ c κs. search needs) full-requires at-requires (λ c. search needs) renew-requires returns
+    (λ c κs. search needs) page-requires renew-requires-2 returns-2 (λ c κs. search needs) returns-3)

@@ -39,18 +39,6 @@ returns c =
 pend-requires : tie.Need-pend-requires
 pend-requires c κs = let k = known (c .before) in (k .records, omega (arith, k .last), format-fits _, omega (arith, k .page-high))
 
-frame-at-requires : tie.Need-frame-at-requires
-frame-at-requires c κs = search needs
-
-add-end : tie.Need-add-end
-add-end c = search needs
-
-sub-format : tie.Need-sub-format
-sub-format c = search needs
-
-part-format-start : tie.Need-part-format-start
-part-format-start c = search needs
-
 part-format-end : tie.Need-part-format-end
 part-format-end c =
     let p = c .before .before .before in
@@ -70,9 +58,6 @@ appended-requires c κs =
     let k = known (c .before .before .before .before .before .before .before .before .before) in
     (k .page-low, k .page-high, k .frame-low, k .frame-high, omega (arith, k .last), omega (arith, k .pending))
 
-same-length : tie.Need-same-length
-same-length c = search needs
-
 returns-2 : tie.Need-returns-2
 returns-2 c =
     let f = c .before .before .before in
@@ -90,16 +75,5 @@ returns-2 c =
 pub begin-spec : {M : Type 1} → statement M
 begin-spec =
     tie.close
-    (tie.spec
-    refusal-requires
-    returns
-    pend-requires
-    frame-at-requires
-    add-end
-    sub-format
-    part-format-start
-    part-format-end
-    format-requires
-    appended-requires
-    same-length
-    returns-2)
+    (tie.spec refusal-requires returns pend-requires (λ c κs. search needs) (λ c. search needs) (λ c. search needs)
+    (λ c. search needs) part-format-end format-requires appended-requires (λ c. search needs) returns-2)

@@ -8,12 +8,6 @@ use Rattle.append.proofs.begin.refusal.Tie as tie
 returns : tie.Need-returns
 returns c = λ m e. begin-first _ m _ _ (c .before .before .pre m e) _ _ (c .if1 .taken)
 
-geometry-requires : tie.Need-geometry-requires
-geometry-requires c κs = search needs
-
-frames-requires : tie.Need-frames-requires
-frames-requires c κs = search needs
-
 own-requires : tie.Need-own-requires
 own-requires c κs =
     let i = c .before .before in
@@ -27,6 +21,4 @@ returns-2 c = λ m e.
     (c .own .ensures) e
 
 pub refusal-spec : {M : Type 1} → statement M
-refusal-spec =
-    tie.close
-    (tie.spec returns geometry-requires frames-requires own-requires returns-2)
+refusal-spec = tie.close (tie.spec returns (λ c κs. search needs) (λ c κs. search needs) own-requires returns-2)

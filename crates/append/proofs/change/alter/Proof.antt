@@ -10,21 +10,6 @@ use borrow.Author.Needs.{needs}
 use Rattle.append.proofs.change.alter.Statement.{statement}
 use Rattle.append.proofs.change.alter.Tie as tie
 
-put-u32-requires : tie.Need-put-u32-requires
-put-u32-requires c κs = search needs
-
-slice-aggregate-apply : tie.Need-slice-aggregate-apply
-slice-aggregate-apply c = search needs
-
-sub-apply : tie.Need-sub-apply
-sub-apply c = search needs
-
-part-apply-start : tie.Need-part-apply-start
-part-apply-start c = search needs
-
-part-apply-end : tie.Need-part-apply-end
-part-apply-end c = search needs
-
 apply-requires : tie.Need-apply-requires
 apply-requires c κs =
     let p = c .before .before .before .before in
@@ -40,9 +25,6 @@ apply-requires c κs =
       simp (length-take, length-drop) (omega (arith, s .pre .0, p .put-u32 .kept)),
     )
 
-same-length : tie.Need-same-length
-same-length c = search needs
-
 returns : tie.Need-returns
 returns c =
     let a = c .before .before in
@@ -55,12 +37,5 @@ returns c =
 pub alter-spec : {M : Type 1} → statement M
 alter-spec =
     tie.close
-    (tie.spec
-    put-u32-requires
-    slice-aggregate-apply
-    sub-apply
-    part-apply-start
-    part-apply-end
-    apply-requires
-    same-length
-    returns)
+    (tie.spec (λ c κs. search needs) (λ c. search needs) (λ c. search needs) (λ c. search needs) (λ c. search needs)
+    apply-requires (λ c. search needs) returns)

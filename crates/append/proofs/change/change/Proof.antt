@@ -51,21 +51,6 @@ returns c =
 pend-requires : tie.Need-pend-requires
 pend-requires c κs = let k = known (c .before) in (k .records, omega (arith, k .last), obeys (c .before), omega (arith, k .page-high))
 
-holder-requires : tie.Need-holder-requires
-holder-requires c κs = search needs
-
-frame-at-requires : tie.Need-frame-at-requires
-frame-at-requires c κs = search needs
-
-add-end : tie.Need-add-end
-add-end c = search needs
-
-sub-alter : tie.Need-sub-alter
-sub-alter c = search needs
-
-part-alter-start : tie.Need-part-alter-start
-part-alter-start c = search needs
-
 part-alter-end : tie.Need-part-alter-end
 part-alter-end c =
     let p = c .before .before .before .before in
@@ -94,9 +79,6 @@ appended-requires c κs =
           (arith, k .pending),
     )
 
-same-length : tie.Need-same-length
-same-length c = search needs
-
 returns-2 : tie.Need-returns-2
 returns-2 c =
     let f = c .before .before .before in
@@ -117,17 +99,6 @@ returns-2 c =
 pub change-spec : {M : Type 1} → statement M
 change-spec =
     tie.close
-    (tie.spec
-    refusal-requires
-    returns
-    pend-requires
-    holder-requires
-    frame-at-requires
-    add-end
-    sub-alter
-    part-alter-start
-    part-alter-end
-    alter-requires
-    appended-requires
-    same-length
+    (tie.spec refusal-requires returns pend-requires (λ c κs. search needs) (λ c κs. search needs) (λ c. search needs)
+    (λ c. search needs) (λ c. search needs) part-alter-end alter-requires appended-requires (λ c. search needs)
     returns-2)

@@ -5,24 +5,6 @@ use borrow.Author.Needs.{needs}
 use Rattle.append.proofs.change.own.Statement.{statement}
 use Rattle.append.proofs.change.own.Tie as tie
 
-obeys-requires : tie.Need-obeys-requires
-obeys-requires c κs = search needs
-
-held-requires : tie.Need-held-requires
-held-requires c κs = search needs
-
-refusal-requires : tie.Need-refusal-requires
-refusal-requires c κs = search needs
-
-first-requires : tie.Need-first-requires
-first-requires c κs = search needs
-
-first-requires-2 : tie.Need-first-requires-2
-first-requires-2 c κs = search needs
-
-first-requires-3 : tie.Need-first-requires-3
-first-requires-3 c κs = search needs
-
 returns : tie.Need-returns
 returns c =
     let l = c .before .before .before in
@@ -35,11 +17,5 @@ returns c =
 pub own-spec : {M : Type 1} → statement M
 own-spec =
     tie.close
-    (tie.spec
-    obeys-requires
-    held-requires
-    refusal-requires
-    first-requires
-    first-requires-2
-    first-requires-3
-    returns)
+    (tie.spec (λ c κs. search needs) (λ c κs. search needs) (λ c κs. search needs) (λ c κs. search needs)
+    (λ c κs. search needs) (λ c κs. search needs) returns)

@@ -8,9 +8,6 @@ use Rattle.append.proofs.change.refusal.Tie as tie
 returns : tie.Need-returns
 returns c = λ m e. change-first _ m _ _ (c .before .before .pre m e) _ _ (c .if1 .taken)
 
-geometry-requires : tie.Need-geometry-requires
-geometry-requires c κs = search needs
-
 own-requires : tie.Need-own-requires
 own-requires c κs =
     let i = c .before in
@@ -23,5 +20,4 @@ returns-2 c = λ m e.
     change-rows _ m _ _ (i .before .before .pre m e) _ _ _ _ (i .if1 .left) (g .geometry .ensures) (c .own .ensures)
 
 pub refusal-spec : {M : Type 1} → statement M
-refusal-spec =
-    tie.close (tie.spec returns geometry-requires own-requires returns-2)
+refusal-spec = tie.close (tie.spec returns (λ c κs. search needs) own-requires returns-2)

@@ -8,36 +8,6 @@ use borrow.Author.Needs.{needs}
 use Rattle.append.proofs.pending.pend.Statement.{statement}
 use Rattle.append.proofs.pending.pend.Tie as tie
 
-add-lsn : tie.Need-add-lsn
-add-lsn c = search needs
-
-add-lsn-2 : tie.Need-add-lsn-2
-add-lsn-2 c = search needs
-
-entry-requires : tie.Need-entry-requires
-entry-requires c κs = search needs
-
-pending-at-requires : tie.Need-pending-at-requires
-pending-at-requires c κs = search needs
-
-add-end : tie.Need-add-end
-add-end c = search needs
-
-sub-encode : tie.Need-sub-encode
-sub-encode c = search needs
-
-part-encode-start : tie.Need-part-encode-start
-part-encode-start c = search needs
-
-part-encode-end : tie.Need-part-encode-end
-part-encode-end c = search needs
-
-encode-requires : tie.Need-encode-requires
-encode-requires c κs = search needs
-
-same-length : tie.Need-same-length
-same-length c = search needs
-
 returns : tie.Need-returns
 returns c =
     let e = c .before .before in
@@ -52,15 +22,5 @@ returns c =
 pub pend-spec : {M : Type 1} → statement M
 pend-spec =
     tie.close
-    (tie.spec
-    add-lsn
-    add-lsn-2
-    entry-requires
-    pending-at-requires
-    add-end
-    sub-encode
-    part-encode-start
-    part-encode-end
-    encode-requires
-    same-length
-    returns)
+    (tie.spec (λ c. search needs) (λ c. search needs) (λ c κs. search needs) (λ c κs. search needs) (λ c. search needs)
+    (λ c. search needs) (λ c. search needs) (λ c. search needs) (λ c κs. search needs) (λ c. search needs) returns)

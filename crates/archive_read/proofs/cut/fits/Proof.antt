@@ -7,17 +7,8 @@ use denote.Ref.{now}
 use Rattle.archive_read.proofs.cut.fits.Statement.{statement}
 use Rattle.archive_read.proofs.cut.fits.Tie as tie
 
-sub-left : tie.Need-sub-left
-sub-left c = search needs
-
 returns : tie.Need-returns
 returns c = let a = c .before .before .args in sym (fits-short (now (a .archive)) (a .at) (c .if1 .taken))
-
-u32-at-requires : tie.Need-u32-at-requires
-u32-at-requires c κs = search needs
-
-cast-count : tie.Need-cast-count
-cast-count c = search needs
 
 returns-2 : tie.Need-returns-2
 returns-2 c =
@@ -25,4 +16,4 @@ returns-2 c =
     fits-count (now (a .archive)) (a .at) (omega (arith, c .before .if1 .left)) _ (c .u32-at .ensures)
 
 pub fits-spec : {M : Type 1} → statement M
-fits-spec = tie.close (tie.spec sub-left returns u32-at-requires cast-count returns-2)
+fits-spec = tie.close (tie.spec (λ c. search needs) returns (λ c κs. search needs) (λ c. search needs) returns-2)

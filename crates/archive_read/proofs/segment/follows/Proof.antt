@@ -4,18 +4,6 @@ use borrow.Author.Needs.{needs}
 use Rattle.archive_read.proofs.segment.follows.Statement.{statement}
 use Rattle.archive_read.proofs.segment.follows.Tie as tie
 
-read-requires : tie.Need-read-requires
-read-requires c κs = search needs
-
-cast-owner : tie.Need-cast-owner
-cast-owner c = search needs
-
-holds-requires : tie.Need-holds-requires
-holds-requires c κs = search needs
-
-layout-requires : tie.Need-layout-requires
-layout-requires c κs = search needs
-
 returns : tie.Need-returns
 returns c =
     let h = c .before .holds in
@@ -23,4 +11,6 @@ returns c =
     follows-is _ _ _ _ _ _ (e .ensures) (h .ensures) (c .layout .ensures)
 
 pub follows-spec : {M : Type 1} → statement M
-follows-spec = tie.close (tie.spec read-requires cast-owner holds-requires layout-requires returns)
+follows-spec =
+    tie.close
+    (tie.spec (λ c κs. search needs) (λ c. search needs) (λ c κs. search needs) (λ c κs. search needs) returns)

@@ -9,15 +9,6 @@ use borrow.Author.Needs.{needs}
 use Rattle.archive_read.proofs.segment.rebuild.Statement.{statement}
 use Rattle.archive_read.proofs.segment.rebuild.Tie as tie
 
-fill-requires : tie.Need-fill-requires
-fill-requires c κs = search needs
-
-u32-at-requires : tie.Need-u32-at-requires
-u32-at-requires c κs = search needs
-
-same-length : tie.Need-same-length
-same-length c = search needs
-
 returns : tie.Need-returns
 returns c =
     let s = c .before .before .before .before .before .before .before .before in
@@ -26,18 +17,6 @@ returns c =
     let none : c .before .u32-at .result ≡ 0 = omega (arith, c .if1 .taken) in
     image-blank (a .page) (now (a .archive)) (a .at) _ (c .before .u32-at .ensures) none _ _ f (s .pre .1 .1 .1)
 
-sub-body : tie.Need-sub-body
-sub-body c = search needs
-
-part-body-start : tie.Need-part-body-start
-part-body-start c = search needs
-
-part-body-end : tie.Need-part-body-end
-part-body-end c = search needs
-
-add-replay : tie.Need-add-replay
-add-replay c = search needs
-
 replay-requires : tie.Need-replay-requires
 replay-requires c κs =
     let s = c .before .before .before .before .before .before .before .before .before in
@@ -45,12 +24,6 @@ replay-requires c κs =
     let n = c .before .before .u32-at in
     let room = front-room (now (a .archive)) (a .at) (s .pre .0 .0) (s .pre .0 .1) (n .result) (n .ensures) in
     (room, (judged-front (a .page) (now (a .archive)) (a .at) (n .result) (n .ensures) (s .pre .1 .0), search needs))
-
-build-requires : tie.Need-build-requires
-build-requires c κs = search needs
-
-same-length-2 : tie.Need-same-length-2
-same-length-2 c = search needs
 
 returns-2 : tie.Need-returns-2
 returns-2 c =
@@ -66,16 +39,6 @@ returns-2 c =
 pub rebuild-spec : {M : Type 1} → statement M
 rebuild-spec =
     tie.close
-    (tie.spec
-    fill-requires
-    u32-at-requires
-    same-length
-    returns
-    sub-body
-    part-body-start
-    part-body-end
-    add-replay
-    replay-requires
-    build-requires
-    same-length-2
-    returns-2)
+    (tie.spec (λ c κs. search needs) (λ c κs. search needs) (λ c. search needs) returns (λ c. search needs)
+    (λ c. search needs) (λ c. search needs) (λ c. search needs) replay-requires (λ c κs. search needs)
+    (λ c. search needs) returns-2)

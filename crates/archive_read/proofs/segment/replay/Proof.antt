@@ -30,17 +30,11 @@ replay-requires c κs =
     let room = replaying-room _ _ _ _ _ _ _ (l .inv) t in
     (part-long _ _ _ r room, replaying-layout _ _ _ _ _ _ _ (l .inv) t _ r, l .inv .size)
 
-u32-at-requires : tie.Need-u32-at-requires Inv-loop μ-loop
-u32-at-requires c κs = search needs
-
 add-from : tie.Need-add-from Inv-loop μ-loop
 add-from c =
     let l = c .before .before .before .before .before .before .before .loop in
     let r = replaying-room _ _ _ _ _ _ _ (l .inv) (c .before .before .before .before .before .before .loop-test .taken) in
     search needs
-
-sub-left : tie.Need-sub-left Inv-loop μ-loop
-sub-left c = search needs
 
 loop-less : tie.Need-loop-less Inv-loop μ-loop
 loop-less c = let t = c .before .before .before .before .before .before .loop-test .taken in omega (arith, t)
@@ -62,16 +56,5 @@ returns c = replaying-end _ _ _ _ _ _ _ (c .before .loop .inv) (c .loop-test .le
 pub replay-spec : {M : Type 1} → statement M
 replay-spec =
     tie.close
-    (tie.spec
-    Inv-loop
-    μ-loop
-    loop-holds
-    part-requires
-    replay-requires
-    u32-at-requires
-    add-from
-    sub-left
-    loop-less
-    loop-again
-    same-length
-    returns)
+    (tie.spec Inv-loop μ-loop loop-holds part-requires replay-requires (λ c κs. search needs) add-from
+    (λ c. search needs) loop-less loop-again same-length returns)

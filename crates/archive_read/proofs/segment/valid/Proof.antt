@@ -15,12 +15,6 @@ Inv-loop archive at page left₀ from₀ last₀ left from last = Judging archiv
 abbrev μ-loop : tie.MeasureT-loop
 μ-loop archive at page left₀ from₀ last₀ left from last = left
 
-u32-at-requires : tie.Need-u32-at-requires Inv-loop μ-loop
-u32-at-requires c κs = search needs
-
-add-from : tie.Need-add-from Inv-loop μ-loop
-add-from c = search needs
-
 loop-holds : tie.Need-loop-holds Inv-loop μ-loop
 loop-holds c = let h = c .before .before .pre in judging-all _ _ _ _ (h .0) (h .1) (c .u32-at .ensures)
 
@@ -38,17 +32,8 @@ returns c =
     let t = c .before .before .before .loop-test .taken in
     judging-not _ _ _ _ _ _ (l .inv) t _ (c .before .before .part .ensures) (sym (c .before .follows .ensures) ∙ not-true _ (c .if1 .taken))
 
-u32-at-requires-2 : tie.Need-u32-at-requires-2 Inv-loop μ-loop
-u32-at-requires-2 c κs = search needs
-
 add-from-2 : tie.Need-add-from-2 Inv-loop μ-loop
 add-from-2 c = let l = c .before .before .before .before .before .loop in search needs
-
-sub-left : tie.Need-sub-left Inv-loop μ-loop
-sub-left c = search needs
-
-loop-less : tie.Need-loop-less Inv-loop μ-loop
-loop-less c = search needs
 
 loop-again : tie.Need-loop-again Inv-loop μ-loop
 loop-again c =
@@ -63,18 +48,5 @@ returns-2 c = judging-end _ _ _ _ _ _ (c .before .loop .inv) (c .loop-test .left
 pub valid-spec : {M : Type 1} → statement M
 valid-spec =
     tie.close
-    (tie.spec
-    Inv-loop
-    μ-loop
-    u32-at-requires
-    add-from
-    loop-holds
-    part-requires
-    follows-requires
-    returns
-    u32-at-requires-2
-    add-from-2
-    sub-left
-    loop-less
-    loop-again
-    returns-2)
+    (tie.spec Inv-loop μ-loop (λ c κs. search needs) (λ c. search needs) loop-holds part-requires follows-requires
+    returns (λ c κs. search needs) add-from-2 (λ c. search needs) (λ c. search needs) loop-again returns-2)

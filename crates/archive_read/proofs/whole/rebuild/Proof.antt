@@ -22,9 +22,6 @@ room c = rebuilding-room _ _ _ _ _ (c .before .loop .inv) (c .loop-test .taken)
 loop-holds : tie.Need-loop-holds Inv-loop μ-loop
 loop-holds c = let h = c .before .before .pre in rebuilding-all _ _ _ (h .0) (h .2)
 
-cast-from : tie.Need-cast-from Inv-loop μ-loop
-cast-from c = search needs
-
 mul-from : tie.Need-mul-from Inv-loop μ-loop
 mul-from c = let r = room c in search needs
 
@@ -81,21 +78,5 @@ returns c = rebuilding-end _ _ _ _ _ (c .before .loop .inv) (c .loop-test .left)
 pub rebuild-spec : {M : Type 1} → statement M
 rebuild-spec =
     tie.close
-    (tie.spec
-    Inv-loop
-    μ-loop
-    loop-holds
-    cast-from
-    mul-from
-    add-end
-    add-rebuild
-    sub-rebuild
-    part-rebuild-start
-    part-rebuild-end
-    rebuild-requires
-    past-requires
-    add-i
-    loop-less
-    loop-again
-    same-length
-    returns)
+    (tie.spec Inv-loop μ-loop loop-holds (λ c. search needs) mul-from add-end add-rebuild sub-rebuild
+    part-rebuild-start part-rebuild-end rebuild-requires past-requires add-i loop-less loop-again same-length returns)

@@ -68,17 +68,5 @@ returns-3 c = checking-end _ _ _ _ (c .before .loop .inv) (c .loop-test .left)
 pub valid-spec : {M : Type 1} → statement M
 valid-spec =
     tie.close
-    (tie.spec
-    Inv-loop
-    μ-loop
-    loop-holds
-    fits-requires
-    returns
-    add-valid
-    valid-requires
-    returns-2
-    past-requires
-    add-i
-    loop-less
-    loop-again
-    returns-3)
+    (tie.spec Inv-loop μ-loop loop-holds fits-requires returns add-valid valid-requires returns-2 past-requires add-i
+    loop-less loop-again returns-3)

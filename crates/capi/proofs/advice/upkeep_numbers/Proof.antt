@@ -6,27 +6,6 @@ use Rattle.capi.proofs.advice.upkeep_numbers.Tie as tie
 enum-told : tie.Need-enum-told
 enum-told c = search needs
 
-plain-requires : tie.Need-plain-requires
-plain-requires c κs = search needs
-
-enum-told-2 : tie.Need-enum-told-2
-enum-told-2 c = search needs
-
-plain-requires-2 : tie.Need-plain-requires-2
-plain-requires-2 c κs = search needs
-
-enum-known-a : tie.Need-enum-known-a
-enum-known-a c = search needs
-
-plain-requires-3 : tie.Need-plain-requires-3
-plain-requires-3 c κs = search needs
-
-enum-known-a-2 : tie.Need-enum-known-a-2
-enum-known-a-2 c = search needs
-
-command-numbers-requires : tie.Need-command-numbers-requires
-command-numbers-requires c κs = search needs
-
 returns : tie.Need-returns
 returns c = rw (c .before .enum-told .given .1) (c .plain .ensures)
 
@@ -42,16 +21,5 @@ returns-4 c = rw (c .before .before .a2 .given .1) (c .command-numbers .ensures)
 pub upkeep-numbers-spec : {M : Type 1} → statement M
 upkeep-numbers-spec =
     tie.close
-    (tie.spec
-    enum-told
-    plain-requires
-    enum-told-2
-    plain-requires-2
-    enum-known-a
-    plain-requires-3
-    enum-known-a-2
-    command-numbers-requires
-    returns
-    returns-2
-    returns-3
-    returns-4)
+    (tie.spec enum-told (λ c κs. search needs) (λ c. search needs) (λ c κs. search needs) (λ c. search needs)
+    (λ c κs. search needs) (λ c. search needs) (λ c κs. search needs) returns returns-2 returns-3 returns-4)

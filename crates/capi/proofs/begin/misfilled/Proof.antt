@@ -8,15 +8,6 @@ use borrow.Author.Needs.{needs}
 use Rattle.capi.proofs.begin.misfilled.Statement.{statement}
 use Rattle.capi.proofs.begin.misfilled.Tie as tie
 
-fits-requires : tie.Need-fits-requires
-fits-requires c κs = search needs
-
-valid-requires : tie.Need-valid-requires
-valid-requires c κs = search needs
-
-first-requires : tie.Need-first-requires
-first-requires c κs = search needs
-
 returns : tie.Need-returns
 returns c = λ m report em er.
     let a = c .before .before .before .before .before .before .args in
@@ -28,10 +19,8 @@ decode-requires : tie.Need-decode-requires
 decode-requires c κs =
     let f = c .before .fits2 in
     let a = c .before .before .before .before .args in
-    long (a .state .now) (sym (f .ensures) ∙ and-left (f .result) (eqb (a .numbers) 5) (both (f .result) (eqb (a .numbers) 5) (c .if1 .left)))
-
-refusal-requires : tie.Need-refusal-requires
-refusal-requires c κs = search needs
+    long (a .state .now) (sym (f .ensures) ∙ and-left (f .result) (eqb (a .numbers) 5)
+    (both (f .result) (eqb (a .numbers) 5) (c .if1 .left)))
 
 returns-2 : tie.Need-returns-2
 returns-2 c = λ m report em er.
@@ -42,18 +31,6 @@ returns-2 c = λ m report em er.
     let a = i .before .before .before .before .args in
     misfilled-first (a .page) (a .frame) (a .volume .now) m (a .state .now) report (a .numbers) er (f .result) (f .ensures)
     (i .if1 .left) (a .size) em (d .result) (d .ensures) (q .result) (q .ensures) (c .if2 .taken)
-
-geometry-requires : tie.Need-geometry-requires
-geometry-requires c κs = search needs
-
-frames-requires : tie.Need-frames-requires
-frames-requires c κs = search needs
-
-first-requires-2 : tie.Need-first-requires-2
-first-requires-2 c κs = search needs
-
-first-requires-3 : tie.Need-first-requires-3
-first-requires-3 c κs = search needs
 
 returns-3 : tie.Need-returns-3
 returns-3 c = λ m report em er.
@@ -67,21 +44,12 @@ returns-3 c = λ m report em er.
     let a = i .before .before .before .before .args in
     misfilled-last (a .page) (a .frame) (a .volume .now) m (a .state .now) report (a .numbers) er (f .result) (f .ensures)
     (i .if1 .left) (a .size) em (d .result) (d .ensures) (q .result) (q .ensures) (z .if2 .left) (g .result) (g .ensures)
-    (k .frames .result) (k .frames .ensures) (c .before .first2 .result) (c .first3 .result) (c .before .first2 .ensures) (c .first3 .ensures)
+    (k .frames .result) (k .frames .ensures) (c .before .first2 .result) (c .first3 .result)
+    (c .before .first2 .ensures) (c .first3 .ensures)
 
 pub misfilled-spec : {M : Type 1} → statement M
 misfilled-spec =
     tie.close
-    (tie.spec
-    fits-requires
-    valid-requires
-    first-requires
-    returns
-    decode-requires
-    refusal-requires
-    returns-2
-    geometry-requires
-    frames-requires
-    first-requires-2
-    first-requires-3
-    returns-3)
+    (tie.spec (λ c κs. search needs) (λ c κs. search needs) (λ c κs. search needs) returns decode-requires
+    (λ c κs. search needs) returns-2 (λ c κs. search needs) (λ c κs. search needs) (λ c κs. search needs)
+    (λ c κs. search needs) returns-3)

@@ -9,12 +9,6 @@ returns c =
     let a = c .before .before .before .args in
     none (a .volume .now) (a .state .now) (c .if1 .taken)
 
-decode-requires : tie.Need-decode-requires
-decode-requires c κs = search needs
-
-failing-requires : tie.Need-failing-requires
-failing-requires c κs = search needs
-
 returns-2 : tie.Need-returns-2
 returns-2 c =
     let a = c .before .before .before .before .before .args in
@@ -22,4 +16,4 @@ returns-2 c =
     (c .before .decode .ensures) (c .failing .ensures)
 
 pub pagestore-failing-spec : {M : Type 1} → statement M
-pagestore-failing-spec = tie.close (tie.spec returns decode-requires failing-requires returns-2)
+pagestore-failing-spec = tie.close (tie.spec returns (λ c κs. search needs) (λ c κs. search needs) returns-2)

@@ -9,20 +9,11 @@ use borrow.Author.Needs.{needs}
 use Rattle.capi.proofs.slots.pagestore_record.Statement.{statement}
 use Rattle.capi.proofs.slots.pagestore_record.Tie as tie
 
-known-requires : tie.Need-known-requires
-known-requires c κs = search needs
-
 returns : tie.Need-returns
 returns c =
     let a = c .before .before .before .before .args in
     let k = c .before .known in
     slot-unknown (a .volume .now) (a .fields .now) (recordAt (a .slot)) recordNumbers (k .result) (k .ensures) (c .if1 .taken)
-
-geometry-requires : tie.Need-geometry-requires
-geometry-requires c κs = search needs
-
-refusal-requires : tie.Need-refusal-requires
-refusal-requires c κs = search needs
 
 returns-2 : tie.Need-returns-2
 returns-2 c =
@@ -31,9 +22,6 @@ returns-2 c =
     let g = c .before .before .before .geometry in
     slot-refused (a .volume .now) (a .fields .now) (g .result) (g .ensures) (recordAt (a .slot)) recordNumbers (r .result) (r .ensures)
     (c .if2 .taken)
-
-record-at-requires : tie.Need-record-at-requires
-record-at-requires c κs = search needs
 
 part-requires : tie.Need-part-requires
 part-requires c κs =
@@ -44,12 +32,6 @@ part-requires c κs =
     (c .before .if2 .left) in
     omega (arith, c .record-at .ensures, f)
 
-record-numbers-requires : tie.Need-record-numbers-requires
-record-numbers-requires c κs = search needs
-
-slice-aggregate-copy : tie.Need-slice-aggregate-copy
-slice-aggregate-copy c = search needs
-
 copy-requires : tie.Need-copy-requires
 copy-requires c κs =
     let a = c .before .before .before .before .before .before .before .before .before .before .before .before .before .args in
@@ -59,31 +41,21 @@ copy-requires c κs =
     (c .before .before .before .before .before .if2 .left)
     ∙ sym (ap length (c .before .before .record-numbers .ensures))
 
-same-length : tie.Need-same-length
-same-length c = search needs
-
 returns-3 : tie.Need-returns-3
 returns-3 c =
     let a = c .before .before .before .before .before .before .before .before .before .before .before .before .before .before .before .before .args in
     let r = c .before .before .before .before .before .before .before .before .before .refusal in
     let g = c .before .before .before .before .before .before .before .before .before .before .before .geometry in
     slot-done (a .volume .now) (a .fields .now) (g .result) (g .ensures) (recordAt (a .slot)) recordNumbers (r .result) (r .ensures)
-    (c .before .before .before .before .before .before .before .before .if2 .left) (c .before .before .before .before .before .before .before .record-at .result) _ _ _ (c .before .before .before .before .before .before .before .record-at .ensures) (c .before .before .before .before .before .before .part .ensures) (c .before .before .before .before .before .record-numbers .ensures)
+    (c .before .before .before .before .before .before .before .before .if2 .left)
+    (c .before .before .before .before .before .before .before .record-at .result) _ _ _
+    (c .before .before .before .before .before .before .before .record-at .ensures)
+    (c .before .before .before .before .before .before .part .ensures) (c .before .before .before .before .before .record-numbers .ensures)
     (c .before .before .copy .ensures)
 
 pub pagestore-record-spec : {M : Type 1} → statement M
 pagestore-record-spec =
     tie.close
-    (tie.spec
-    known-requires
-    returns
-    geometry-requires
-    refusal-requires
-    returns-2
-    record-at-requires
-    part-requires
-    record-numbers-requires
-    slice-aggregate-copy
-    copy-requires
-    same-length
+    (tie.spec (λ c κs. search needs) returns (λ c κs. search needs) (λ c κs. search needs) returns-2
+    (λ c κs. search needs) part-requires (λ c κs. search needs) (λ c. search needs) copy-requires (λ c. search needs)
     returns-3)

@@ -9,81 +9,59 @@ use borrow.Author.Needs.{needs}
 use Rattle.capi.proofs.slots.pagestore_slot.Statement.{statement}
 use Rattle.capi.proofs.slots.pagestore_slot.Tie as tie
 
-known-requires : tie.Need-known-requires
-known-requires c κs = search needs
-
 returns : tie.Need-returns
 returns c =
     let a = c .before .before .before .before .args in
     let k = c .before .known in
-    slot-unknown (a .volume .now) (a .fields .now) (slotAt (a .slot)) (backupNumbers (geometryOf (a .volume .now))) (k .result) (k .ensures) (c .if1 .taken)
-
-geometry-requires : tie.Need-geometry-requires
-geometry-requires c κs = search needs
-
-refusal-requires : tie.Need-refusal-requires
-refusal-requires c κs = search needs
+    slot-unknown (a .volume .now) (a .fields .now) (slotAt (a .slot)) (backupNumbers (geometryOf (a .volume .now)))
+    (k .result) (k .ensures) (c .if1 .taken)
 
 returns-2 : tie.Need-returns-2
 returns-2 c =
     let a = c .before .before .before .before .before .before .before .before .args in
     let r = c .before .refusal in
     let g = c .before .before .before .geometry in
-    slot-refused (a .volume .now) (a .fields .now) (g .result) (g .ensures) (slotAt (a .slot)) (backupNumbers (geometryOf (a .volume .now))) (r .result) (r .ensures)
+    slot-refused (a .volume .now) (a .fields .now) (g .result) (g .ensures) (slotAt (a .slot))
+    (backupNumbers (geometryOf (a .volume .now))) (r .result) (r .ensures)
     (c .if2 .taken)
-
-slot-at-requires : tie.Need-slot-at-requires
-slot-at-requires c κs = search needs
 
 part-requires : tie.Need-part-requires
 part-requires c κs =
     let a = c .before .before .before .before .before .before .before .before .before .args in
     let r = c .before .before .refusal in
     let g = c .before .before .before .before .geometry in
-    let f = slot-fits (a .volume .now) (a .fields .now) (g .result) (g .ensures) (slotAt (a .slot)) (backupNumbers (geometryOf (a .volume .now))) (r .result) (r .ensures)
+    let f = slot-fits (a .volume .now) (a .fields .now) (g .result) (g .ensures) (slotAt (a .slot))
+    (backupNumbers (geometryOf (a .volume .now))) (r .result) (r .ensures)
     (c .before .if2 .left) in
     omega (arith, c .slot-at .ensures, f)
-
-backup-numbers-requires : tie.Need-backup-numbers-requires
-backup-numbers-requires c κs = search needs
-
-slice-aggregate-copy : tie.Need-slice-aggregate-copy
-slice-aggregate-copy c = search needs
 
 copy-requires : tie.Need-copy-requires
 copy-requires c κs =
     let a = c .before .before .before .before .before .before .before .before .before .before .before .before .before .args in
     let r = c .before .before .before .before .before .before .refusal in
     let g = c .before .before .before .before .before .before .before .before .geometry in
-    slot-long (a .volume .now) (a .fields .now) (g .result) (g .ensures) (slotAt (a .slot)) (backupNumbers (geometryOf (a .volume .now))) (r .result) (r .ensures)
+    slot-long (a .volume .now) (a .fields .now) (g .result) (g .ensures) (slotAt (a .slot))
+    (backupNumbers (geometryOf (a .volume .now))) (r .result) (r .ensures)
     (c .before .before .before .before .before .if2 .left)
     ∙ sym (ap length (c .before .before .backup-numbers .ensures))
-
-same-length : tie.Need-same-length
-same-length c = search needs
 
 returns-3 : tie.Need-returns-3
 returns-3 c =
     let a = c .before .before .before .before .before .before .before .before .before .before .before .before .before .before .before .before .args in
     let r = c .before .before .before .before .before .before .before .before .before .refusal in
     let g = c .before .before .before .before .before .before .before .before .before .before .before .geometry in
-    slot-done (a .volume .now) (a .fields .now) (g .result) (g .ensures) (slotAt (a .slot)) (backupNumbers (geometryOf (a .volume .now))) (r .result) (r .ensures)
-    (c .before .before .before .before .before .before .before .before .if2 .left) (c .before .before .before .before .before .before .before .slot-at .result) _ _ _ (c .before .before .before .before .before .before .before .slot-at .ensures) (c .before .before .before .before .before .before .part .ensures) (told-under _ _ _ _ (g .ensures) (c .before .before .before .before .before .backup-numbers .ensures))
+    slot-done (a .volume .now) (a .fields .now) (g .result) (g .ensures) (slotAt (a .slot))
+    (backupNumbers (geometryOf (a .volume .now))) (r .result) (r .ensures)
+    (c .before .before .before .before .before .before .before .before .if2 .left)
+    (c .before .before .before .before .before .before .before .slot-at .result) _ _ _
+    (c .before .before .before .before .before .before .before .slot-at .ensures)
+    (c .before .before .before .before .before .before .part .ensures)
+    (told-under _ _ _ _ (g .ensures) (c .before .before .before .before .before .backup-numbers .ensures))
     (c .before .before .copy .ensures)
 
 pub pagestore-slot-spec : {M : Type 1} → statement M
 pagestore-slot-spec =
     tie.close
-    (tie.spec
-    known-requires
-    returns
-    geometry-requires
-    refusal-requires
-    returns-2
-    slot-at-requires
-    part-requires
-    backup-numbers-requires
-    slice-aggregate-copy
-    copy-requires
-    same-length
+    (tie.spec (λ c κs. search needs) returns (λ c κs. search needs) (λ c κs. search needs) returns-2
+    (λ c κs. search needs) part-requires (λ c κs. search needs) (λ c. search needs) copy-requires (λ c. search needs)
     returns-3)

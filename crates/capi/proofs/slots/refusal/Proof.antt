@@ -5,18 +5,6 @@ use borrow.Author.Needs.{needs}
 use Rattle.capi.proofs.slots.refusal.Statement.{statement}
 use Rattle.capi.proofs.slots.refusal.Tie as tie
 
-valid-requires : tie.Need-valid-requires
-valid-requires c κs = search needs
-
-first-requires : tie.Need-first-requires
-first-requires c κs = search needs
-
-first-requires-2 : tie.Need-first-requires-2
-first-requires-2 c κs = search needs
-
-first-requires-3 : tie.Need-first-requires-3
-first-requires-3 c κs = search needs
-
 returns : tie.Need-returns
 returns c =
     let v = c .before .before .before .valid in
@@ -26,4 +14,5 @@ returns c =
 
 pub refusal-spec : {M : Type 1} → statement M
 refusal-spec =
-    tie.close (tie.spec valid-requires first-requires first-requires-2 first-requires-3 returns)
+    tie.close
+    (tie.spec (λ c κs. search needs) (λ c κs. search needs) (λ c κs. search needs) (λ c κs. search needs) returns)

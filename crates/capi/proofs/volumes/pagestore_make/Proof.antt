@@ -4,17 +4,8 @@ use borrow.Author.Needs.{needs}
 use Rattle.capi.proofs.volumes.pagestore_make.Statement.{statement}
 use Rattle.capi.proofs.volumes.pagestore_make.Tie as tie
 
-make-requires : tie.Need-make-requires
-make-requires c κs = search needs
-
-number-requires : tie.Need-number-requires
-number-requires c κs = search needs
-
-same-length : tie.Need-same-length
-same-length c = search needs
-
 returns : tie.Need-returns
 returns c = let e = c .before .before .before .make .ensures in (c .number .ensures ∙ ap answerNumber (e .0), e .1)
 
 pub pagestore-make-spec : {M : Type 1} → statement M
-pagestore-make-spec = tie.close (tie.spec make-requires number-requires same-length returns)
+pagestore-make-spec = tie.close (tie.spec (λ c κs. search needs) (λ c κs. search needs) (λ c. search needs) returns)

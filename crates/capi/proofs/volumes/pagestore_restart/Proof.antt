@@ -4,52 +4,26 @@ use borrow.Author.Needs.{needs}
 use Rattle.capi.proofs.volumes.pagestore_restart.Statement.{statement}
 use Rattle.capi.proofs.volumes.pagestore_restart.Tie as tie
 
-valid-requires : tie.Need-valid-requires
-valid-requires c κs = search needs
-
-first-requires : tie.Need-first-requires
-first-requires c κs = search needs
-
 returns : tie.Need-returns
 returns c =
     let a = c .before .before .before .before .before .before .args in
-    restart-unlike (a .volume .now) (a .memory .now) (a .state .now) (c .first .result) (c .before .valid .result) (c .before .before .if1 .taken)
+    restart-unlike (a .volume .now) (a .memory .now) (a .state .now) (c .first .result) (c .before .valid .result)
+    (c .before .before .if1 .taken)
     (c .before .valid .ensures) (c .first .ensures)
-
-restart-requires : tie.Need-restart-requires
-restart-requires c κs = search needs
-
-encode-requires : tie.Need-encode-requires
-encode-requires c κs = search needs
-
-number-requires : tie.Need-number-requires
-number-requires c κs = search needs
-
-same-length : tie.Need-same-length
-same-length c = search needs
-
-same-length-2 : tie.Need-same-length-2
-same-length-2 c = search needs
 
 returns-2 : tie.Need-returns-2
 returns-2 c =
     let o = c .before .before .before .before .before .before .before .before .before in
     let a = c .before .before .before .before .before .before .before .before .before .before .before .before .before .before .before .args in
     let q = o .restart in
-    restart-alike (a .volume .now) (a .memory .now) (a .state .now) (o .before .before .if1 .left) (q .result .answer) (q .result .store .state)
+    restart-alike (a .volume .now) (a .memory .now) (a .state .now) (o .before .before .if1 .left) (q .result .answer)
+    (q .result .store .state)
     (c .number .result) (c .before .before .before .encode .last .1 .0) (q .last .1 .0)
-    (ap (λ r. r .answer) (q .ensures .0)) (ap (λ r. r .store .state) (q .ensures .0)) (q .ensures .1) (c .number .ensures) (c .before .before .before .encode .ensures)
+    (ap (λ r. r .answer) (q .ensures .0)) (ap (λ r. r .store .state) (q .ensures .0)) (q .ensures .1)
+    (c .number .ensures) (c .before .before .before .encode .ensures)
 
 pub pagestore-restart-spec : {M : Type 1} → statement M
 pagestore-restart-spec =
     tie.close
-    (tie.spec
-    valid-requires
-    first-requires
-    returns
-    restart-requires
-    encode-requires
-    number-requires
-    same-length
-    same-length-2
-    returns-2)
+    (tie.spec (λ c κs. search needs) (λ c κs. search needs) returns (λ c κs. search needs) (λ c κs. search needs)
+    (λ c κs. search needs) (λ c. search needs) (λ c. search needs) returns-2)

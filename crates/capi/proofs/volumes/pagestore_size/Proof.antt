@@ -7,14 +7,8 @@ use borrow.Author.Needs.{needs}
 use Rattle.capi.proofs.volumes.pagestore_size.Statement.{statement}
 use Rattle.capi.proofs.volumes.pagestore_size.Tie as tie
 
-counts-requires : tie.Need-counts-requires
-counts-requires c κs = search needs
-
 returns : tie.Need-returns
 returns c = let n = c .before .counts in rw (sym (n .ensures) ∙ not-true (n .result) (c .if1 .taken))
-
-size-requires : tie.Need-size-requires
-size-requires c κs = search needs
 
 cast-result : tie.Need-cast-result
 cast-result c =
@@ -29,5 +23,4 @@ returns-2 c =
     rw (sym (n .ensures) ∙ not-false (n .result) (c .before .if1 .left)) (c .size .ensures)
 
 pub pagestore-size-spec : {M : Type 1} → statement M
-pagestore-size-spec =
-    tie.close (tie.spec counts-requires returns size-requires cast-result returns-2)
+pagestore-size-spec = tie.close (tie.spec (λ c κs. search needs) returns (λ c κs. search needs) cast-result returns-2)

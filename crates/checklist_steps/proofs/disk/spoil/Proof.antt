@@ -3,11 +3,8 @@ use borrow.Author.Needs.{needs}
 use Rattle.checklist_steps.proofs.disk.spoil.Statement.{statement}
 use Rattle.checklist_steps.proofs.disk.spoil.Tie as tie
 
-give-back-requires : tie.Need-give-back-requires
-give-back-requires c κs = search needs
-
 returns : tie.Need-returns
 returns c = c .give-back .ensures
 
 pub spoil-spec : {M : Type 1} → statement M
-spoil-spec = tie.close (tie.spec give-back-requires returns)
+spoil-spec = tie.close (tie.spec (λ c κs. search needs) returns)

@@ -4,14 +4,8 @@ use borrow.Author.Needs.{needs}
 use Rattle.checklist_steps.proofs.steps.call.Statement.{statement}
 use Rattle.checklist_steps.proofs.steps.call.Tie as tie
 
-perform-requires : tie.Need-perform-requires
-perform-requires c κs = search needs
-
-told-requires : tie.Need-told-requires
-told-requires c κs = search needs
-
 returns : tie.Need-returns
 returns c = let e = c .before .perform .ensures in made-is _ _ _ _ _ _ _ _ _ (e .0) (c .told .ensures) (e .1 .0) (e .1 .1)
 
 pub call-spec : {M : Type 1} → statement M
-call-spec = tie.close (tie.spec perform-requires told-requires returns)
+call-spec = tie.close (tie.spec (λ c κs. search needs) (λ c κs. search needs) returns)

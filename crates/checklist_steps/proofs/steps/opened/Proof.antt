@@ -4,21 +4,6 @@ use borrow.Author.Needs.{needs}
 use Rattle.checklist_steps.proofs.steps.opened.Statement.{statement}
 use Rattle.checklist_steps.proofs.steps.opened.Tie as tie
 
-make-requires : tie.Need-make-requires
-make-requires c κs = search needs
-
-restart-requires : tie.Need-restart-requires
-restart-requires c κs = search needs
-
-begin-requires : tie.Need-begin-requires
-begin-requires c κs = search needs
-
-slice-aggregate-put : tie.Need-slice-aggregate-put
-slice-aggregate-put c = search needs
-
-put-requires : tie.Need-put-requires
-put-requires c κs = search needs
-
 returns : tie.Need-returns
 returns c =
     let k = c .before .before .before .before in
@@ -28,10 +13,5 @@ returns c =
 pub opened-spec : {M : Type 1} → statement M
 opened-spec =
     tie.close
-    (tie.spec
-    make-requires
-    restart-requires
-    begin-requires
-    slice-aggregate-put
-    put-requires
-    returns)
+    (tie.spec (λ c κs. search needs) (λ c κs. search needs) (λ c κs. search needs) (λ c. search needs)
+    (λ c κs. search needs) returns)

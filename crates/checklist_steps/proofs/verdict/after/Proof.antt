@@ -6,20 +6,11 @@ use Rattle.checklist_steps.proofs.Verdicts.{rebuilt-not, rebuilt-is}
 use Rattle.checklist_steps.proofs.verdict.after.Statement.{statement}
 use Rattle.checklist_steps.proofs.verdict.after.Tie as tie
 
-say-requires : tie.Need-say-requires
-say-requires c κs = search needs
-
-inspect-requires : tie.Need-inspect-requires
-inspect-requires c κs = search needs
-
 returns : tie.Need-returns
 returns c =
     let a = c .before .before .before .before .before .args in
     let o = inspectOf (now (a .v)) 1 (now (a .after)) in
     (rebuilt-not _ o (now (a .before)) (c .before .inspect .ensures .0) (c .if1 .taken), search needs)
-
-whole-requires : tie.Need-whole-requires
-whole-requires c κs = search needs
 
 returns-2 : tie.Need-returns-2
 returns-2 c =
@@ -30,4 +21,4 @@ returns-2 c =
     (rebuilt-is _ o (now (a .before)) (i .0) (k .if1 .left) _ (i .1) _ (c .whole .ensures), search needs)
 
 pub after-spec : {M : Type 1} → statement M
-after-spec = tie.close (tie.spec say-requires inspect-requires returns whole-requires returns-2)
+after-spec = tie.close (tie.spec (λ c κs. search needs) (λ c κs. search needs) returns (λ c κs. search needs) returns-2)

@@ -12,21 +12,6 @@ use Rattle.codec.proofs.field.u16_at.Tie as tie
 returns : tie.Need-returns
 returns c = sym (field-past 2 _ (now (c .before .before .args .s)) (c .if1 .taken))
 
-sub-if2 : tie.Need-sub-if2
-sub-if2 c = search needs
-
-two-requires : tie.Need-two-requires
-two-requires c κs = search needs
-
-shared-slice-read-u8-u16 : tie.Need-shared-slice-read-u8-u16
-shared-slice-read-u8-u16 c = search needs
-
-u8-u16-requires : tie.Need-u8-u16-requires
-u8-u16-requires c κs = search needs
-
-returns-2 : tie.Need-returns-2
-returns-2 c = search needs
-
 returns-3 : tie.Need-returns-3
 returns-3 c =
     let a = c .before .before .before .before .before .args in
@@ -36,11 +21,5 @@ returns-3 c =
 pub u16-at-spec : {M : Type 1} → statement M
 u16-at-spec =
     tie.close
-    (tie.spec
-    returns
-    sub-if2
-    two-requires
-    shared-slice-read-u8-u16
-    u8-u16-requires
-    returns-2
-    returns-3)
+    (tie.spec returns (λ c. search needs) (λ c κs. search needs) (λ c. search needs) (λ c κs. search needs)
+    (λ c. search needs) returns-3)

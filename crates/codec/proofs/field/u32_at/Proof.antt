@@ -11,36 +11,6 @@ use Rattle.codec.proofs.field.u32_at.Tie as tie
 returns : tie.Need-returns
 returns c = sym (field-past 4 _ (now (c .before .before .args .s)) (c .if1 .taken))
 
-sub-if2 : tie.Need-sub-if2
-sub-if2 c = search needs
-
-four-requires : tie.Need-four-requires
-four-requires c κs = search needs
-
-u16-at-requires : tie.Need-u16-at-requires
-u16-at-requires c κs = search needs
-
-u16-u32-requires : tie.Need-u16-u32-requires
-u16-u32-requires c κs = search needs
-
-add-u16-at : tie.Need-add-u16-at
-add-u16-at c = search needs
-
-u16-at-requires-2 : tie.Need-u16-at-requires-2
-u16-at-requires-2 c κs = search needs
-
-u16-u32-requires-2 : tie.Need-u16-u32-requires-2
-u16-u32-requires-2 c κs = search needs
-
-mul-result : tie.Need-mul-result
-mul-result c = search needs
-
-add-result : tie.Need-add-result
-add-result c = search needs
-
-returns-2 : tie.Need-returns-2
-returns-2 c = search needs
-
 returns-3 : tie.Need-returns-3
 returns-3 c =
     let a = c .before .before .before .before .before .before .before .args in
@@ -56,16 +26,6 @@ returns-3 c =
 pub u32-at-spec : {M : Type 1} → statement M
 u32-at-spec =
     tie.close
-    (tie.spec
-    returns
-    sub-if2
-    four-requires
-    u16-at-requires
-    u16-u32-requires
-    add-u16-at
-    u16-at-requires-2
-    u16-u32-requires-2
-    mul-result
-    add-result
-    returns-2
-    returns-3)
+    (tie.spec returns (λ c. search needs) (λ c κs. search needs) (λ c κs. search needs) (λ c κs. search needs)
+    (λ c. search needs) (λ c κs. search needs) (λ c κs. search needs) (λ c. search needs) (λ c. search needs)
+    (λ c. search needs) returns-3)

@@ -14,9 +14,6 @@ use Rattle.laws.proofs.Tables.{byCases}
 use Rattle.model.specs.Bytes.{field}
 use Rattle.codec.proofs.part.blank.Statement.{statement}
 use Rattle.codec.proofs.part.blank.Tie as tie
-use Rattle.codec.proofs.part.blank.Reads as reads
-use Rattle.codec.proofs.part.blank.Lts as lts
-use Rattle.codec.proofs.field.eight.Reads as eight-reads
 
 sum-zero : (x y k z : ℕ) → 0 < k → z ≡ x + k * y → (eqb x 0 && eqb y 0) ≡ eqb z 0
 sum-zero x y k z h e =
@@ -42,58 +39,14 @@ both n m i j xs e p q =
 read : {x y : ℕ} → x ≡ y → eqb x 0 ≡ eqb y 0
 read e = rw e
 
-eight-requires : tie.Need-eight-requires
-eight-requires c κs = search needs
-
-add-eight : tie.Need-add-eight
-add-eight c = search needs
-
-eight-requires-2 : tie.Need-eight-requires-2
-eight-requires-2 c κs = search needs
-
-add-eight-2 : tie.Need-add-eight-2
-add-eight-2 c = search needs
-
-eight-requires-3 : tie.Need-eight-requires-3
-eight-requires-3 c κs = search needs
-
-add-eight-3 : tie.Need-add-eight-3
-add-eight-3 c = search needs
-
-eight-requires-4 : tie.Need-eight-requires-4
-eight-requires-4 c κs = search needs
-
-add-eight-4 : tie.Need-add-eight-4
-add-eight-4 c = search needs
-
-eight-requires-5 : tie.Need-eight-requires-5
-eight-requires-5 c κs = search needs
-
-add-eight-5 : tie.Need-add-eight-5
-add-eight-5 c = search needs
-
-eight-requires-6 : tie.Need-eight-requires-6
-eight-requires-6 c κs = search needs
-
-add-eight-6 : tie.Need-add-eight-6
-add-eight-6 c = search needs
-
-eight-requires-7 : tie.Need-eight-requires-7
-eight-requires-7 c κs = search needs
-
-add-eight-7 : tie.Need-add-eight-7
-add-eight-7 c = search needs
-
-eight-requires-8 : tie.Need-eight-requires-8
-eight-requires-8 c κs = search needs
-
 returns : tie.Need-returns
 returns c =
     let c₄ = c .before .before .before .before in
     let a = c₄ .before .before .before .before .before .args in
     let xs = now (a .s) in
     let i = a .i in
-    let first = both 8 8 i (i + 8) xs refl (read (c₄ .before .before .before .eight .ensures)) (read (c₄ .before .before .eight2 .ensures)) in
+    let first = both 8 8 i (i + 8) xs refl (read (c₄ .before .before .before .eight .ensures))
+    (read (c₄ .before .before .eight2 .ensures)) in
     let second = both 8 8 (i + 16) (i + 24) xs (omega arith) (read (c₄ .before .eight3 .ensures)) (read (c₄ .eight4 .ensures)) in
     let third = both 8 8 (i + 32) (i + 40) xs (omega arith) (read (c .before .before .before .eight5 .ensures))
     (read (c .before .before .eight6 .ensures)) in
@@ -103,20 +56,7 @@ returns c =
 pub blank-spec : {M : Type 1} → statement M
 blank-spec =
     tie.close
-    (tie.spec
-    eight-requires
-    add-eight
-    eight-requires-2
-    add-eight-2
-    eight-requires-3
-    add-eight-3
-    eight-requires-4
-    add-eight-4
-    eight-requires-5
-    add-eight-5
-    eight-requires-6
-    add-eight-6
-    eight-requires-7
-    add-eight-7
-    eight-requires-8
-    returns)
+    (tie.spec (λ c κs. search needs) (λ c. search needs) (λ c κs. search needs) (λ c. search needs)
+    (λ c κs. search needs) (λ c. search needs) (λ c κs. search needs) (λ c. search needs) (λ c κs. search needs)
+    (λ c. search needs) (λ c κs. search needs) (λ c. search needs) (λ c κs. search needs) (λ c. search needs)
+    (λ c κs. search needs) returns)

@@ -7,21 +7,6 @@ use Rattle.codec.proofs.Runs.{zero-field}
 use Rattle.codec.proofs.part.past.Statement.{statement}
 use Rattle.codec.proofs.part.past.Tie as tie
 
-sub-if1 : tie.Need-sub-if1
-sub-if1 c = search needs
-
-returns : tie.Need-returns
-returns c = search needs
-
-eight-requires : tie.Need-eight-requires
-eight-requires c κs = search needs
-
-returns-2 : tie.Need-returns-2
-returns-2 c = search needs
-
-add-result : tie.Need-add-result
-add-result c = search needs
-
 returns-3 : tie.Need-returns-3
 returns-3 c =
     let a = c .before .before .before .before .args in (
@@ -30,4 +15,7 @@ returns-3 c =
     )
 
 pub past-spec : {M : Type 1} → statement M
-past-spec = tie.close (tie.spec sub-if1 returns eight-requires returns-2 add-result returns-3)
+past-spec =
+    tie.close
+    (tie.spec (λ c. search needs) (λ c. search needs) (λ c κs. search needs) (λ c. search needs) (λ c. search needs)
+    returns-3)

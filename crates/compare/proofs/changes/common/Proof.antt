@@ -98,17 +98,5 @@ returns-2 c =
 pub common-spec : {M : Type 1} → statement M
 common-spec =
     tie.close
-    (tie.spec
-    Inv-loop
-    μ-loop
-    loop-holds
-    add-record
-    record-requires
-    add-record-2
-    record-requires-2
-    same-requires
-    add-k
-    loop-less
-    loop-again
-    returns
-    returns-2)
+    (tie.spec Inv-loop μ-loop loop-holds add-record record-requires add-record-2 record-requires-2 same-requires add-k
+    loop-less loop-again returns returns-2)

@@ -45,12 +45,5 @@ returns c =
 pub same-spec : {M : Type 1} → statement M
 same-spec =
     tie.close
-    (tie.spec
-    sub-starts
-    part-starts-start
-    part-starts-end
-    sub-starts-2
-    part-starts-start-2
-    part-starts-end-2
-    starts-requires
-    returns)
+    (tie.spec sub-starts part-starts-start part-starts-end sub-starts-2 part-starts-start-2 part-starts-end-2
+    starts-requires returns)

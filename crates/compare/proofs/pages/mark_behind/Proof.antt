@@ -87,16 +87,5 @@ returns c =
 pub mark-behind-spec : {M : Type 1} → statement M
 mark-behind-spec =
     tie.close
-    (tie.spec
-    Inv-loop
-    μ-loop
-    loop-holds
-    add-i
-    record-requires
-    u16-at-requires
-    cast-mark
-    mark-requires
-    loop-less
-    loop-again
-    same-length
-    returns)
+    (tie.spec Inv-loop μ-loop loop-holds add-i record-requires u16-at-requires cast-mark mark-requires loop-less
+    loop-again same-length returns)

@@ -101,21 +101,6 @@ returns c =
 pub tell-spec : {M : Type 1} → statement M
 tell-spec =
     tie.close
-    (tie.spec
-    Inv-loop
-    μ-loop
-    kind-requires
-    slice-write-report
-    count-requires
-    slice-write-report-2
-    loop-holds
-    array-read-flag
-    flag-requires
-    add-report
-    mul-report
-    slice-write-report-3
-    add-i
-    loop-less
-    loop-again
-    same-length
+    (tie.spec Inv-loop μ-loop kind-requires slice-write-report count-requires slice-write-report-2 loop-holds
+    array-read-flag flag-requires add-report mul-report slice-write-report-3 add-i loop-less loop-again same-length
     returns)

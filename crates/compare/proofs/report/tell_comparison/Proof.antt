@@ -5,15 +5,6 @@ use borrow.Author.Needs.{needs}
 use Rattle.compare.proofs.report.tell_comparison.Statement.{statement}
 use Rattle.compare.proofs.report.tell_comparison.Tie as tie
 
-compare-requires : tie.Need-compare-requires
-compare-requires c κs = search needs
-
-number-requires : tie.Need-number-requires
-number-requires c κs = search needs
-
-refusal-requires : tie.Need-refusal-requires
-refusal-requires c κs = search needs
-
 tell-requires : tie.Need-tell-requires
 tell-requires c κs =
     let r = c .before .before in
@@ -22,9 +13,6 @@ tell-requires c κs =
     let a = o .before .before .before .before .args in
     long (now (a .first)) (now (a .second)) (now (a .report)) (o .compare .result) (o .compare .ensures) (k .number .result)
     (r .refusal .result) (k .number .ensures) (r .refusal .ensures) (c .before .if1 .taken)
-
-same-length : tie.Need-same-length
-same-length c = search needs
 
 returns : tie.Need-returns
 returns c =
@@ -49,11 +37,5 @@ returns-2 c =
 pub tell-comparison-spec : {M : Type 1} → statement M
 tell-comparison-spec =
     tie.close
-    (tie.spec
-    compare-requires
-    number-requires
-    refusal-requires
-    tell-requires
-    same-length
-    returns
-    returns-2)
+    (tie.spec (λ c κs. search needs) (λ c κs. search needs) (λ c κs. search needs) tell-requires (λ c. search needs)
+    returns returns-2)

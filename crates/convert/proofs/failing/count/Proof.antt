@@ -25,9 +25,6 @@ loop-holds c = (search needs, search needs, count-start _)
 fails-requires : tie.Need-fails-requires Inv-loop μ-loop
 fails-requires c κs = let p = c .before .before .before .before .pre in (p .0, p .1, c .loop-test .taken)
 
-first-requires : tie.Need-first-requires Inv-loop μ-loop
-first-requires c κs = search needs
-
 add-n : tie.Need-add-n Inv-loop μ-loop
 add-n c =
     let l = c .before .before .before .loop in
@@ -38,9 +35,6 @@ add-i : tie.Need-add-i Inv-loop μ-loop
 add-i c =
     let p = c .before .before .before .before .before .before .pre in
     omega (arith, c .before .before .loop-test .taken, few _ _ (p .0) (p .1))
-
-loop-less : tie.Need-loop-less Inv-loop μ-loop
-loop-less c = search needs
 
 loop-again : tie.Need-loop-again Inv-loop μ-loop
 loop-again c =
@@ -62,15 +56,5 @@ returns c =
 pub count-spec : {M : Type 1} → statement M
 count-spec =
     tie.close
-    (tie.spec
-    Inv-loop
-    μ-loop
-    add-images
-    loop-holds
-    fails-requires
-    first-requires
-    add-n
-    add-i
-    loop-less
-    loop-again
-    returns)
+    (tie.spec Inv-loop μ-loop add-images loop-holds fails-requires (λ c κs. search needs) add-n add-i
+    (λ c. search needs) loop-again returns)

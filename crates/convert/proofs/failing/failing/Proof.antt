@@ -6,14 +6,8 @@ use borrow.Author.Needs.{needs}
 use Rattle.convert.proofs.failing.failing.Statement.{statement}
 use Rattle.convert.proofs.failing.failing.Tie as tie
 
-valid-requires : tie.Need-valid-requires
-valid-requires c κs = search needs
-
 returns : tie.Need-returns
 returns c = failing-none _ _ _ (c .before .valid .ensures) (not-true _ (c .if1 .taken))
-
-geometry-requires : tie.Need-geometry-requires
-geometry-requires c κs = search needs
 
 count-requires : tie.Need-count-requires
 count-requires c κs =
@@ -27,11 +21,4 @@ returns-2 c =
     (c .before .before .geometry .ensures) (c .count .ensures)
 
 pub failing-spec : {M : Type 1} → statement M
-failing-spec =
-    tie.close
-    (tie.spec
-    valid-requires
-    returns
-    geometry-requires
-    count-requires
-    returns-2)
+failing-spec = tie.close (tie.spec (λ c κs. search needs) returns (λ c κs. search needs) count-requires returns-2)

@@ -19,10 +19,4 @@ returns c =
     fails-is _ _ _ _ _ _ _ (p .2) (c .before .before .image-at .ensures) (c .before .part .ensures) (c .passes .ensures)
 
 pub fails-spec : {M : Type 1} → statement M
-fails-spec =
-    tie.close
-    (tie.spec
-    image-at-requires
-    part-requires
-    passes-requires
-    returns)
+fails-spec = tie.close (tie.spec image-at-requires part-requires passes-requires returns)

@@ -7,20 +7,11 @@ use borrow.Author.Needs.{needs}
 use Rattle.convert.proofs.finish.finish.Statement.{statement}
 use Rattle.convert.proofs.finish.finish.Tie as tie
 
-refusal-requires : tie.Need-refusal-requires
-refusal-requires c κs = search needs
-
-same-length : tie.Need-same-length
-same-length c = search needs
-
 returns : tie.Need-returns
 returns c = finish-refused _ _ _ _ (c .before .refusal .ensures) (c .if1 .taken)
 
 put-requires : tie.Need-put-requires
 put-requires c κs = heading-fits _ (finish-valid _ _ _ (sym (c .before .before .refusal .ensures) ∙ c .before .if1 .left))
-
-same-length-2 : tie.Need-same-length-2
-same-length-2 c = search needs
 
 returns-2 : tie.Need-returns-2
 unfolding storeHeading
@@ -31,11 +22,4 @@ returns-2 c =
 
 pub finish-spec : {M : Type 1} → statement M
 finish-spec =
-    tie.close
-    (tie.spec
-    refusal-requires
-    same-length
-    returns
-    put-requires
-    same-length-2
-    returns-2)
+    tie.close (tie.spec (λ c κs. search needs) (λ c. search needs) returns put-requires (λ c. search needs) returns-2)

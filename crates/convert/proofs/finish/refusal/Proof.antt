@@ -25,16 +25,10 @@ sound c =
     let a = c .before .before .before .before .args in
     valid-volume carryTag (now (a .volume)) (now (a .memory)) (a .s) _ (rows (c .before)) (c .if1 .left)
 
-refusal-requires : tie.Need-refusal-requires
-refusal-requires c κs = search needs
-
 returns : tie.Need-returns
 returns c =
     let a = c .before .before .before .before .args in
     finish-first (now (a .volume)) (now (a .memory)) (a .s) _ (rows (c .before)) (c .if1 .taken)
-
-geometry-requires : tie.Need-geometry-requires
-geometry-requires c κs = search needs
 
 first-old-requires : tie.Need-first-old-requires
 first-old-requires c κs =
@@ -44,9 +38,6 @@ add-first : tie.Need-add-first
 add-first c =
     let g = c .before .before .before in
     omega (arith, few _ _ (sound (g .before)) (g .geometry .ensures))
-
-first-requires : tie.Need-first-requires
-first-requires c κs = search needs
 
 returns-2 : tie.Need-returns-2
 returns-2 c =
@@ -59,11 +50,5 @@ returns-2 c =
 pub refusal-spec : {M : Type 1} → statement M
 refusal-spec =
     tie.close
-    (tie.spec
-    refusal-requires
-    returns
-    geometry-requires
-    first-old-requires
-    add-first
-    first-requires
+    (tie.spec (λ c κs. search needs) returns (λ c κs. search needs) first-old-requires add-first (λ c κs. search needs)
     returns-2)

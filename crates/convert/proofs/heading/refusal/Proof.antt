@@ -3,14 +3,8 @@ use borrow.Author.Needs.{needs}
 use Rattle.convert.proofs.heading.refusal.Statement.{statement}
 use Rattle.convert.proofs.heading.refusal.Tie as tie
 
-headed-requires : tie.Need-headed-requires
-headed-requires c κs = search needs
-
-first-requires : tie.Need-first-requires
-first-requires c κs = search needs
-
 returns : tie.Need-returns
 returns c = rw (c .before .headed .ensures) at (c .first .ensures)
 
 pub refusal-spec : {M : Type 1} → statement M
-refusal-spec = tie.close (tie.spec headed-requires first-requires returns)
+refusal-spec = tie.close (tie.spec (λ c κs. search needs) (λ c κs. search needs) returns)

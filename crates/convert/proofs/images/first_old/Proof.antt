@@ -38,9 +38,6 @@ add-i c =
     let p = c .before .before .before .before .before .before .pre in
     omega (arith, c .before .before .loop-test .taken, few _ _ (p .0) (p .1))
 
-loop-less : tie.Need-loop-less Inv-loop μ-loop
-loop-less c = search needs
-
 loop-again : tie.Need-loop-again Inv-loop μ-loop
 loop-again c =
     let l = c .before .before .before .loop in
@@ -62,14 +59,5 @@ returns-2 c =
 pub first-old-spec : {M : Type 1} → statement M
 first-old-spec =
     tie.close
-    (tie.spec
-    Inv-loop
-    μ-loop
-    add-count
-    loop-holds
-    old-at-requires
-    returns
-    add-i
-    loop-less
-    loop-again
+    (tie.spec Inv-loop μ-loop add-count loop-holds old-at-requires returns add-i (λ c. search needs) loop-again
     returns-2)

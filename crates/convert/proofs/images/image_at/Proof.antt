@@ -36,6 +36,4 @@ returns-2 c =
     c .slot-at .ensures ∙ ap (start (a .g)) (sym (slot-place (a .g) (a .i) (omega (arith, c .before .before .if1 .left))))
 
 pub image-at-spec : {M : Type 1} → statement M
-image-at-spec =
-    tie.close
-    (tie.spec add-page-at page-at-requires returns add-slot-at slot-at-requires returns-2)
+image-at-spec = tie.close (tie.spec add-page-at page-at-requires returns add-slot-at slot-at-requires returns-2)

@@ -11,15 +11,9 @@ image-at-requires c κs = let p = c .before .pre in (p .2, omega (arith, few _ _
 part-requires : tie.Need-part-requires
 part-requires c κs = let p = c .before .before .pre in omega (arith, image-fits _ _ _ (p .0) (p .1) (p .2), c .image-at .ensures)
 
-under-requires : tie.Need-under-requires
-under-requires c κs = search needs
-
 passes-requires : tie.Need-passes-requires
 passes-requires c κs = let s = c .before .before .before .before in let p = s .pre in
     under-count _ (s .args .g) _ _ (c .under .ensures) (p .2) (few _ _ (p .0) (p .1))
-
-under-requires-2 : tie.Need-under-requires-2
-under-requires-2 c κs = search needs
 
 passes-requires-2 : tie.Need-passes-requires-2
 passes-requires-2 c κs =
@@ -37,11 +31,5 @@ returns c =
 pub old-at-spec : {M : Type 1} → statement M
 old-at-spec =
     tie.close
-    (tie.spec
-    image-at-requires
-    part-requires
-    under-requires
-    passes-requires
-    under-requires-2
-    passes-requires-2
-    returns)
+    (tie.spec image-at-requires part-requires (λ c κs. search needs) passes-requires (λ c κs. search needs)
+    passes-requires-2 returns)

@@ -79,18 +79,5 @@ returns-2 c =
 pub noted-spec : {M : Type 1} → statement M
 noted-spec =
     tie.close
-    (tie.spec
-    Inv-loop
-    μ-loop
-    loop-holds
-    mul-e
-    array-copy-out-e
-    cast-given
-    cast-given-2
-    add-given
-    given-requires
-    returns
-    add-i
-    loop-less
-    loop-again
-    returns-2)
+    (tie.spec Inv-loop μ-loop loop-holds mul-e array-copy-out-e cast-given cast-given-2 add-given given-requires
+    returns add-i loop-less loop-again returns-2)

@@ -5,20 +5,12 @@ use Rattle.laws.proofs.Tables.{when-true, when-false}
 use Rattle.convert.proofs.passes.slot_passes.Statement.{statement}
 use Rattle.convert.proofs.passes.slot_passes.Tie as tie
 
-used-requires : tie.Need-used-requires
-used-requires c κs = search needs
-
-noted-requires : tie.Need-noted-requires
-noted-requires c κs = search needs
-
 returns : tie.Need-returns
 returns c = c .noted .ensures ∙ sym (when-true _ _ (sym (c .before .before .used .ensures) ∙ c .before .if1 .taken))
-
-somewhere-requires : tie.Need-somewhere-requires
-somewhere-requires c κs = search needs
 
 returns-2 : tie.Need-returns-2
 returns-2 c = c .somewhere .ensures ∙ sym (when-false _ _ (sym (c .before .before .used .ensures) ∙ c .before .if1 .left))
 
 pub slot-passes-spec : {M : Type 1} → statement M
-slot-passes-spec = tie.close (tie.spec used-requires noted-requires returns somewhere-requires returns-2)
+slot-passes-spec =
+    tie.close (tie.spec (λ c κs. search needs) (λ c κs. search needs) returns (λ c κs. search needs) returns-2)

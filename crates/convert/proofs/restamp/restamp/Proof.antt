@@ -50,17 +50,8 @@ room c =
     let f = image-fits _ (g .result) (k .before .first-old .result) (valid k) (g .ensures) (omega (arith, c .before .if2 .left)) in
     omega (arith, f, c .image-at .ensures)
 
-refusal-requires : tie.Need-refusal-requires
-refusal-requires c κs = search needs
-
-same-length : tie.Need-same-length
-same-length c = search needs
-
 returns : tie.Need-returns
 returns c = restamp-refused _ _ _ _ (rows (c .before)) (c .if1 .taken)
-
-geometry-requires : tie.Need-geometry-requires
-geometry-requires c κs = search needs
 
 first-old-requires : tie.Need-first-old-requires
 first-old-requires c κs =
@@ -69,9 +60,6 @@ first-old-requires c κs =
 
 add-if2 : tie.Need-add-if2
 add-if2 c = omega (arith, few _ _ (valid c) (c .before .before .before .before .geometry .ensures))
-
-same-length-2 : tie.Need-same-length-2
-same-length-2 c = search needs
 
 returns-2 : tie.Need-returns-2
 returns-2 c =
@@ -87,20 +75,11 @@ image-at-requires c κs =
 add-end : tie.Need-add-end
 add-end c = search (needs, room c)
 
-sub-old : tie.Need-sub-old
-sub-old c = search needs
-
-part-old-start : tie.Need-part-old-start
-part-old-start c = search needs
-
 part-old-end : tie.Need-part-old-end
 part-old-end c = omega (arith, room c)
 
 seal-requires : tie.Need-seal-requires
 seal-requires c κs = lent-length _ _ 256 (room (c .before))
-
-same-length-3 : tie.Need-same-length-3
-same-length-3 c = search needs
 
 returns-3 : tie.Need-returns-3
 returns-3 c =
@@ -112,20 +91,6 @@ returns-3 c =
 pub restamp-spec : {M : Type 1} → statement M
 restamp-spec =
     tie.close
-    (tie.spec
-    refusal-requires
-    same-length
-    returns
-    geometry-requires
-    first-old-requires
-    add-if2
-    same-length-2
-    returns-2
-    image-at-requires
-    add-end
-    sub-old
-    part-old-start
-    part-old-end
-    seal-requires
-    same-length-3
-    returns-3)
+    (tie.spec (λ c κs. search needs) (λ c. search needs) returns (λ c κs. search needs) first-old-requires add-if2
+    (λ c. search needs) returns-2 image-at-requires add-end (λ c. search needs) (λ c. search needs) part-old-end
+    seal-requires (λ c. search needs) returns-3)

@@ -25,20 +25,11 @@ sound c =
     let a = c .before .before .before .before .before .args in
     valid-volume (tagOf First) (now (a .volume)) (now (a .memory)) (a .s) _ (rows (c .before)) (c .if1 .left)
 
-refusal-requires : tie.Need-refusal-requires
-refusal-requires c κs = search needs
-
-same-length : tie.Need-same-length
-same-length c = search needs
-
 returns : tie.Need-returns
 returns c = start-refused _ _ _ _ (rows (c .before)) (c .if1 .taken)
 
 put-requires : tie.Need-put-requires
 put-requires c κs = heading-fits _ (sound (c .before))
-
-same-length-2 : tie.Need-same-length-2
-same-length-2 c = search needs
 
 returns-2 : tie.Need-returns-2
 unfolding storeHeading
@@ -49,4 +40,4 @@ returns-2 c =
 
 pub start-spec : {M : Type 1} → statement M
 start-spec =
-    tie.close (tie.spec refusal-requires same-length returns put-requires same-length-2 returns-2)
+    tie.close (tie.spec (λ c κs. search needs) (λ c. search needs) returns put-requires (λ c. search needs) returns-2)

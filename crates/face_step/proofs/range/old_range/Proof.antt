@@ -14,9 +14,6 @@ few c =
     let s = i .before .before .before in
     old-few (s .args .g) (s .args .volume .now) (s .pre) (s .args .s) (v .result) (v .ensures) (i .if1 .left)
 
-valid-requires : tie.Need-valid-requires
-valid-requires c κs = search needs
-
 returns : tie.Need-returns
 returns c =
     let v = c .before .valid in
@@ -44,9 +41,6 @@ returns-2 c =
 image-at-requires : tie.Need-image-at-requires
 image-at-requires c κs = (c .if2 .left, omega (arith, few (c .before)))
 
-cut-requires : tie.Need-cut-requires
-cut-requires c κs = search needs
-
 returns-3 : tie.Need-returns-3
 returns-3 c =
     let k = c .before .before in
@@ -61,12 +55,5 @@ returns-3 c =
 pub old-range-spec : {M : Type 1} → statement M
 old-range-spec =
     tie.close
-    (tie.spec
-    valid-requires
-    returns
-    first-old-requires
-    add-if2
-    returns-2
-    image-at-requires
-    cut-requires
-    returns-3)
+    (tie.spec (λ c κs. search needs) returns first-old-requires add-if2 returns-2 image-at-requires
+    (λ c κs. search needs) returns-3)

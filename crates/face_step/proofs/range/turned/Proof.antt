@@ -10,9 +10,6 @@ returns c =
     let a = c .before .args in
     (rw (c .if1 .taken) (sym (mod-zero (a .before))), search needs)
 
-rem-result : tie.Need-rem-result
-rem-result c = search needs
-
 cast-result : tie.Need-cast-result
 cast-result c = record { fits = let a = c .before .args in omega (arith, mod-le (a .before) (a .slots)) }
 
@@ -22,4 +19,4 @@ returns-2 c =
     (refl, omega (arith, mod-le (a .before) (a .slots)))
 
 pub turned-spec : {M : Type 1} → statement M
-turned-spec = tie.close (tie.spec returns rem-result cast-result returns-2)
+turned-spec = tie.close (tie.spec returns (λ c. search needs) cast-result returns-2)

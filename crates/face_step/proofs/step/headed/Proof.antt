@@ -6,21 +6,11 @@ use Rattle.laws.proofs.Tables.{when-true, when-false}
 use Rattle.face_step.proofs.step.headed.Statement.{statement}
 use Rattle.face_step.proofs.step.headed.Tie as tie
 
-array-read-if1 : tie.Need-array-read-if1
-array-read-if1 c = search needs
-
-known-requires : tie.Need-known-requires
-known-requires c κs = search needs
-
 returns : tie.Need-returns
 returns c = c .known .ensures ∙ sym (when-true _ _ (eq-eqb _ 0 (c .before .if1 .taken)))
-
-headed-requires : tie.Need-headed-requires
-headed-requires c κs = search needs
 
 returns-2 : tie.Need-returns-2
 returns-2 c = c .headed .ensures ∙ sym (when-false _ _ (ne-eqb _ 0 (c .before .if1 .left)))
 
 pub headed-spec : {M : Type 1} → statement M
-headed-spec =
-    tie.close (tie.spec array-read-if1 known-requires returns headed-requires returns-2)
+headed-spec = tie.close (tie.spec (λ c. search needs) (λ c κs. search needs) returns (λ c κs. search needs) returns-2)

@@ -22,12 +22,6 @@ whole c =
     (fitting (a .command, a .payload) (a .volume .now) (a .memory .now) (a .state .now) (a .report .now) (c .before .fits2 .result)
     (c .before .fits2 .ensures) (c .if2 .left))
 
-headed-requires : tie.Need-headed-requires
-headed-requires c κs = search needs
-
-same-length : tie.Need-same-length
-same-length c = search needs
-
 returns : tie.Need-returns
 returns c =
     let s = c .before .before .before .before .before .before .before in
@@ -35,21 +29,6 @@ returns c =
     let h = c .before .headed in
     unlike-headed (a .command, a .payload) (a .volume .now) (a .memory .now) (a .state .now) (a .report .now) (a .own) (h .result) (s .pre)
     (h .ensures) (c .if1 .taken)
-
-fits-requires : tie.Need-fits-requires
-fits-requires c κs = search needs
-
-valid-requires : tie.Need-valid-requires
-valid-requires c κs = search needs
-
-first-requires : tie.Need-first-requires
-first-requires c κs = search needs
-
-same-length-2 : tie.Need-same-length-2
-same-length-2 c = search needs
-
-same-length-3 : tie.Need-same-length-3
-same-length-3 c = search needs
 
 returns-2 : tie.Need-returns-2
 returns-2 c =
@@ -66,35 +45,11 @@ returns-2 c =
 decode-requires : tie.Need-decode-requires
 decode-requires c κs = whole (c .before)
 
-aim-requires : tie.Need-aim-requires
-aim-requires c κs = search needs
-
-row-requires : tie.Need-row-requires
-row-requires c κs = search needs
-
-perform-requires : tie.Need-perform-requires
-perform-requires c κs = search needs
-
 update-requires : tie.Need-update-requires
 update-requires c κs = (whole (c .before .before .before .before .before .before .before .before .before .before .before .before .before .before .before .before), c .before .before .before .before .before .before .before .before .before .before .row .ensures .1)
 
 tell-requires : tie.Need-tell-requires
 tell-requires c κs = right (c .before .before .before .before .before .before .before .before .before .before .before .before .before .before .before .before .before .before .before .before)
-
-number-requires : tie.Need-number-requires
-number-requires c κs = search needs
-
-same-length-4 : tie.Need-same-length-4
-same-length-4 c = search needs
-
-same-length-5 : tie.Need-same-length-5
-same-length-5 c = search needs
-
-same-length-6 : tie.Need-same-length-6
-same-length-6 c = search needs
-
-same-length-7 : tie.Need-same-length-7
-same-length-7 c = search needs
 
 returns-3 : tie.Need-returns-3
 returns-3 c =
@@ -122,25 +77,7 @@ returns-3 c =
 pub step-spec : {M : Type 1} → statement M
 step-spec =
     tie.close
-    (tie.spec
-    headed-requires
-    same-length
-    returns
-    fits-requires
-    valid-requires
-    first-requires
-    same-length-2
-    same-length-3
-    returns-2
-    decode-requires
-    aim-requires
-    row-requires
-    perform-requires
-    update-requires
-    tell-requires
-    number-requires
-    same-length-4
-    same-length-5
-    same-length-6
-    same-length-7
-    returns-3)
+    (tie.spec (λ c κs. search needs) (λ c. search needs) returns (λ c κs. search needs) (λ c κs. search needs)
+    (λ c κs. search needs) (λ c. search needs) (λ c. search needs) returns-2 decode-requires (λ c κs. search needs)
+    (λ c κs. search needs) (λ c κs. search needs) update-requires tell-requires (λ c κs. search needs)
+    (λ c. search needs) (λ c. search needs) (λ c. search needs) (λ c. search needs) returns-3)

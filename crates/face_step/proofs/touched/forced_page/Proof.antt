@@ -5,21 +5,6 @@ use borrow.Author.Needs.{needs}
 use Rattle.face_step.proofs.touched.forced_page.Statement.{statement}
 use Rattle.face_step.proofs.touched.forced_page.Tie as tie
 
-cast-at : tie.Need-cast-at
-cast-at c = search needs
-
-mul-at : tie.Need-mul-at
-mul-at c = search needs
-
-add-u16-at : tie.Need-add-u16-at
-add-u16-at c = search needs
-
-u16-at-requires : tie.Need-u16-at-requires
-u16-at-requires c κs = search needs
-
-cast-result : tie.Need-cast-result
-cast-result c = search needs
-
 returns : tie.Need-returns
 returns c =
     let a = c .before .before .args in
@@ -28,10 +13,5 @@ returns c =
 pub forced-page-spec : {M : Type 1} → statement M
 forced-page-spec =
     tie.close
-    (tie.spec
-    cast-at
-    mul-at
-    add-u16-at
-    u16-at-requires
-    cast-result
+    (tie.spec (λ c. search needs) (λ c. search needs) (λ c. search needs) (λ c κs. search needs) (λ c. search needs)
     returns)

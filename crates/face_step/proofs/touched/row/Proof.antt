@@ -7,12 +7,6 @@ use borrow.Author.Needs.{needs}
 use Rattle.face_step.proofs.touched.row.Statement.{statement}
 use Rattle.face_step.proofs.touched.row.Tie as tie
 
-page-requires : tie.Need-page-requires
-page-requires c κs = search needs
-
-row-requires : tie.Need-row-requires
-row-requires c κs = search needs
-
 returns : tie.Need-returns
 returns c = (
   λ p. c .row .ensures ∙ ap (λ (n : ℕ). rowOf n) (c .before .page .ensures p),
@@ -20,9 +14,4 @@ returns c = (
 )
 
 pub row-spec : {M : Type 1} → statement M
-row-spec =
-    tie.close
-    (tie.spec
-    page-requires
-    row-requires
-    returns)
+row-spec = tie.close (tie.spec (λ c κs. search needs) (λ c κs. search needs) returns)

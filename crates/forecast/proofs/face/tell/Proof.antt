@@ -18,30 +18,6 @@ abbrev μ-loop : tie.MeasureT-loop
 loop-holds : tie.Need-loop-holds Inv-loop μ-loop
 loop-holds c = (omega arith, none-told _ _ (c .pre))
 
-mul-f : tie.Need-mul-f Inv-loop μ-loop
-mul-f c = search needs
-
-array-copy-out-f : tie.Need-array-copy-out-f Inv-loop μ-loop
-array-copy-out-f c = search needs
-
-mul-figures : tie.Need-mul-figures Inv-loop μ-loop
-mul-figures c = search needs
-
-mul-figures-2 : tie.Need-mul-figures-2 Inv-loop μ-loop
-mul-figures-2 c = search needs
-
-slice-write-figures : tie.Need-slice-write-figures Inv-loop μ-loop
-slice-write-figures c = search needs
-
-mul-figures-3 : tie.Need-mul-figures-3 Inv-loop μ-loop
-mul-figures-3 c = search needs
-
-add-figures : tie.Need-add-figures Inv-loop μ-loop
-add-figures c = search needs
-
-mul-figures-4 : tie.Need-mul-figures-4 Inv-loop μ-loop
-mul-figures-4 c = search needs
-
 slice-write-figures-2 : tie.Need-slice-write-figures-2 Inv-loop μ-loop
 slice-write-figures-2 c =
     let k = c .before .before .loop in
@@ -49,21 +25,12 @@ slice-write-figures-2 c =
     let l = length-set (k .figures) (2 * k .i) (getD (a .t1) (k .i) (counted 0) .refusal) in
     omega (arith, k .inv .1 .size, c .before .loop-test .taken, l)
 
-add-i : tie.Need-add-i Inv-loop μ-loop
-add-i c = search needs
-
-loop-less : tie.Need-loop-less Inv-loop μ-loop
-loop-less c = search needs
-
 loop-again : tie.Need-loop-again Inv-loop μ-loop
 loop-again c =
     let t = c .before .loop-test .taken in
     let k = c .before .before .loop in
     let a = c .before .before .before .args in
     (omega (arith, t), one-told (a .t1) (k .figures) (k .i) _ _ (k .inv .1) (search needs) t refl refl)
-
-same-length : tie.Need-same-length Inv-loop μ-loop
-same-length c = search needs
 
 returns : tie.Need-returns Inv-loop μ-loop
 returns c =
@@ -74,21 +41,6 @@ returns c =
 pub tell-spec : {M : Type 1} → statement M
 tell-spec =
     tie.close
-    (tie.spec
-    Inv-loop
-    μ-loop
-    loop-holds
-    mul-f
-    array-copy-out-f
-    mul-figures
-    mul-figures-2
-    slice-write-figures
-    mul-figures-3
-    add-figures
-    mul-figures-4
-    slice-write-figures-2
-    add-i
-    loop-less
-    loop-again
-    same-length
-    returns)
+    (tie.spec Inv-loop μ-loop loop-holds (λ c. search needs) (λ c. search needs) (λ c. search needs)
+    (λ c. search needs) (λ c. search needs) (λ c. search needs) (λ c. search needs) (λ c. search needs)
+    slice-write-figures-2 (λ c. search needs) (λ c. search needs) loop-again (λ c. search needs) returns)

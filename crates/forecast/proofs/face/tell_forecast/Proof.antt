@@ -5,32 +5,17 @@ use Rattle.forecast.proofs.Outcomes.{unlike, turned-down, told}
 use Rattle.forecast.proofs.face.tell_forecast.Statement.{statement}
 use Rattle.forecast.proofs.face.tell_forecast.Tie as tie
 
-valid-requires : tie.Need-valid-requires
-valid-requires c κs = search needs
-
-first-requires : tie.Need-first-requires
-first-requires c κs = search needs
-
 returns : tie.Need-returns
 returns c =
     let a = c .before .before .before .before .before .args in
     unlike (a .volume .now) (a .figures .now) (c .before .before .if1 .taken) (c .first .result)
     (c .first .ensures ∙ rw (c .before .valid .ensures))
 
-forecast-requires : tie.Need-forecast-requires
-forecast-requires c κs = search needs
-
 returns-2 : tie.Need-returns-2
 returns-2 c =
     let a = c .before .before .before .before .before .args in
     turned-down (a .volume .now) (a .figures .now) (c .before .before .if1 .left) (c .before .forecast .result)
     (c .before .forecast .ensures) (c .if2 .taken)
-
-tell-requires : tie.Need-tell-requires
-tell-requires c κs = search needs
-
-same-length : tie.Need-same-length
-same-length c = search needs
 
 returns-3 : tie.Need-returns-3
 returns-3 c =
@@ -42,12 +27,5 @@ returns-3 c =
 pub tell-forecast-spec : {M : Type 1} → statement M
 tell-forecast-spec =
     tie.close
-    (tie.spec
-    valid-requires
-    first-requires
-    returns
-    forecast-requires
-    returns-2
-    tell-requires
-    same-length
-    returns-3)
+    (tie.spec (λ c κs. search needs) (λ c κs. search needs) returns (λ c κs. search needs) returns-2
+    (λ c κs. search needs) (λ c. search needs) returns-3)

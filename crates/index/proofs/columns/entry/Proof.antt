@@ -10,9 +10,6 @@ use borrow.Author.Needs.{needs}
 use Rattle.index.proofs.columns.entry.Statement.{statement}
 use Rattle.index.proofs.columns.entry.Tie as tie
 
-row-requires : tie.Need-row-requires
-row-requires c κs = search needs
-
 row-requires-2 : tie.Need-row-requires-2
 row-requires-2 c κs = let b = c .before .before .before .before .before .before in
     (b .pre, omega (arith, c .row .ensures, row-below (b .args .page)))
@@ -28,4 +25,4 @@ returns-2 : tie.Need-returns-2
 returns-2 c = row-past _ _ _ _ (c .before .before .before .before .before .pre) _ (omega (arith, c .if1 .left))
 
 pub entry-spec : {M : Type 1} → statement M
-entry-spec = tie.close (tie.spec row-requires row-requires-2 returns returns-2)
+entry-spec = tie.close (tie.spec (λ c κs. search needs) row-requires-2 returns returns-2)

@@ -25,18 +25,6 @@ loop-holds c = (omega arith, length-replicate {A = Entry} 64 emptyEntry, λ x k.
 row-requires : tie.Need-row-requires Inv-loop μ-loop
 row-requires c κs = (c .before .before .before .before .before .before .pre, c .loop-test .taken)
 
-mul-index : tie.Need-mul-index Inv-loop μ-loop
-mul-index c = search needs
-
-array-set-from-index : tie.Need-array-set-from-index Inv-loop μ-loop
-array-set-from-index c = search needs
-
-add-i : tie.Need-add-i Inv-loop μ-loop
-add-i c = search needs
-
-loop-less : tie.Need-loop-less Inv-loop μ-loop
-loop-less c = search needs
-
 loop-again : tie.Need-loop-again Inv-loop μ-loop
 loop-again c =
     let l = c .before .before .loop in
@@ -57,14 +45,5 @@ returns c = λ x k.
 pub gather-spec : {M : Type 1} → statement M
 gather-spec =
     tie.close
-    (tie.spec
-    Inv-loop
-    μ-loop
-    loop-holds
-    row-requires
-    mul-index
-    array-set-from-index
-    add-i
-    loop-less
-    loop-again
-    returns)
+    (tie.spec Inv-loop μ-loop loop-holds row-requires (λ c. search needs) (λ c. search needs) (λ c. search needs)
+    (λ c. search needs) loop-again returns)

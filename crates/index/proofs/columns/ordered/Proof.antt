@@ -14,7 +14,8 @@ use Rattle.index.proofs.columns.ordered.Tie as tie
 
 abbrev Inv-loop : tie.InvT-loop
 Inv-loop last written slots backup pages sound₀ i₀ sound i =
-    (i ≤ pages) × (sound ≡ every i (λ j. leb (columnRow last written slots backup j .written) (columnRow last written slots backup j .last)))
+    (i ≤ pages) × (sound ≡ every i (λ j. leb (columnRow last written slots backup j .written)
+    (columnRow last written slots backup j .last)))
 
 abbrev μ-loop : tie.MeasureT-loop
 μ-loop last written slots backup pages sound₀ i₀ sound i = pages - i
@@ -24,12 +25,6 @@ loop-holds c = (omega arith, sym (every-none _))
 
 row-requires : tie.Need-row-requires Inv-loop μ-loop
 row-requires c κs = let p = c .before .before .before .before .before .before .pre in (p .0, omega (arith, c .loop-test .taken, p .1))
-
-add-i : tie.Need-add-i Inv-loop μ-loop
-add-i c = search needs
-
-loop-less : tie.Need-loop-less Inv-loop μ-loop
-loop-less c = search needs
 
 loop-again : tie.Need-loop-again Inv-loop μ-loop
 loop-again c =
@@ -47,4 +42,5 @@ returns c u =
 
 pub ordered-spec : {M : Type 1} → statement M
 ordered-spec =
-    tie.close (tie.spec Inv-loop μ-loop loop-holds row-requires add-i loop-less loop-again returns)
+    tie.close
+    (tie.spec Inv-loop μ-loop loop-holds row-requires (λ c. search needs) (λ c. search needs) loop-again returns)

@@ -13,11 +13,8 @@ lower n h = omega arith
 returns : tie.Need-returns
 returns c = rw (c .if1 .taken)
 
-used-requires : tie.Need-used-requires
-used-requires c κs = search needs
-
 returns-2 : tie.Need-returns-2
 returns-2 c = rw (c .used .ensures, le-leb 1 _ (lower _ (c .before .if1 .left)))
 
 pub taken-spec : {M : Type 1} → statement M
-taken-spec = tie.close (tie.spec returns used-requires returns-2)
+taken-spec = tie.close (tie.spec returns (λ c κs. search needs) returns-2)

@@ -1,5 +1,5 @@
 -- `index::columns::used` meets its contract. The loop keeps: what was counted, or what is left of the column, decides.
-use mathlib.Core.Path.{_≡_, refl, _∙_}
+use mathlib.Core.Path.{_≡_, _∙_}
 use mathlib.Core.Bool.{not, _||_}
 use Prim.Native.Nat.{_-_, _≤_}
 use native.Mathlib.Omega.{arith}
@@ -11,10 +11,6 @@ use Rattle.index.specs.Columns.{slotIn}
 use Rattle.index.proofs.ColumnLaws.{or-none, in-end, counted-next}
 use Rattle.index.proofs.columns.used.Statement.{statement}
 use Rattle.index.proofs.columns.used.Tie as tie
-use Rattle.index.proofs.columns.used.Reads as reads
-use Rattle.index.proofs.columns.used.Lts as lts
-use Rattle.codec.proofs.number.one8.Reads as one8-reads
-use Rattle.codec.proofs.number.u8_u32.Reads as u8-u32-reads
 
 abbrev Inv-loop : tie.InvT-loop
 Inv-loop slots slot n₀ i₀ n i =
@@ -23,27 +19,6 @@ Inv-loop slots slot n₀ i₀ n i =
 abbrev μ-loop : tie.MeasureT-loop
 μ-loop slots slot n₀ i₀ n i = 64 - i
 
-loop-holds : tie.Need-loop-holds Inv-loop μ-loop
-loop-holds c = search needs
-
-shared-slice-read-u8-u32 : tie.Need-shared-slice-read-u8-u32 Inv-loop μ-loop
-shared-slice-read-u8-u32 c = search needs
-
-u8-u32-requires : tie.Need-u8-u32-requires Inv-loop μ-loop
-u8-u32-requires c κs = search needs
-
-one8-requires : tie.Need-one8-requires Inv-loop μ-loop
-one8-requires c κs = search needs
-
-add-n : tie.Need-add-n Inv-loop μ-loop
-add-n c = search needs
-
-add-i : tie.Need-add-i Inv-loop μ-loop
-add-i c = search needs
-
-loop-less : tie.Need-loop-less Inv-loop μ-loop
-loop-less c = search needs
-
 loop-again : tie.Need-loop-again Inv-loop μ-loop
 loop-again c =
     let l = c .before .before .before .before .loop in
@@ -51,7 +26,8 @@ loop-again c =
     let t = c .before .before .before .loop-test .taken in (
       omega (arith, t),
       omega (arith, l .inv .1, c .one8 .ensures .1),
-      counted-next (s .args .slot) (now (s .args .slots)) (l .i) (l .n) _ (omega (arith, t, s .pre)) (rw (c .before .u8-u32 .ensures .0) at (c .one8 .ensures .0))
+      counted-next (s .args .slot) (now (s .args .slots)) (l .i) (l .n) _ (omega (arith, t, s .pre))
+          (rw (c .before .u8-u32 .ensures .0) at (c .one8 .ensures .0))
           ∙ l .inv .2,
     )
 
@@ -59,20 +35,11 @@ returns : tie.Need-returns Inv-loop μ-loop
 returns c =
     let l = c .before .loop in
     let s = c .before .before .before in
-    or-none (not (eqb (l .n) 0)) _ (in-end (s .args .slot) (now (s .args .slots)) (l .i) (omega (arith, s .pre, c .loop-test .left))) ∙ l .inv .2
+    or-none (not (eqb (l .n) 0)) _ (in-end (s .args .slot) (now (s .args .slots)) (l .i)
+    (omega (arith, s .pre, c .loop-test .left))) ∙ l .inv .2
 
 pub used-spec : {M : Type 1} → statement M
 used-spec =
     tie.close
-    (tie.spec
-    Inv-loop
-    μ-loop
-    loop-holds
-    shared-slice-read-u8-u32
-    u8-u32-requires
-    one8-requires
-    add-n
-    add-i
-    loop-less
-    loop-again
-    returns)
+    (tie.spec Inv-loop μ-loop (λ c. search needs) (λ c. search needs) (λ c κs. search needs) (λ c κs. search needs)
+    (λ c. search needs) (λ c. search needs) (λ c. search needs) loop-again returns)

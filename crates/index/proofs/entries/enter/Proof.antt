@@ -5,20 +5,11 @@ use borrow.Author.Needs.{needs}
 use Rattle.index.proofs.entries.enter.Statement.{statement}
 use Rattle.index.proofs.entries.enter.Tie as tie
 
-cast-row : tie.Need-cast-row
-cast-row c = search needs
-
-row-requires : tie.Need-row-requires
-row-requires c κs = search needs
-
 mul-e : tie.Need-mul-e
 mul-e c = omega (arith, c .row .ensures, row-below (c .before .before .args .n .page))
 
 array-copy-out-e : tie.Need-array-copy-out-e
 array-copy-out-e c = omega (arith, c .row .ensures, row-below (c .before .before .args .n .page))
-
-noted-requires : tie.Need-noted-requires
-noted-requires c κs = search needs
 
 mul-index : tie.Need-mul-index
 mul-index c = omega (arith, c .before .before .row .ensures, row-below (c .before .before .before .before .args .n .page))
@@ -34,12 +25,5 @@ returns c =
 pub enter-spec : {M : Type 1} → statement M
 enter-spec =
     tie.close
-    (tie.spec
-    cast-row
-    row-requires
-    mul-e
-    array-copy-out-e
-    noted-requires
-    mul-index
-    array-set-from-index
-    returns)
+    (tie.spec (λ c. search needs) (λ c κs. search needs) mul-e array-copy-out-e (λ c κs. search needs) mul-index
+    array-set-from-index returns)

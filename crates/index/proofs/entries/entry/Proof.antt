@@ -8,9 +8,6 @@ use borrow.Author.Needs.{needs}
 use Rattle.index.proofs.entries.entry.Statement.{statement}
 use Rattle.index.proofs.entries.entry.Tie as tie
 
-row-requires : tie.Need-row-requires
-row-requires c κs = search needs
-
 mul-result : tie.Need-mul-result
 mul-result c = omega (arith, c .row .ensures, row-below (c .before .before .args .page))
 
@@ -26,4 +23,4 @@ returns-2 : tie.Need-returns-2
 returns-2 c = sym (List·getD-eq-default (c .before .args .t1) emptyEntry (omega arith))
 
 pub entry-spec : {M : Type 1} → statement M
-entry-spec = tie.close (tie.spec row-requires mul-result array-copy-out-result returns returns-2)
+entry-spec = tie.close (tie.spec (λ c κs. search needs) mul-result array-copy-out-result returns returns-2)

@@ -14,12 +14,9 @@ record-requires c κs =
     let s = c .before in
     (s .pre .some, record-fits _ _ (s .pre) (s .args .n))
 
-u16-at-requires : tie.Need-u16-at-requires
-u16-at-requires c κs = search needs
-
 returns : tie.Need-returns
 unfolding recordOf
 returns c = c .u16-at .ensures ∙ ap (λ (r : List ℕ). field 2 8 r) (c .before .«record» .ensures)
 
 pub page-spec : {M : Type 1} → statement M
-page-spec = tie.close (tie.spec record-requires u16-at-requires returns)
+page-spec = tie.close (tie.spec record-requires (λ c κs. search needs) returns)

@@ -72,29 +72,17 @@ belonging c = c .before .belongs .ensures (not-false _ (c .if2 .left))
 find-log-requires : tie.Need-find-log-requires Inv-loop μ-loop
 find-log-requires c κs = let p = c .before .before .before .before .pre in (p .1 .0 .some, p .0 .some)
 
-note-at-requires : tie.Need-note-at-requires Inv-loop μ-loop
-note-at-requires c κs = search needs
-
-cast-stop : tie.Need-cast-stop Inv-loop μ-loop
-cast-stop c = search needs
-
-mul-stop : tie.Need-mul-stop Inv-loop μ-loop
-mul-stop c = search needs
-
 add-stop : tie.Need-add-stop Inv-loop μ-loop
-add-stop c = let p = c .before .before .before .before .before .before .before .pre in omega (arith, c .before .note-at .ensures, p .0 .pages, p .0 .slots, p .0 .records, p .0 .notes)
+add-stop c = let p = c .before .before .before .before .before .before .before .pre in
+    omega (arith, c .before .note-at .ensures, p .0 .pages, p .0 .slots, p .0 .records, p .0 .notes)
 
 add-past : tie.Need-add-past Inv-loop μ-loop
-add-past c = let p = c .before .before .before .before .before .before .before .before .before .pre in omega (arith, p .1 .1 .0 .low, p .0 .notes)
-
-cast-from : tie.Need-cast-from Inv-loop μ-loop
-cast-from c = search needs
-
-mul-from : tie.Need-mul-from Inv-loop μ-loop
-mul-from c = search needs
+add-past c = let p = c .before .before .before .before .before .before .before .before .before .pre in
+    omega (arith, p .1 .1 .0 .low, p .0 .notes)
 
 add-from : tie.Need-add-from Inv-loop μ-loop
-add-from c = let p = c .before .before .before .before .before .before .before .before .before .before .pre in omega (arith, c .before .before .before .before .note-at .ensures, p .0 .pages, p .0 .slots, p .0 .records)
+add-from c = let p = c .before .before .before .before .before .before .before .before .before .before .pre in
+    omega (arith, c .before .before .before .before .note-at .ensures, p .0 .pages, p .0 .slots, p .0 .records)
 
 loop-holds : tie.Need-loop-holds Inv-loop μ-loop
 loop-holds c =
@@ -110,12 +98,6 @@ loop-holds c =
 
 add-end : tie.Need-add-end Inv-loop μ-loop
 add-end c = let p = entry (c .before) .pre .0 in omega (arith, room c, p .size, p .pages, p .slots, p .records, p .notes)
-
-sub-r : tie.Need-sub-r Inv-loop μ-loop
-sub-r c = search needs
-
-part-r-start : tie.Need-part-r-start Inv-loop μ-loop
-part-r-start c = search needs
 
 part-r-end : tie.Need-part-r-end Inv-loop μ-loop
 part-r-end c = omega (arith, room c)
@@ -156,34 +138,44 @@ belongs-requires c κs =
     (entry a .pre .0, (entry a .pre .1 .0, a .before .before .before .before .before .before .find-log .ensures))
 
 same-length-4 : tie.Need-same-length-4 Inv-loop μ-loop
-same-length-4 c = let a = c .before .before .before .before .before .before .before in a .loop .inv .3 .long .written-long ∙ sym (entry-long a .written-long)
+same-length-4 c = let a = c .before .before .before .before .before .before .before in
+    a .loop .inv .3 .long .written-long ∙ sym (entry-long a .written-long)
 
 same-length-5 : tie.Need-same-length-5 Inv-loop μ-loop
-same-length-5 c = let a = c .before .before .before .before .before .before .before in a .loop .inv .3 .long .slots-long ∙ sym (entry-long a .slots-long)
+same-length-5 c = let a = c .before .before .before .before .before .before .before in a .loop .inv .3 .long .slots-long
+    ∙ sym (entry-long a .slots-long)
 
 same-length-6 : tie.Need-same-length-6 Inv-loop μ-loop
-same-length-6 c = let a = c .before .before .before .before .before .before .before in a .loop .inv .3 .long .backup-long ∙ sym (entry-long a .backup-long)
+same-length-6 c = let a = c .before .before .before .before .before .before .before in
+    a .loop .inv .3 .long .backup-long ∙ sym (entry-long a .backup-long)
 
 returns-2 : tie.Need-returns-2 Inv-loop μ-loop
 returns-2 c =
-    let a = c .before .before .before .before .before .before .before in
-    (λ t. absurd (true-not-false t refl), (a .loop .inv .3 .long .written-long, a .loop .inv .3 .long .slots-long, a .loop .inv .3 .long .backup-long))
+    let a = c .before .before .before .before .before .before .before in (
+      λ t. absurd (true-not-false t refl),
+      (a .loop .inv .3 .long .written-long, a .loop .inv .3 .long .slots-long, a .loop .inv .3 .long .backup-long),
+    )
 
 enter-requires : tie.Need-enter-requires Inv-loop μ-loop
 enter-requires c κs =
     let x = c .before .before .before in
     let a = turn x in
-    let w = within-bounds _ _ (belonging x .inside) in
-    ((a .loop .inv .3 .long .written-long, a .loop .inv .3 .long .slots-long, a .loop .inv .3 .long .backup-long), (w .0, omega (arith, w .1, entry a .pre .0 .pages)))
+    let w = within-bounds _ _ (belonging x .inside) in (
+      (a .loop .inv .3 .long .written-long, a .loop .inv .3 .long .slots-long, a .loop .inv .3 .long .backup-long),
+      (w .0, omega (arith, w .1, entry a .pre .0 .pages)),
+    )
 
 same-length-7 : tie.Need-same-length-7 Inv-loop μ-loop
-same-length-7 c = let f = c .before .before .before .before .before .before .before in let a = turn (f .before .before .before .before) in f .enter .kept .0 ∙ a .loop .inv .3 .long .written-long ∙ sym (entry-long a .written-long)
+same-length-7 c = let f = c .before .before .before .before .before .before .before in let a = turn
+    (f .before .before .before .before) in f .enter .kept .0 ∙ a .loop .inv .3 .long .written-long ∙ sym (entry-long a .written-long)
 
 same-length-8 : tie.Need-same-length-8 Inv-loop μ-loop
-same-length-8 c = let f = c .before .before .before .before .before .before .before in let a = turn (f .before .before .before .before) in f .enter .kept .1 .0 ∙ a .loop .inv .3 .long .slots-long ∙ sym (entry-long a .slots-long)
+same-length-8 c = let f = c .before .before .before .before .before .before .before in let a = turn
+    (f .before .before .before .before) in f .enter .kept .1 .0 ∙ a .loop .inv .3 .long .slots-long ∙ sym (entry-long a .slots-long)
 
 same-length-9 : tie.Need-same-length-9 Inv-loop μ-loop
-same-length-9 c = let f = c .before .before .before .before .before .before .before in let a = turn (f .before .before .before .before) in f .enter .kept .1 .1 .0 ∙ a .loop .inv .3 .long .backup-long ∙ sym (entry-long a .backup-long)
+same-length-9 c = let f = c .before .before .before .before .before .before .before in let a = turn
+    (f .before .before .before .before) in f .enter .kept .1 .1 .0 ∙ a .loop .inv .3 .long .backup-long ∙ sym (entry-long a .backup-long)
 
 returns-3 : tie.Need-returns-3 Inv-loop μ-loop
 returns-3 c =
@@ -191,9 +183,6 @@ returns-3 c =
     let k = f .enter .kept in
     let l = turn (f .before .before .before .before) .loop .inv .3 .long in
     (λ t. absurd (true-not-false t refl), (k .0 ∙ l .written-long, k .1 .0 ∙ l .slots-long, k .1 .1 .0 ∙ l .backup-long))
-
-onward-requires : tie.Need-onward-requires Inv-loop μ-loop
-onward-requires c κs = search needs
 
 add-n : tie.Need-add-n Inv-loop μ-loop
 add-n c =
@@ -215,11 +204,13 @@ loop-again c =
     let t = not-false _ (c .before .if3 .left) in (
       omega (arith, a .loop .inv .0),
       omega (arith, i .loop-test .taken),
-      λ m. next-is (start (geo a) (noteAt 1)) (geo a .notes) (a .loop .n) (a .loop .from) _ _ _ (omega (arith, a .loop .inv .0, p .1 .1 .0 .some)) m
+      λ m. next-is (start (geo a) (noteAt 1)) (geo a .notes) (a .loop .n) (a .loop .from) _ _ _
+          (omega (arith, a .loop .inv .0, p .1 .1 .0 .some)) m
           (here i) refl (ap (λ (y : ℕ). y + 16 * geo a .notes) (a .before .before .before .before .before .note-at .ensures))
           (λ q. c .onward .ensures .0 q ∙ a .before .before .before .before .before .note-at .ensures, c .onward .ensures .1),
       passed-more (geo a) (vol a) (p .0 .pages) _ (a .loop .n) (a .loop .inv .0) _ _ _ (a .loop .inv .3) _ (read i)
-          (sym (x .before .before .before .before .note-holds .ensures) ∙ not-false _ (x .before .before .before .if1 .left)) (e .result) (e .ensures)
+          (sym (x .before .before .before .before .note-holds .ensures) ∙ not-false _
+          (x .before .before .before .if1 .left)) (e .result) (e .ensures)
           (belonging x) (f .enter .ensures .0 t) _ _ _
           (f .enter .ensures .1 t),
     )
@@ -250,44 +241,9 @@ returns-4 c =
 pub pass-spec : {M : Type 1} → statement M
 pass-spec =
     tie.close
-    (tie.spec
-    Inv-loop
-    μ-loop
-    find-log-requires
-    note-at-requires
-    cast-stop
-    mul-stop
-    add-stop
-    add-past
-    cast-from
-    mul-from
-    add-from
-    loop-holds
-    add-end
-    sub-r
-    part-r-start
-    part-r-end
-    note-holds-requires
-    same-length
-    same-length-2
-    same-length-3
-    returns
-    fields-requires
-    belongs-requires
-    same-length-4
-    same-length-5
-    same-length-6
-    returns-2
-    enter-requires
-    same-length-7
-    same-length-8
-    same-length-9
-    returns-3
-    onward-requires
-    add-n
-    loop-less
-    loop-again
-    same-length-10
-    same-length-11
-    same-length-12
-    returns-4)
+    (tie.spec Inv-loop μ-loop find-log-requires (λ c κs. search needs) (λ c. search needs) (λ c. search needs) add-stop
+    add-past (λ c. search needs) (λ c. search needs) add-from loop-holds add-end (λ c. search needs)
+    (λ c. search needs) part-r-end note-holds-requires same-length same-length-2 same-length-3 returns fields-requires
+    belongs-requires same-length-4 same-length-5 same-length-6 returns-2 enter-requires same-length-7 same-length-8
+    same-length-9 returns-3 (λ c κs. search needs) add-n loop-less loop-again same-length-10 same-length-11
+    same-length-12 returns-4)

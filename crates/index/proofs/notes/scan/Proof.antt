@@ -15,7 +15,8 @@ use Rattle.section.specs.declared.Section.{Section}
 use Rattle.log_scan.proofs.RowLaws.{row-below}
 use Rattle.index.proofs.ColumnLaws.{Long, blank-long}
 use Rattle.index.proofs.Located.{note-here, note-placed}
-use Rattle.index.proofs.NotePass.{note-whole, Entered, entered-none, entered-more, run-low, run-some, note-judged, notes-break, notes-end, notes-columns}
+use Rattle.index.proofs.NotePass.{note-whole, Entered, entered-none, entered-more, run-low, run-some}
+use Rattle.index.proofs.NotePass.{note-judged, notes-break, notes-end, notes-columns}
 use Rattle.section.proofs.SectionLaws.{slot-starts, slot-low, slot-next, slot-of}
 use Rattle.index.proofs.notes.scan.Statement.{statement}
 use Rattle.index.proofs.notes.scan.Tie as tie
@@ -68,7 +69,8 @@ judged : (c : tie.After-fits2 Inv-loop μ-loop)
 judged c =
     let a = head c in
     let h = entry a .pre in
-    note-judged (geo a) (vol a) (h .0 .pages) _ _ _ _ _ (a .loop .inv .1 .same) _ (c .before .before .before .before .before .before .before .before .before .before .before .before .before .before .before .nth .ensures) _ (here (c .before .before .before .before .before .before .before .before .before .before .before .before .before .before)) _ (c .before .before .before .before .before .before .before .before .before .before .before .before .before .read .ensures) _ (c .before .before .before .before .before .before .before .before .before .before .before .row .ensures) _ (c .before .before .before .before .before .before .before .earlier .ensures) _ _
+    note-judged (geo a) (vol a) (h .0 .pages) _ _ _ _ _ (a .loop .inv .1 .same) _
+    (c .before .before .before .before .before .before .before .before .before .before .before .before .before .before .before .nth .ensures) _ (here (c .before .before .before .before .before .before .before .before .before .before .before .before .before .before)) _ (c .before .before .before .before .before .before .before .before .before .before .before .before .before .read .ensures) _ (c .before .before .before .before .before .before .before .before .before .before .before .row .ensures) _ (c .before .before .before .before .before .before .before .earlier .ensures) _ _
     (ap (λ (r : Run). r .count) (h .1 .0 .0)) (ap (λ (r : Run). r .first) (h .1 .0 .0)) _ _ _ _ _
     (c .before .whole .ensures) (c .before .before .before .before .taken .ensures) (c .before .before .before .follows .ensures)
     (c .before .before .agrees .ensures) (c .fits2 .ensures)
@@ -89,9 +91,6 @@ entry-long a = blank-long _ _ _ (entry a .pre .1 .1)
 span-requires : tie.Need-span-requires Inv-loop μ-loop
 span-requires c κs = run-low _ _ _ (c .before .before .before .before .pre .1 .0 .1)
 
-locate-requires : tie.Need-locate-requires Inv-loop μ-loop
-locate-requires c κs = search needs
-
 start-requires : tie.Need-start-requires Inv-loop μ-loop
 start-requires c κs = run-low _ _ _ (c .before .before .before .before .before .before .pre .1 .0 .1)
 
@@ -110,15 +109,6 @@ item-requires c κs =
     let a = c .before .before in
     let m = some (c .before) in
     (rw (a .before .before .locate .ensures) (note-placed _ _ (entry a .pre .0)), slot-low _ _ _ (slots-are a) _ _ (a .loop .inv .2 m) m)
-
-read-requires : tie.Need-read-requires Inv-loop μ-loop
-read-requires c κs = search needs
-
-cast-row : tie.Need-cast-row Inv-loop μ-loop
-cast-row c = search needs
-
-row-requires : tie.Need-row-requires Inv-loop μ-loop
-row-requires c κs = search needs
 
 mul-earlier : tie.Need-mul-earlier Inv-loop μ-loop
 mul-earlier c = omega (arith, row-at c)
@@ -141,18 +131,6 @@ slice-read-earlier-3 c = omega (
   c .before .before .before .before .before .before .before .before .before .loop .inv .1 .long .backup-long,
 )
 
-earlier-requires : tie.Need-earlier-requires Inv-loop μ-loop
-earlier-requires c κs = search needs
-
-cast-taken : tie.Need-cast-taken Inv-loop μ-loop
-cast-taken c = search needs
-
-taken-requires : tie.Need-taken-requires Inv-loop μ-loop
-taken-requires c κs = search needs
-
-follows-requires : tie.Need-follows-requires Inv-loop μ-loop
-follows-requires c κs = search needs
-
 agrees-requires : tie.Need-agrees-requires Inv-loop μ-loop
 agrees-requires c κs =
     entry (c .before .before .before .before .before .before .before .before .before .before .before .before .before .before) .pre .0
@@ -163,9 +141,6 @@ whole-requires c κs =
     note-whole _ _ _ (entry a .pre .1 .0 .1) _ _ _
     (here (c .before .before .before .before .before .before .before .before .before .before .before .before))
     (slot-is (c .before .before .before .before .before .before .before .before .before .before .before .before .before))
-
-fits-requires : tie.Need-fits-requires Inv-loop μ-loop
-fits-requires c κs = search needs
 
 same-length : tie.Need-same-length Inv-loop μ-loop
 same-length c = let a = c .before .before .before .before .before .before .before .before .before .before .before .before .before .before .before .before .before .before in a .loop .inv .1 .long .written-long ∙ sym (entry-long a .written-long)
@@ -186,9 +161,6 @@ returns c =
       a .before .before .before .span .ensures,
     )) (sym (judged f) ∙ not-true _ (c .if1 .taken)) in
     (sym k, λ t. absurd (true-not-false t refl))
-
-noted-requires : tie.Need-noted-requires Inv-loop μ-loop
-noted-requires c κs = search needs
 
 mul-written : tie.Need-mul-written Inv-loop μ-loop
 mul-written c =
@@ -248,7 +220,8 @@ loop-again c =
         arith,
         f .before .before .before .before .before .before .before .before .before .before .before .before .before .before .before .before .loop-test .taken,
       ),
-      entered-more (geo a) (vol a) (h .0 .pages) _ _ _ _ _ (a .loop .inv .1 .same) _ (f .before .before .before .before .before .before .before .before .before .before .before .before .before .before .before .nth .ensures) _ (here (f .before .before .before .before .before .before .before .before .before .before .before .before .before .before)) _ (f .before .before .before .before .before .before .before .before .before .before .before .before .before .read .ensures) _ (f .before .before .before .before .before .before .before .before .before .before .before .row .ensures) _ (f .before .before .before .before .before .before .before .earlier .ensures) _ _
+      entered-more (geo a) (vol a) (h .0 .pages) _ _ _ _ _ (a .loop .inv .1 .same) _
+          (f .before .before .before .before .before .before .before .before .before .before .before .before .before .before .before .nth .ensures) _ (here (f .before .before .before .before .before .before .before .before .before .before .before .before .before .before)) _ (f .before .before .before .before .before .before .before .before .before .before .before .before .before .read .ensures) _ (f .before .before .before .before .before .before .before .before .before .before .before .row .ensures) _ (f .before .before .before .before .before .before .before .earlier .ensures) _ _
           (ap (λ (r : Run). r .count) (h .1 .0 .0)) (ap (λ (r : Run). r .first) (h .1 .0 .0)) _ _ _ _ _
           (f .before .whole .ensures) (f .before .before .before .before .taken .ensures) (f .before .before .before .follows .ensures)
           (f .before .before .agrees .ensures) (f .fits2 .ensures)
@@ -281,46 +254,10 @@ returns-2 c =
 pub scan-spec : {M : Type 1} → statement M
 scan-spec =
     tie.close
-    (tie.spec
-    Inv-loop
-    μ-loop
-    span-requires
-    locate-requires
-    start-requires
-    loop-holds
-    nth-requires
-    item-requires
-    read-requires
-    cast-row
-    row-requires
-    mul-earlier
-    slice-read-earlier
-    slice-read-earlier-2
-    mul-earlier-2
-    slice-read-earlier-3
-    earlier-requires
-    cast-taken
-    taken-requires
-    follows-requires
-    agrees-requires
-    whole-requires
-    fits-requires
-    same-length
-    same-length-2
-    same-length-3
-    returns
-    noted-requires
-    mul-written
-    slice-write-written
-    slice-write-slots
-    mul-backup
-    slice-write-backup
-    after-requires
-    add-i
-    loop-less
-    loop-again
-    ends-requires
-    same-length-4
-    same-length-5
-    same-length-6
-    returns-2)
+    (tie.spec Inv-loop μ-loop span-requires (λ c κs. search needs) start-requires loop-holds nth-requires item-requires
+    (λ c κs. search needs) (λ c. search needs) (λ c κs. search needs) mul-earlier slice-read-earlier
+    slice-read-earlier-2 mul-earlier-2 slice-read-earlier-3 (λ c κs. search needs) (λ c. search needs)
+    (λ c κs. search needs) (λ c κs. search needs) agrees-requires whole-requires (λ c κs. search needs) same-length
+    same-length-2 same-length-3 returns (λ c κs. search needs) mul-written slice-write-written slice-write-slots
+    mul-backup slice-write-backup after-requires add-i loop-less loop-again ends-requires same-length-4 same-length-5
+    same-length-6 returns-2)

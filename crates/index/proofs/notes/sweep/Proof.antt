@@ -18,9 +18,6 @@ use Rattle.index.proofs.notes.sweep.Tie as tie
 guessed : (c : tie.After-guess-start) → Guessed (noteSection (c .before .before .before .before .before .before .args .g)) (c .guess-start .result)
 guessed c = subst (λ (s : Section). Guessed s (c .guess-start .result)) (c .before .locate .ensures) (c .guess-start .ensures)
 
-locate-requires : tie.Need-locate-requires
-locate-requires c κs = search needs
-
 guess-start-requires : tie.Need-guess-start-requires
 guess-start-requires c κs = rw (c .locate .ensures) (note-placed _ _ (c .before .before .before .before .before .pre .0))
 
@@ -29,32 +26,20 @@ pass-requires c κs =
     let p = c .before .before .before .before .before .before .before .before .before .pre in
     (p .0, (p .1 .0, (guessed (c .before .before .before), p .1 .1)))
 
-same-length : tie.Need-same-length
-same-length c = search needs
-
-same-length-2 : tie.Need-same-length-2
-same-length-2 c = search needs
-
-same-length-3 : tie.Need-same-length-3
-same-length-3 c = search needs
-
 returns : tie.Need-returns
 returns c = (λ t. absurd (true-not-false t refl), c .before .before .before .before .before .before .before .before .pass .ensures .1)
 
 sub-closed : tie.Need-sub-closed
-sub-closed c = omega (arith, c .before .before .before .before .before .before .before .before .before .pass .ensures .0 (not-false _ (c .before .if1 .left)) .order)
+sub-closed c = omega (
+  arith,
+  c .before .before .before .before .before .before .before .before .before .pass .ensures .0
+      (not-false _ (c .before .if1 .left)) .order,
+)
 
 closed-requires : tie.Need-closed-requires
-closed-requires c κs = let p = c .before .before .before .before .before .before .before .before .before in rw (p .before .before .before .before .before .locate .ensures) (note-placed _ _ (p .before .before .before .before .before .before .before .before .before .before .pre .0))
-
-same-length-4 : tie.Need-same-length-4
-same-length-4 c = search needs
-
-same-length-5 : tie.Need-same-length-5
-same-length-5 c = search needs
-
-same-length-6 : tie.Need-same-length-6
-same-length-6 c = search needs
+closed-requires c κs = let p = c .before .before .before .before .before .before .before .before .before in
+    rw (p .before .before .before .before .before .locate .ensures)
+    (note-placed _ _ (p .before .before .before .before .before .before .before .before .before .before .pre .0))
 
 returns-2 : tie.Need-returns-2
 returns-2 c =
@@ -73,17 +58,6 @@ returns-2 c =
 pub sweep-spec : {M : Type 1} → statement M
 sweep-spec =
     tie.close
-    (tie.spec
-    locate-requires
-    guess-start-requires
-    pass-requires
-    same-length
-    same-length-2
-    same-length-3
-    returns
-    sub-closed
-    closed-requires
-    same-length-4
-    same-length-5
-    same-length-6
+    (tie.spec (λ c κs. search needs) guess-start-requires pass-requires (λ c. search needs) (λ c. search needs)
+    (λ c. search needs) returns sub-closed closed-requires (λ c. search needs) (λ c. search needs) (λ c. search needs)
     returns-2)

@@ -11,9 +11,6 @@ use Rattle.inspect_report.proofs.examine.examine.Tie as tie
 valid-requires : tie.Need-valid-requires
 valid-requires c κs = search needs
 
-first-requires : tie.Need-first-requires
-first-requires c κs = search needs
-
 returns : tie.Need-returns
 returns c =
     let a = c .before .before .before .before .before .before .args in
@@ -21,9 +18,6 @@ returns c =
     (ne-eqb (length (a .report .now)) 3 (c .before .before .if1 .taken)) (c .first .result)
     (c .first .ensures ∙ rw (c .before .valid .ensures)) in
     (t .0, (t .1, t .2))
-
-inspect-requires : tie.Need-inspect-requires
-inspect-requires c κs = search needs
 
 -- src/examine.rt:104:5
 tell-requires : tie.Need-tell-requires
@@ -56,13 +50,5 @@ returns-2 c =
 pub examine-spec : {M : Type 1} → statement M
 examine-spec =
     tie.close
-    (tie.spec
-    valid-requires
-    first-requires
-    returns
-    inspect-requires
-    tell-requires
-    number-requires
-    same-length
-    same-length-2
-    returns-2)
+    (tie.spec valid-requires (λ c κs. search needs) returns (λ c κs. search needs) tell-requires number-requires
+    same-length same-length-2 returns-2)

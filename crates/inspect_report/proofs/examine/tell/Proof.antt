@@ -56,15 +56,6 @@ returns c =
 pub tell-spec : {M : Type 1} → statement M
 tell-spec =
     tie.close
-    (tie.spec
-    slice-read-class-after
-    class-after-requires
-    slice-read-start-after
-    start-after-requires
-    slice-read-count-after
-    count-after-requires
-    slice-write-report
-    slice-write-report-2
-    slice-write-report-3
-    same-length
-    returns)
+    (tie.spec slice-read-class-after class-after-requires slice-read-start-after start-after-requires
+    slice-read-count-after count-after-requires slice-write-report slice-write-report-2 slice-write-report-3
+    same-length returns)

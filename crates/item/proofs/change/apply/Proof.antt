@@ -17,27 +17,6 @@ slide-known : (c : tie.After-c3) → Ready (c .c3 .given .0 .0) (c .c3 .given .0
     (now (c .before .before .before .before .args .payload)) (now (c .before .before .before .before .args .body))
 slide-known c = slide-ready _ _ _ (c .before .before .before .before .pre) _ _ (c .c3 .given .1)
 
-enum-known-c : tie.Need-enum-known-c
-enum-known-c c = search needs
-
-fill-requires : tie.Need-fill-requires
-fill-requires c κs = search needs
-
-enum-known-c-2 : tie.Need-enum-known-c-2
-enum-known-c-2 c = search needs
-
-cast-n : tie.Need-cast-n
-cast-n c = search needs
-
-cast-put : tie.Need-cast-put
-cast-put c = search needs
-
-sub-put : tie.Need-sub-put
-sub-put c = search needs
-
-part-put-start : tie.Need-part-put-start
-part-put-start c = search needs
-
 part-put-end : tie.Need-part-put-end
 part-put-end c = omega (arith, put-known (c .before .before) .held)
 
@@ -46,28 +25,10 @@ put-requires c κs =
     let z = put-known (c .before .before .before) in
     simp (sub-zero, length-take) (omega (arith, z .room, z .held, z .body))
 
-enum-known-c-3 : tie.Need-enum-known-c-3
-enum-known-c-3 c = search needs
-
-cast-n-2 : tie.Need-cast-n-2
-cast-n-2 c = search needs
-
-cast-raise : tie.Need-cast-raise
-cast-raise c = search needs
-
 raise-requires : tie.Need-raise-requires
 raise-requires c κs =
     let z = slide-known (c .before .before) in
     omega (arith, z .room, z .body)
-
-cast-put-2 : tie.Need-cast-put-2
-cast-put-2 c = search needs
-
-sub-put-2 : tie.Need-sub-put-2
-sub-put-2 c = search needs
-
-part-put-start-2 : tie.Need-part-put-start-2
-part-put-start-2 c = search needs
 
 part-put-end-2 : tie.Need-part-put-end-2
 part-put-end-2 c = omega (arith, slide-known (c .before .before .before .before .before .before) .held)
@@ -78,24 +39,15 @@ put-requires-2 c κs =
     let z = slide-known (r .before .before .before) in
     simp (sub-zero, length-take) (omega (arith, z .room, z .held, z .body, r .raise .kept))
 
-same-length : tie.Need-same-length
-same-length c = search needs
-
 returns : tie.Need-returns
 returns c =
     let s = c .before .before .before .before .before in
     format-is _ _ _ _ _ (s .c .given .1) (s .before .before .before .before .pre .2) (c .before .before .fill .ensures)
 
-same-length-2 : tie.Need-same-length-2
-same-length-2 c = search needs
-
 returns-2 : tie.Need-returns-2
 returns-2 c =
     let s = c .before .before .before .before .before .before in
     put-is _ _ _ _ _ _ (s .c2 .given .1) (put-known s) (simp sub-zero at (c .before .before .put .ensures))
-
-same-length-3 : tie.Need-same-length-3
-same-length-3 c = search needs
 
 returns-3 : tie.Need-returns-3
 returns-3 c =
@@ -106,28 +58,7 @@ returns-3 c =
 pub apply-spec : {M : Type 1} → statement M
 apply-spec =
     tie.close
-    (tie.spec
-    enum-known-c
-    fill-requires
-    enum-known-c-2
-    cast-n
-    cast-put
-    sub-put
-    part-put-start
-    part-put-end
-    put-requires
-    enum-known-c-3
-    cast-n-2
-    cast-raise
-    raise-requires
-    cast-put-2
-    sub-put-2
-    part-put-start-2
-    part-put-end-2
-    put-requires-2
-    same-length
-    returns
-    same-length-2
-    returns-2
-    same-length-3
-    returns-3)
+    (tie.spec (λ c. search needs) (λ c κs. search needs) (λ c. search needs) (λ c. search needs) (λ c. search needs)
+    (λ c. search needs) (λ c. search needs) part-put-end put-requires (λ c. search needs) (λ c. search needs)
+    (λ c. search needs) raise-requires (λ c. search needs) (λ c. search needs) (λ c. search needs) part-put-end-2
+    put-requires-2 (λ c. search needs) returns (λ c. search needs) returns-2 (λ c. search needs) returns-3)

@@ -5,24 +5,6 @@ use Rattle.item.proofs.Builds.{image-is}
 use Rattle.item.proofs.image.build.Statement.{statement}
 use Rattle.item.proofs.image.build.Tie as tie
 
-cast-put-u16 : tie.Need-cast-put-u16
-cast-put-u16 c = search needs
-
-put-u16-requires : tie.Need-put-u16-requires
-put-u16-requires c κs = search needs
-
-put-u16-requires-2 : tie.Need-put-u16-requires-2
-put-u16-requires-2 c κs = search needs
-
-put-u32-requires : tie.Need-put-u32-requires
-put-u32-requires c κs = search needs
-
-put-u32-requires-2 : tie.Need-put-u32-requires-2
-put-u32-requires-2 c κs = search needs
-
-same-length : tie.Need-same-length
-same-length c = search needs
-
 returns : tie.Need-returns
 returns c =
     let e₄ = c .before .before in
@@ -36,11 +18,5 @@ returns c =
 pub build-spec : {M : Type 1} → statement M
 build-spec =
     tie.close
-    (tie.spec
-    cast-put-u16
-    put-u16-requires
-    put-u16-requires-2
-    put-u32-requires
-    put-u32-requires-2
-    same-length
-    returns)
+    (tie.spec (λ c. search needs) (λ c κs. search needs) (λ c κs. search needs) (λ c κs. search needs)
+    (λ c κs. search needs) (λ c. search needs) returns)

@@ -35,5 +35,4 @@ returns-2 c =
     c .before .before .set2 .ensures ∙ sym (bytes-set (a .g) (now (a .x)) (c .before .before .before .before .if1 .left))
 
 pub seal-spec : {M : Type 1} → statement M
-seal-spec =
-    tie.close (tie.spec set-requires set-requires-2 same-length returns same-length-2 returns-2)
+seal-spec = tie.close (tie.spec set-requires set-requires-2 same-length returns same-length-2 returns-2)

@@ -36,12 +36,4 @@ returns-3 c = rw (c .before .holds3 .ensures, c .holds4 .ensures)
 
 pub sealed-spec : {M : Type 1} → statement M
 sealed-spec =
-    tie.close
-    (tie.spec
-    holds-requires
-    returns
-    holds-requires-2
-    returns-2
-    holds-requires-3
-    holds-requires-4
-    returns-3)
+    tie.close (tie.spec holds-requires returns holds-requires-2 returns-2 holds-requires-3 holds-requires-4 returns-3)

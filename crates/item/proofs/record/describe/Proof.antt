@@ -5,18 +5,6 @@ use Rattle.model.specs.Item.{recordFor}
 use Rattle.item.proofs.record.describe.Statement.{statement}
 use Rattle.item.proofs.record.describe.Tie as tie
 
-cast-page : tie.Need-cast-page
-cast-page c = search needs
-
-enum-known-c : tie.Need-enum-known-c
-enum-known-c c = search needs
-
-enum-known-c-2 : tie.Need-enum-known-c-2
-enum-known-c-2 c = search needs
-
-enum-known-c-3 : tie.Need-enum-known-c-3
-enum-known-c-3 c = search needs
-
 returns : tie.Need-returns
 returns c =
     let a = c .before .before .before .args in
@@ -35,4 +23,5 @@ returns-3 c =
 pub describe-spec : {M : Type 1} → statement M
 describe-spec =
     tie.close
-    (tie.spec cast-page enum-known-c enum-known-c-2 enum-known-c-3 returns returns-2 returns-3)
+    (tie.spec (λ c. search needs) (λ c. search needs) (λ c. search needs) (λ c. search needs) returns returns-2
+    returns-3)

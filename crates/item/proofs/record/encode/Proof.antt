@@ -8,15 +8,6 @@ use Rattle.item.proofs.Builds.{length-few, encode-is}
 use Rattle.item.proofs.record.encode.Statement.{statement}
 use Rattle.item.proofs.record.encode.Tie as tie
 
-describe-requires : tie.Need-describe-requires
-describe-requires c κs = search needs
-
-cast-n : tie.Need-cast-n
-cast-n c = search needs
-
-fields-requires : tie.Need-fields-requires
-fields-requires c κs = search needs
-
 pad-requires : tie.Need-pad-requires
 pad-requires c κs =
     let f = c .before .before .before in
@@ -28,12 +19,6 @@ pad-requires c κs =
         length-few (s .args .lsn) (s .args .prev) (s .args .page) (s .args .c) (d .describe .result) (d .describe .ensures) (s .pre .1),
       ),
     )
-
-set-requires : tie.Need-set-requires
-set-requires c κs = search needs
-
-same-length : tie.Need-same-length
-same-length c = search needs
 
 returns : tie.Need-returns
 returns c =
@@ -49,11 +34,5 @@ returns c =
 pub encode-spec : {M : Type 1} → statement M
 encode-spec =
     tie.close
-    (tie.spec
-    describe-requires
-    cast-n
-    fields-requires
-    pad-requires
-    set-requires
-    same-length
-    returns)
+    (tie.spec (λ c κs. search needs) (λ c. search needs) (λ c κs. search needs) pad-requires (λ c κs. search needs)
+    (λ c. search needs) returns)

@@ -7,18 +7,6 @@ use Rattle.item.proofs.Builds.{fields-is}
 use Rattle.item.proofs.record.fields.Statement.{statement}
 use Rattle.item.proofs.record.fields.Tie as tie
 
-put-u32-requires : tie.Need-put-u32-requires
-put-u32-requires c κs = search needs
-
-put-u32-requires-2 : tie.Need-put-u32-requires-2
-put-u32-requires-2 c κs = search needs
-
-put-u16-requires : tie.Need-put-u16-requires
-put-u16-requires c κs = search needs
-
-slice-write-dst : tie.Need-slice-write-dst
-slice-write-dst c = search needs
-
 slice-write-dst-2 : tie.Need-slice-write-dst-2
 slice-write-dst-2 c = simp length-set (omega arith)
 
@@ -47,14 +35,5 @@ returns c =
 pub fields-spec : {M : Type 1} → statement M
 fields-spec =
     tie.close
-    (tie.spec
-    put-u32-requires
-    put-u32-requires-2
-    put-u16-requires
-    slice-write-dst
-    slice-write-dst-2
-    put-u16-requires-2
-    slice-write-dst-3
-    slice-write-dst-4
-    same-length
-    returns)
+    (tie.spec (λ c κs. search needs) (λ c κs. search needs) (λ c κs. search needs) (λ c. search needs)
+    slice-write-dst-2 put-u16-requires-2 slice-write-dst-3 slice-write-dst-4 same-length returns)

@@ -19,23 +19,11 @@ judged c =
       rule = c .ruled .ensures;
     }
 
-four-requires : tie.Need-four-requires
-four-requires c κs = search needs
-
-four-requires-2 : tie.Need-four-requires-2
-four-requires-2 c κs = search needs
-
-ruled-requires : tie.Need-ruled-requires
-ruled-requires c κs = search needs
-
 returns : tie.Need-returns
 returns c = words-unfit _ _ _ _ (judged (c .before)) (not-true _ (c .if1 .taken))
 
 returns-2 : tie.Need-returns-2
 returns-2 c = words-whole _ _ _ _ (judged (c .before .before)) (not-false _ (c .before .if1 .left)) (c .if2 .taken)
-
-cast-tail : tie.Need-cast-tail
-cast-tail c = search needs
 
 tail-requires : tie.Need-tail-requires
 tail-requires c κs =
@@ -48,12 +36,5 @@ returns-3 c =
 pub laid-out-spec : {M : Type 1} → statement M
 laid-out-spec =
     tie.close
-    (tie.spec
-    four-requires
-    four-requires-2
-    ruled-requires
-    returns
-    returns-2
-    cast-tail
-    tail-requires
-    returns-3)
+    (tie.spec (λ c κs. search needs) (λ c κs. search needs) (λ c κs. search needs) returns returns-2
+    (λ c. search needs) tail-requires returns-3)

@@ -10,33 +10,6 @@ use Rattle.item.proofs.record.layout.Tie as tie
 returns : tie.Need-returns
 returns c = absurd (omega arith)
 
-read-requires : tie.Need-read-requires
-read-requires c κs = search needs
-
-cast-fits : tie.Need-cast-fits
-cast-fits c = search needs
-
-cast-fits-2 : tie.Need-cast-fits-2
-cast-fits-2 c = search needs
-
-cast-fits-3 : tie.Need-cast-fits-3
-cast-fits-3 c = search needs
-
-cast-fits-4 : tie.Need-cast-fits-4
-cast-fits-4 c = search needs
-
-fits-requires : tie.Need-fits-requires
-fits-requires c κs = search needs
-
-byte-requires : tie.Need-byte-requires
-byte-requires c κs = search needs
-
-cast-padding : tie.Need-cast-padding
-cast-padding c = search needs
-
-padding-requires : tie.Need-padding-requires
-padding-requires c κs = search needs
-
 returns-2 : tie.Need-returns-2
 returns-2 c =
     let d = c .before .before .before in
@@ -47,15 +20,6 @@ returns-2 c =
 pub layout-spec : {M : Type 1} → statement M
 layout-spec =
     tie.close
-    (tie.spec
-    returns
-    read-requires
-    cast-fits
-    cast-fits-2
-    cast-fits-3
-    cast-fits-4
-    fits-requires
-    byte-requires
-    cast-padding
-    padding-requires
+    (tie.spec returns (λ c κs. search needs) (λ c. search needs) (λ c. search needs) (λ c. search needs)
+    (λ c. search needs) (λ c κs. search needs) (λ c κs. search needs) (λ c. search needs) (λ c κs. search needs)
     returns-2)

@@ -16,21 +16,6 @@ returns c =
     let z : 44 - a .n ≡ 0 = omega arith in
     rw z
 
-add-rest : tie.Need-add-rest
-add-rest c = search needs
-
-sub-zero : tie.Need-sub-zero
-sub-zero c = search needs
-
-part-zero-start : tie.Need-part-zero-start
-part-zero-start c = search needs
-
-part-zero-end : tie.Need-part-zero-end
-part-zero-end c = search needs
-
-zero-requires : tie.Need-zero-requires
-zero-requires c κs = search needs
-
 returns-2 : tie.Need-returns-2
 returns-2 c =
     let a = c .before .before .before .before .args in
@@ -39,4 +24,5 @@ returns-2 c =
 pub padding-spec : {M : Type 1} → statement M
 padding-spec =
     tie.close
-    (tie.spec returns add-rest sub-zero part-zero-start part-zero-end zero-requires returns-2)
+    (tie.spec returns (λ c. search needs) (λ c. search needs) (λ c. search needs) (λ c. search needs)
+    (λ c κs. search needs) returns-2)

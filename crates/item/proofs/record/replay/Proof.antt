@@ -7,30 +7,12 @@ use Rattle.item.proofs.Records.{layout-obeys, replay-is}
 use Rattle.item.proofs.record.replay.Statement.{statement}
 use Rattle.item.proofs.record.replay.Tie as tie
 
-read-requires : tie.Need-read-requires
-read-requires c κs = search needs
-
-held-requires : tie.Need-held-requires
-held-requires c κs = search needs
-
-sub-apply : tie.Need-sub-apply
-sub-apply c = search needs
-
-part-apply-start : tie.Need-part-apply-start
-part-apply-start c = search needs
-
-part-apply-end : tie.Need-part-apply-end
-part-apply-end c = search needs
-
 apply-requires : tie.Need-apply-requires
 apply-requires c κs =
     let h = c .before .before in
     let s = h .before .before .before .before in
     let o = layout-obeys _ _ _ (h .before .read .ensures) (h .held .ensures) (s .pre .1) in
     (o .0, simp (length-take, length-drop) (omega (arith, o .1, s .pre .0)), s .pre .2)
-
-same-length : tie.Need-same-length
-same-length c = search needs
 
 returns : tie.Need-returns
 unfolding part
@@ -41,12 +23,5 @@ returns c =
 pub replay-spec : {M : Type 1} → statement M
 replay-spec =
     tie.close
-    (tie.spec
-    read-requires
-    held-requires
-    sub-apply
-    part-apply-start
-    part-apply-end
-    apply-requires
-    same-length
-    returns)
+    (tie.spec (λ c κs. search needs) (λ c κs. search needs) (λ c. search needs) (λ c. search needs) (λ c. search needs)
+    apply-requires (λ c. search needs) returns)

@@ -16,12 +16,6 @@ Inv-loop r from i₀ i = (i ≤ 60) × (allZero (drop i (take 60 r)) ≡ allZero
 abbrev μ-loop : tie.MeasureT-loop
 μ-loop r from i₀ i = 60 - i
 
-loop-holds : tie.Need-loop-holds Inv-loop μ-loop
-loop-holds c = search needs
-
-shared-slice-read-if1 : tie.Need-shared-slice-read-if1 Inv-loop μ-loop
-shared-slice-read-if1 c = search needs
-
 returns : tie.Need-returns Inv-loop μ-loop
 returns c =
     let s = c .before .before .before .before in
@@ -30,12 +24,6 @@ returns c =
     let len = s .pre .0 in
     sym (byte-not r len (l .i) (c .before .before .loop-test .taken) (c .if1 .taken))
     ∙ (l .inv .1 ∙ left-part r len (s .args .from) (60 - s .args .from) (omega arith))
-
-add-i : tie.Need-add-i Inv-loop μ-loop
-add-i c = search needs
-
-loop-less : tie.Need-loop-less Inv-loop μ-loop
-loop-less c = search needs
 
 loop-again : tie.Need-loop-again Inv-loop μ-loop
 loop-again c =
@@ -54,13 +42,5 @@ returns-2 c =
 pub short-spec : {M : Type 1} → statement M
 short-spec =
     tie.close
-    (tie.spec
-    Inv-loop
-    μ-loop
-    loop-holds
-    shared-slice-read-if1
-    returns
-    add-i
-    loop-less
-    loop-again
-    returns-2)
+    (tie.spec Inv-loop μ-loop (λ c. search needs) (λ c. search needs) returns (λ c. search needs) (λ c. search needs)
+    loop-again returns-2)

@@ -18,23 +18,11 @@ Inv-loop r n i₀ i =
 abbrev μ-loop : tie.MeasureT-loop
 μ-loop r n i₀ i = 60 - i
 
-add-i : tie.Need-add-i Inv-loop μ-loop
-add-i c = search needs
-
-short-requires : tie.Need-short-requires Inv-loop μ-loop
-short-requires c κs = search needs
-
 returns : tie.Need-returns Inv-loop μ-loop
 returns c =
     let a = c .before .before .before .args in
     let k : 60 - (16 + a .n) ≡ 44 - a .n = omega arith in
     c .short .ensures ∙ ap (λ (m : ℕ). allZero (part (now (a .r)) (16 + a .n) m)) k
-
-loop-holds : tie.Need-loop-holds Inv-loop μ-loop
-loop-holds c = search needs
-
-eight-requires : tie.Need-eight-requires Inv-loop μ-loop
-eight-requires c κs = search needs
 
 returns-2 : tie.Need-returns-2 Inv-loop μ-loop
 returns-2 c =
@@ -45,21 +33,12 @@ returns-2 c =
     sym (eight-not r (s .pre .0) from (l .i) (l .inv .0) (omega arith) (λ z. c .if2 .taken (c .before .eight .ensures ∙ z)))
     ∙ left-part r (s .pre .0) from (44 - s .args .n) (omega arith)
 
-add-i-2 : tie.Need-add-i-2 Inv-loop μ-loop
-add-i-2 c = search needs
-
-loop-less : tie.Need-loop-less Inv-loop μ-loop
-loop-less c = search needs
-
 loop-again : tie.Need-loop-again Inv-loop μ-loop
 loop-again c =
     let s = c .before .before .before .before .before .before in
     let l = c .before .before .before .loop in
     let on = eight-on (now (s .args .r)) (s .pre .0) (l .i) (omega arith) (sym (c .before .eight .ensures) ∙ c .if2 .left) in
     (omega arith, l .inv .1, omega arith, sym on ∙ l .inv .3)
-
-eight-requires-2 : tie.Need-eight-requires-2 Inv-loop μ-loop
-eight-requires-2 c κs = search needs
 
 returns-3 : tie.Need-returns-3 Inv-loop μ-loop
 returns-3 c =
@@ -74,17 +53,6 @@ returns-3 c =
 pub tail-spec : {M : Type 1} → statement M
 tail-spec =
     tie.close
-    (tie.spec
-    Inv-loop
-    μ-loop
-    add-i
-    short-requires
-    returns
-    loop-holds
-    eight-requires
-    returns-2
-    add-i-2
-    loop-less
-    loop-again
-    eight-requires-2
+    (tie.spec Inv-loop μ-loop (λ c. search needs) (λ c κs. search needs) returns (λ c. search needs)
+    (λ c κs. search needs) returns-2 (λ c. search needs) (λ c. search needs) loop-again (λ c κs. search needs)
     returns-3)

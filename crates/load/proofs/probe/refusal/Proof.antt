@@ -16,9 +16,6 @@ known c =
     opened _ _ _ _ _ _ _ (c .before .geometry .ensures) (c .entry .ensures)
     (sym (i .before .refusal2 .ensures (now (s .args .memory)) refl) ∙ i .if1 .left)
 
-refusal-requires : tie.Need-refusal-requires
-refusal-requires c κs = search needs
-
 refusal-requires-2 : tie.Need-refusal-requires-2
 refusal-requires-2 c κs = c .refusal .ensures
 
@@ -28,20 +25,11 @@ returns c =
     early-refuses (now (s .args .volume)) (now (s .args .memory)) (s .args .s) (s .args .page) (s .args .frame) _
     (c .before .refusal2 .ensures (now (s .args .memory)) refl) (c .if1 .taken)
 
-geometry-requires : tie.Need-geometry-requires
-geometry-requires c κs = search needs
-
-entry-requires : tie.Need-entry-requires
-entry-requires c κs = search needs
-
 first-requires : tie.Need-first-requires
 first-requires c κs = known c .sized
 
 walk-requires : tie.Need-walk-requires
 walk-requires c κs = known (c .before) .ready _ (c .first .ensures)
-
-walk-refusal-requires : tie.Need-walk-refusal-requires
-walk-refusal-requires c κs = search needs
 
 returns-2 : tie.Need-returns-2
 returns-2 c =
@@ -51,13 +39,5 @@ returns-2 c =
 pub refusal-spec : {M : Type 1} → statement M
 refusal-spec =
     tie.close
-    (tie.spec
-    refusal-requires
-    refusal-requires-2
-    returns
-    geometry-requires
-    entry-requires
-    first-requires
-    walk-requires
-    walk-refusal-requires
-    returns-2)
+    (tie.spec (λ c κs. search needs) refusal-requires-2 returns (λ c κs. search needs) (λ c κs. search needs)
+    first-requires walk-requires (λ c κs. search needs) returns-2)

@@ -11,15 +11,6 @@ returns c =
     let a = s .args in
     release-first (now (a .volume)) (now (a .memory)) (a .s) (a .page) _ (s .pre) (c .if1 .taken)
 
-geometry-requires : tie.Need-geometry-requires
-geometry-requires c κs = search needs
-
-holder-requires : tie.Need-holder-requires
-holder-requires c κs = search needs
-
-own-requires : tie.Need-own-requires
-own-requires c κs = search needs
-
 returns-2 : tie.Need-returns-2
 returns-2 c =
     let h = c .before in
@@ -31,4 +22,4 @@ returns-2 c =
 
 pub refusal-spec : {M : Type 1} → statement M
 refusal-spec =
-    tie.close (tie.spec returns geometry-requires holder-requires own-requires returns-2)
+    tie.close (tie.spec returns (λ c κs. search needs) (λ c κs. search needs) (λ c κs. search needs) returns-2)

@@ -20,14 +20,8 @@ none : (c : tie.Else1) → let s = c .before .before .before .before in firstOf
     (releaseRows (now (s .args .volume)) (now (s .args .memory)) (s .args .s) (s .args .page)) ≡ 0
 none c = sym (c .before .refusal .ensures) ∙ c .if1 .left
 
-refusal-requires : tie.Need-refusal-requires
-refusal-requires c κs = search needs
-
 returns : tie.Need-returns
 returns c = release-refused _ _ _ _ _ (c .before .refusal .ensures) (c .if1 .taken)
-
-holder-requires : tie.Need-holder-requires
-holder-requires c κs = search needs
 
 loaded-requires : tie.Need-loaded-requires
 loaded-requires c κs =
@@ -40,4 +34,4 @@ returns-2 : tie.Need-returns-2
 returns-2 c = release-done _ _ _ _ _ _ (none (c .before .before)) (c .before .holder .ensures) (c .loaded .ensures)
 
 pub release-spec : {M : Type 1} → statement M
-release-spec = tie.close (tie.spec refusal-requires returns holder-requires loaded-requires returns-2)
+release-spec = tie.close (tie.spec (λ c κs. search needs) returns (λ c κs. search needs) loaded-requires returns-2)

@@ -31,26 +31,8 @@ known c =
     backup-room (now (s .args .volume)) (now (s .args .memory)) (s .args .s) _ (s .args .page) (long s) (c .geometry .ensures)
     (s .args .slot) (none i)
 
-refusal-requires : tie.Need-refusal-requires
-refusal-requires c κs = search needs
-
-same-length : tie.Need-same-length
-same-length c = search needs
-
 returns : tie.Need-returns
 returns c = backup-refused _ _ _ _ _ _ (c .before .refusal .ensures) (c .if1 .taken)
-
-holder-requires : tie.Need-holder-requires
-holder-requires c κs = search needs
-
-geometry-requires : tie.Need-geometry-requires
-geometry-requires c κs = search needs
-
-lsn-requires : tie.Need-lsn-requires
-lsn-requires c κs = search needs
-
-slot-at-requires : tie.Need-slot-at-requires
-slot-at-requires c κs = search needs
 
 store-requires : tie.Need-store-requires
 store-requires c κs =
@@ -62,9 +44,6 @@ backed-up-requires : tie.Need-backed-up-requires
 backed-up-requires c κs =
     let k = known (c .before .before .before .before .before .before) in
     (k .1 .page-high, omega (arith, k .0), omega (arith, k .1 .notes))
-
-same-length-2 : tie.Need-same-length-2
-same-length-2 c = search needs
 
 returns-2 : tie.Need-returns-2
 returns-2 c =
@@ -79,15 +58,5 @@ returns-2 c =
 pub backup-spec : {M : Type 1} → statement M
 backup-spec =
     tie.close
-    (tie.spec
-    refusal-requires
-    same-length
-    returns
-    holder-requires
-    geometry-requires
-    lsn-requires
-    slot-at-requires
-    store-requires
-    backed-up-requires
-    same-length-2
-    returns-2)
+    (tie.spec (λ c κs. search needs) (λ c. search needs) returns (λ c κs. search needs) (λ c κs. search needs)
+    (λ c κs. search needs) (λ c κs. search needs) store-requires backed-up-requires (λ c. search needs) returns-2)

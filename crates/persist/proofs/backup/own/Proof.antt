@@ -5,24 +5,6 @@ use borrow.Author.Needs.{needs}
 use Rattle.persist.proofs.backup.own.Statement.{statement}
 use Rattle.persist.proofs.backup.own.Tie as tie
 
-used-requires : tie.Need-used-requires
-used-requires c κs = search needs
-
-first-requires : tie.Need-first-requires
-first-requires c κs = search needs
-
-refusal-requires : tie.Need-refusal-requires
-refusal-requires c κs = search needs
-
-first-requires-2 : tie.Need-first-requires-2
-first-requires-2 c κs = search needs
-
-first-requires-3 : tie.Need-first-requires-3
-first-requires-3 c κs = search needs
-
-first-requires-4 : tie.Need-first-requires-4
-first-requires-4 c κs = search needs
-
 returns : tie.Need-returns
 returns c =
     let r = c .before .before .before in
@@ -36,11 +18,5 @@ returns c =
 pub own-spec : {M : Type 1} → statement M
 own-spec =
     tie.close
-    (tie.spec
-    used-requires
-    first-requires
-    refusal-requires
-    first-requires-2
-    first-requires-3
-    first-requires-4
-    returns)
+    (tie.spec (λ c κs. search needs) (λ c κs. search needs) (λ c κs. search needs) (λ c κs. search needs)
+    (λ c κs. search needs) (λ c κs. search needs) returns)

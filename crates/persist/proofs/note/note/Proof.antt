@@ -32,9 +32,6 @@ returns c =
     let s = c .before .before .before in
     note-refused (now (s .args .volume)) (now (s .args .memory)) (s .args .s) _ (s .pre) (c .if1 .taken)
 
-enum-known-p : tie.Need-enum-known-p
-enum-known-p c = search needs
-
 enum-told : tie.Need-enum-told
 enum-told c = search needs
 
@@ -42,9 +39,6 @@ returns-2 : tie.Need-returns-2
 returns-2 c =
     let a = c .before .before .before .before .before .args in
     note-idle (now (a .volume)) (now (a .memory)) (a .s) (none (c .before .before)) (c .enum-told .given .1)
-
-geometry-requires : tie.Need-geometry-requires
-geometry-requires c κs = search needs
 
 add-number : tie.Need-add-number
 add-number c = omega (arith, known (c .before) .notes)
@@ -55,25 +49,13 @@ note-slot-requires c κs = known (c .before) .slots
 add-end : tie.Need-add-end
 add-end c = omega (arith, known (c .before .before) .place, c .note-slot .ensures)
 
-sub-slot : tie.Need-sub-slot
-sub-slot c = search needs
-
-part-slot-start : tie.Need-part-slot-start
-part-slot-start c = search needs
-
 part-slot-end : tie.Need-part-slot-end
 part-slot-end c = omega (arith, known (c .before .before) .place, c .note-slot .ensures)
-
-encode-requires : tie.Need-encode-requires
-encode-requires c κs = search needs
 
 noted-requires : tie.Need-noted-requires
 noted-requires c κs =
     let k = known (c .before .before .before .before .before .before) in
     (k .page-low, k .page-high, omega (arith, k .notes))
-
-same-length : tie.Need-same-length
-same-length c = search needs
 
 returns-3 : tie.Need-returns-3
 returns-3 c =
@@ -89,19 +71,6 @@ returns-3 c =
 pub note-spec : {M : Type 1} → statement M
 note-spec =
     tie.close
-    (tie.spec
-    returns
-    enum-known-p
-    enum-told
-    returns-2
-    geometry-requires
-    add-number
-    note-slot-requires
-    add-end
-    sub-slot
-    part-slot-start
-    part-slot-end
-    encode-requires
-    noted-requires
-    same-length
-    returns-3)
+    (tie.spec returns (λ c. search needs) enum-told returns-2 (λ c κs. search needs) add-number note-slot-requires
+    add-end (λ c. search needs) (λ c. search needs) part-slot-end (λ c κs. search needs) noted-requires
+    (λ c. search needs) returns-3)

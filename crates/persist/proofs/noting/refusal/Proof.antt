@@ -11,21 +11,6 @@ returns c =
     let a = c .before .before .args in
     note-clean (a .g) (now (a .volume)) (a .s) (a .t) (a .lsn) (a .rest) (not-true _ (c .if1 .taken))
 
-present-requires : tie.Need-present-requires
-present-requires c κs = search needs
-
-full-requires : tie.Need-full-requires
-full-requires c κs = search needs
-
-first-requires : tie.Need-first-requires
-first-requires c κs = search needs
-
-first-requires-2 : tie.Need-first-requires-2
-first-requires-2 c κs = search needs
-
-first-requires-3 : tie.Need-first-requires-3
-first-requires-3 c κs = search needs
-
 returns-2 : tie.Need-returns-2
 returns-2 c =
     let f = c .before .before .before .before in
@@ -37,11 +22,5 @@ returns-2 c =
 pub refusal-spec : {M : Type 1} → statement M
 refusal-spec =
     tie.close
-    (tie.spec
-    returns
-    present-requires
-    full-requires
-    first-requires
-    first-requires-2
-    first-requires-3
-    returns-2)
+    (tie.spec returns (λ c κs. search needs) (λ c κs. search needs) (λ c κs. search needs) (λ c κs. search needs)
+    (λ c κs. search needs) returns-2)

@@ -5,18 +5,6 @@ use borrow.Author.Needs.{needs}
 use Rattle.persist.proofs.write.own.Statement.{statement}
 use Rattle.persist.proofs.write.own.Tie as tie
 
-frame-requires : tie.Need-frame-requires
-frame-requires c κs = search needs
-
-refusal-requires : tie.Need-refusal-requires
-refusal-requires c κs = search needs
-
-first-requires : tie.Need-first-requires
-first-requires c κs = search needs
-
-first-requires-2 : tie.Need-first-requires-2
-first-requires-2 c κs = search needs
-
 returns : tie.Need-returns
 returns c =
     let r = c .before .before in
@@ -27,4 +15,5 @@ returns c =
 
 pub own-spec : {M : Type 1} → statement M
 own-spec =
-    tie.close (tie.spec frame-requires refusal-requires first-requires first-requires-2 returns)
+    tie.close
+    (tie.spec (λ c κs. search needs) (λ c κs. search needs) (λ c κs. search needs) (λ c κs. search needs) returns)

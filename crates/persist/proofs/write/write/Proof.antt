@@ -41,23 +41,8 @@ known c =
     write-room (now (s .args .volume)) (now (s .args .memory)) (s .args .s) _ (s .args .page) (long s) (c .geometry .ensures)
     (none (e .before .before .before)) (dirty e)
 
-refusal-requires : tie.Need-refusal-requires
-refusal-requires c κs = search needs
-
-same-length : tie.Need-same-length
-same-length c = search needs
-
 returns : tie.Need-returns
 returns c = write-refused _ _ _ _ _ (c .before .refusal .ensures) (c .if1 .taken)
-
-holder-requires : tie.Need-holder-requires
-holder-requires c κs = search needs
-
-frame-requires : tie.Need-frame-requires
-frame-requires c κs = search needs
-
-same-length-2 : tie.Need-same-length-2
-same-length-2 c = search needs
 
 returns-2 : tie.Need-returns-2
 returns-2 c =
@@ -66,15 +51,6 @@ returns-2 c =
     (dirty-is (now (a .volume)) (now (a .memory)) (a .s) (a .page) _ _ false (c .before .before .holder .ensures)
     (c .before .frame .ensures)
     (not-true _ (c .if2 .taken)))
-
-geometry-requires : tie.Need-geometry-requires
-geometry-requires c κs = search needs
-
-lsn-requires : tie.Need-lsn-requires
-lsn-requires c κs = search needs
-
-page-at-requires : tie.Need-page-at-requires
-page-at-requires c κs = search needs
 
 store-requires : tie.Need-store-requires
 store-requires c κs =
@@ -90,9 +66,6 @@ written-requires c κs =
     let h = g .before .before .before .before .holder .ensures in
     (k .page-high, omega (arith, k .frame-low, h), omega (arith, k .frame-high, h), omega (arith, k .notes))
 
-same-length-3 : tie.Need-same-length-3
-same-length-3 c = search needs
-
 returns-3 : tie.Need-returns-3
 returns-3 c =
     let t = c .before .before .before in
@@ -106,18 +79,6 @@ returns-3 c =
 pub write-spec : {M : Type 1} → statement M
 write-spec =
     tie.close
-    (tie.spec
-    refusal-requires
-    same-length
-    returns
-    holder-requires
-    frame-requires
-    same-length-2
-    returns-2
-    geometry-requires
-    lsn-requires
-    page-at-requires
-    store-requires
-    written-requires
-    same-length-3
-    returns-3)
+    (tie.spec (λ c κs. search needs) (λ c. search needs) returns (λ c κs. search needs) (λ c κs. search needs)
+    (λ c. search needs) returns-2 (λ c κs. search needs) (λ c κs. search needs) (λ c κs. search needs) store-requires
+    written-requires (λ c. search needs) returns-3)

@@ -5,42 +5,6 @@ use borrow.Author.Needs.{needs}
 use Rattle.planning_model.proofs.figures.add.Statement.{statement}
 use Rattle.planning_model.proofs.figures.add.Tie as tie
 
-u32-u64-requires : tie.Need-u32-u64-requires
-u32-u64-requires c κs = search needs
-
-add-t4 : tie.Need-add-t4
-add-t4 c = search needs
-
-u32-u64-requires-2 : tie.Need-u32-u64-requires-2
-u32-u64-requires-2 c κs = search needs
-
-add-t6 : tie.Need-add-t6
-add-t6 c = search needs
-
-u32-u64-requires-3 : tie.Need-u32-u64-requires-3
-u32-u64-requires-3 c κs = search needs
-
-add-t8 : tie.Need-add-t8
-add-t8 c = search needs
-
-u32-u64-requires-4 : tie.Need-u32-u64-requires-4
-u32-u64-requires-4 c κs = search needs
-
-add-t10 : tie.Need-add-t10
-add-t10 c = search needs
-
-u32-u64-requires-5 : tie.Need-u32-u64-requires-5
-u32-u64-requires-5 c κs = search needs
-
-add-t12 : tie.Need-add-t12
-add-t12 c = search needs
-
-u32-u64-requires-6 : tie.Need-u32-u64-requires-6
-u32-u64-requires-6 c κs = search needs
-
-add-t14 : tie.Need-add-t14
-add-t14 c = search needs
-
 returns : tie.Need-returns
 returns c =
     let a = c .before in
@@ -58,17 +22,6 @@ returns c =
 pub add-spec : {M : Type 1} → statement M
 add-spec =
     tie.close
-    (tie.spec
-    u32-u64-requires
-    add-t4
-    u32-u64-requires-2
-    add-t6
-    u32-u64-requires-3
-    add-t8
-    u32-u64-requires-4
-    add-t10
-    u32-u64-requires-5
-    add-t12
-    u32-u64-requires-6
-    add-t14
-    returns)
+    (tie.spec (λ c κs. search needs) (λ c. search needs) (λ c κs. search needs) (λ c. search needs)
+    (λ c κs. search needs) (λ c. search needs) (λ c κs. search needs) (λ c. search needs) (λ c κs. search needs)
+    (λ c. search needs) (λ c κs. search needs) (λ c. search needs) returns)

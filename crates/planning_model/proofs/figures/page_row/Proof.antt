@@ -4,15 +4,6 @@ use borrow.Author.Needs.{needs}
 use Rattle.planning_model.proofs.figures.page_row.Statement.{statement}
 use Rattle.planning_model.proofs.figures.page_row.Tie as tie
 
-row-requires : tie.Need-row-requires
-row-requires c κs = search needs
-
-mul-result : tie.Need-mul-result
-mul-result c = search needs
-
-array-copy-out-result : tie.Need-array-copy-out-result
-array-copy-out-result c = search needs
-
 returns : tie.Need-returns
 returns c = cc
 
@@ -20,5 +11,4 @@ returns-2 : tie.Need-returns-2
 returns-2 c = past-end _ (c .before .before .args .t1) _ 64 _ _ (search (needs, length-mapped)) (c .if1 .left) (c .before .row .ensures)
 
 pub page-row-spec : {M : Type 1} → statement M
-page-row-spec =
-    tie.close (tie.spec row-requires mul-result array-copy-out-result returns returns-2)
+page-row-spec = tie.close (tie.spec (λ c κs. search needs) (λ c. search needs) (λ c. search needs) returns returns-2)

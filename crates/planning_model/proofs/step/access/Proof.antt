@@ -5,9 +5,6 @@ use borrow.Author.Needs.{needs}
 use Rattle.planning_model.proofs.step.access.Statement.{statement}
 use Rattle.planning_model.proofs.step.access.Tie as tie
 
-sub-t6 : tie.Need-sub-t6
-sub-t6 c = search needs
-
 returns : tie.Need-returns
 unfolding accessOf
 returns c = rw (lt-ltb _ _ (c .if1 .taken))
@@ -17,4 +14,4 @@ unfolding accessOf
 returns-2 c = rw (le-ltb _ _ (c .if1 .left))
 
 pub access-spec : {M : Type 1} → statement M
-access-spec = tie.close (tie.spec sub-t6 returns returns-2)
+access-spec = tie.close (tie.spec (λ c. search needs) returns returns-2)

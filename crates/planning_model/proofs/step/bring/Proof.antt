@@ -5,20 +5,8 @@ use borrow.Author.Needs.{needs}
 use Rattle.planning_model.proofs.step.bring.Statement.{statement}
 use Rattle.planning_model.proofs.step.bring.Tie as tie
 
-evict-requires : tie.Need-evict-requires
-evict-requires c κs = search needs
-
 bring-in-requires : tie.Need-bring-in-requires
 bring-in-requires c κs = (search needs, rw (c .evict .ensures) (evicted-more _ _ _ (c .before .pre .2)))
-
-written-requires : tie.Need-written-requires
-written-requires c κs = search needs
-
-mul-frames : tie.Need-mul-frames
-mul-frames c = search needs
-
-array-set-from-frames : tie.Need-array-set-from-frames
-array-set-from-frames c = search needs
 
 returns : tie.Need-returns
 returns c =
@@ -30,10 +18,5 @@ returns c =
 pub bring-spec : {M : Type 1} → statement M
 bring-spec =
     tie.close
-    (tie.spec
-    evict-requires
-    bring-in-requires
-    written-requires
-    mul-frames
-    array-set-from-frames
+    (tie.spec (λ c κs. search needs) bring-in-requires (λ c κs. search needs) (λ c. search needs) (λ c. search needs)
     returns)

@@ -8,21 +8,12 @@ use borrow.Author.Needs.{needs}
 use Rattle.planning_model.proofs.step.bring_in.Statement.{statement}
 use Rattle.planning_model.proofs.step.bring_in.Tie as tie
 
-page-row-requires : tie.Need-page-row-requires
-page-row-requires c κs = search needs
-
-replayed-requires : tie.Need-replayed-requires
-replayed-requires c κs = search needs
-
 with-load-requires : tie.Need-with-load-requires
 with-load-requires c κs =
     let k = c .before .before .before in
     let s = small-more 900300 1000000 _ (omega arith) (k .before .pre .1 (k .before .args .page - 1)) in
     let q : Small 1000000 (k .page-row .result) = rw (k .page-row .ensures) s in
     (q, replayed-most (k .before .args .t) _ _ _ (c .replayed .ensures) (q .1))
-
-set-row-requires : tie.Need-set-row-requires
-set-row-requires c κs = search needs
 
 returns : tie.Need-returns
 returns c = bring-begin _ _ _ _ (c .before .before .page-row .ensures) (c .if1 .taken)
@@ -36,10 +27,4 @@ returns-2 c =
 pub bring-in-spec : {M : Type 1} → statement M
 bring-in-spec =
     tie.close
-    (tie.spec
-    page-row-requires
-    replayed-requires
-    with-load-requires
-    set-row-requires
-    returns
-    returns-2)
+    (tie.spec (λ c κs. search needs) (λ c κs. search needs) with-load-requires (λ c κs. search needs) returns returns-2)

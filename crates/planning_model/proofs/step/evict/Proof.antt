@@ -6,24 +6,9 @@ use borrow.Author.Needs.{needs}
 use Rattle.planning_model.proofs.step.evict.Statement.{statement}
 use Rattle.planning_model.proofs.step.evict.Tie as tie
 
-mul-x : tie.Need-mul-x
-mul-x c = search needs
-
-element-copy-out-x : tie.Need-element-copy-out-x
-element-copy-out-x c = search needs
-
-written-requires : tie.Need-written-requires
-written-requires c κs = search needs
-
-page-row-requires : tie.Need-page-row-requires
-page-row-requires c κs = search needs
-
 with-image-requires : tie.Need-with-image-requires
 with-image-requires c κs =
     rw (c .page-row .ensures) (small-more 900000 1000000 _ (omega arith) (c .before .before .before .before .before .before .pre .1 _))
-
-set-row-requires : tie.Need-set-row-requires
-set-row-requires c κs = search needs
 
 returns : tie.Need-returns
 returns c =
@@ -37,12 +22,5 @@ returns-2 c = evict-not _ _ _ (rw (c .before .before .written .ensures) at (c .i
 pub evict-spec : {M : Type 1} → statement M
 evict-spec =
     tie.close
-    (tie.spec
-    mul-x
-    element-copy-out-x
-    written-requires
-    page-row-requires
-    with-image-requires
-    set-row-requires
-    returns
-    returns-2)
+    (tie.spec (λ c. search needs) (λ c. search needs) (λ c κs. search needs) (λ c κs. search needs) with-image-requires
+    (λ c κs. search needs) returns returns-2)

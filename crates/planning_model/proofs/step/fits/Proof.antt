@@ -6,14 +6,8 @@ use borrow.Author.Needs.{needs}
 use Rattle.planning_model.proofs.step.fits.Statement.{statement}
 use Rattle.planning_model.proofs.step.fits.Tie as tie
 
-access-requires : tie.Need-access-requires
-access-requires c κs = search needs
-
-page-requires : tie.Need-page-requires
-page-requires c κs = search needs
-
 returns : tie.Need-returns
 returns c = ap (within 64) (c .page .ensures ∙ ap pageIn (c .before .access .ensures))
 
 pub fits-spec : {M : Type 1} → statement M
-fits-spec = tie.close (tie.spec access-requires page-requires returns)
+fits-spec = tie.close (tie.spec (λ c κs. search needs) (λ c κs. search needs) returns)

@@ -4,12 +4,6 @@ use borrow.Author.Needs.{needs}
 use Rattle.planning_model.proofs.step.read.Statement.{statement}
 use Rattle.planning_model.proofs.step.read.Tie as tie
 
-page-row-requires : tie.Need-page-row-requires
-page-row-requires c κs = search needs
-
-touch-requires : tie.Need-touch-requires
-touch-requires c κs = search needs
-
 returns : tie.Need-returns
 returns c = read-none _ _ _ (c .before .before .before .before .args .m) _ _ (c .before .before .page-row .ensures) (c .if1 .taken)
 
@@ -17,4 +11,4 @@ returns-2 : tie.Need-returns-2
 returns-2 c = read-touch _ _ _ _ _ _ (c .before .before .before .page-row .ensures) (c .before .if1 .left) (c .touch .ensures)
 
 pub read-spec : {M : Type 1} → statement M
-read-spec = tie.close (tie.spec page-row-requires touch-requires returns returns-2)
+read-spec = tie.close (tie.spec (λ c κs. search needs) (λ c κs. search needs) returns returns-2)

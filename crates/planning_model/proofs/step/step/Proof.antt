@@ -5,18 +5,6 @@ use borrow.Author.Needs.{needs}
 use Rattle.planning_model.proofs.step.step.Statement.{statement}
 use Rattle.planning_model.proofs.step.step.Tie as tie
 
-enum-known-a : tie.Need-enum-known-a
-enum-known-a c = search needs
-
-read-requires : tie.Need-read-requires
-read-requires c κs = search needs
-
-enum-known-a-2 : tie.Need-enum-known-a-2
-enum-known-a-2 c = search needs
-
-touch-requires : tie.Need-touch-requires
-touch-requires c κs = search needs
-
 alter-requires : tie.Need-alter-requires
 alter-requires c κs =
     let q = c .before .before .before .before .pre in
@@ -31,11 +19,5 @@ returns-2 c = step-change _ _ _ _ _ _ _ (c .before .before .before .a2 .given .1
 pub step-spec : {M : Type 1} → statement M
 step-spec =
     tie.close
-    (tie.spec
-    enum-known-a
-    read-requires
-    enum-known-a-2
-    touch-requires
-    alter-requires
-    returns
-    returns-2)
+    (tie.spec (λ c. search needs) (λ c κs. search needs) (λ c. search needs) (λ c κs. search needs) alter-requires
+    returns returns-2)

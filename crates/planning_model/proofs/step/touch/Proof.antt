@@ -4,24 +4,6 @@ use borrow.Author.Needs.{needs}
 use Rattle.planning_model.proofs.step.touch.Statement.{statement}
 use Rattle.planning_model.proofs.step.touch.Tie as tie
 
-cast-count : tie.Need-cast-count
-cast-count c = search needs
-
-holding-requires : tie.Need-holding-requires
-holding-requires c κs = search needs
-
-sub-find : tie.Need-sub-find
-sub-find c = search needs
-
-find-requires : tie.Need-find-requires
-find-requires c κs = search needs
-
-least-used-requires : tie.Need-least-used-requires
-least-used-requires c κs = search needs
-
-bring-requires : tie.Need-bring-requires
-bring-requires c κs = search needs
-
 returns : tie.Need-returns
 returns c = touch-found _ _ _ _ _ _ _ (c .before .before .holding .ensures .0) (c .before .if1 .taken) (c .find .ensures)
 
@@ -32,12 +14,5 @@ returns-2 c = touch-missing _ _ _ _ _ _ _ (c .before .before .before .holding .e
 pub touch-spec : {M : Type 1} → statement M
 touch-spec =
     tie.close
-    (tie.spec
-    cast-count
-    holding-requires
-    sub-find
-    find-requires
-    least-used-requires
-    bring-requires
-    returns
-    returns-2)
+    (tie.spec (λ c. search needs) (λ c κs. search needs) (λ c. search needs) (λ c κs. search needs)
+    (λ c κs. search needs) (λ c κs. search needs) returns returns-2)

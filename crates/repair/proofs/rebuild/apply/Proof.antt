@@ -27,9 +27,6 @@ linked v g f e page l h = subst (Linked (logOf g v) page (e .durable)) (sym h) (
 loop-holds : tie.Need-loop-holds Inv-loop μ-loop
 loop-holds c = let h = c .before .before .before .before .pre in replaying-start _ _ _ _ (h .1 .1 .0) (h .1 .1 .1)
 
-sub-i : tie.Need-sub-i Inv-loop μ-loop
-sub-i c = search needs
-
 mul-n : tie.Need-mul-n Inv-loop μ-loop
 mul-n c = let h = in-array _ _ _ _ _ (c .before .loop .i) (omega arith) (c .before .loop .inv) in search needs
 
@@ -75,16 +72,5 @@ returns c =
 pub apply-spec : {M : Type 1} → statement M
 apply-spec =
     tie.close
-    (tie.spec
-    Inv-loop
-    μ-loop
-    loop-holds
-    sub-i
-    mul-n
-    shared-slice-read-n
-    record-requires
-    replay-requires
-    loop-less
-    loop-again
-    same-length
-    returns)
+    (tie.spec Inv-loop μ-loop loop-holds (λ c. search needs) mul-n shared-slice-read-n record-requires replay-requires
+    loop-less loop-again same-length returns)

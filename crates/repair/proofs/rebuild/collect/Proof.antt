@@ -25,15 +25,6 @@ mul-lsns c = let h = c .before .loop .inv .0 .room in search needs
 slice-write-lsns : tie.Need-slice-write-lsns Inv-loop μ-loop
 slice-write-lsns c = let h = c .before .loop .inv .0 .room in omega (arith, h, c .loop-test .taken)
 
-previous-requires : tie.Need-previous-requires Inv-loop μ-loop
-previous-requires c κs = search needs
-
-add-i : tie.Need-add-i Inv-loop μ-loop
-add-i c = search needs
-
-loop-less : tie.Need-loop-less Inv-loop μ-loop
-loop-less c = search needs
-
 loop-again : tie.Need-loop-again Inv-loop μ-loop
 loop-again c =
     let l = c .before .before .loop in (
@@ -50,15 +41,5 @@ returns c = collected-all _ _ _ _ _ _ (c .before .loop .inv .0) (c .loop-test .l
 pub collect-spec : {M : Type 1} → statement M
 collect-spec =
     tie.close
-    (tie.spec
-    Inv-loop
-    μ-loop
-    loop-holds
-    mul-lsns
-    slice-write-lsns
-    previous-requires
-    add-i
-    loop-less
-    loop-again
-    same-length
-    returns)
+    (tie.spec Inv-loop μ-loop loop-holds mul-lsns slice-write-lsns (λ c κs. search needs) (λ c. search needs)
+    (λ c. search needs) loop-again same-length returns)

@@ -14,12 +14,9 @@ record-requires c κs =
     let h = c .before .pre in
     (sized _ _ (h .0) (h .1) .some, record-fits _ _ (h .0) (h .1) _)
 
-u32-at-requires : tie.Need-u32-at-requires
-u32-at-requires c κs = search needs
-
 returns : tie.Need-returns
 unfolding recordOf
 returns c = c .u32-at .ensures ∙ ap (λ (r : List ℕ). field 4 4 r) (c .before .«record» .ensures)
 
 pub previous-spec : {M : Type 1} → statement M
-previous-spec = tie.close (tie.spec record-requires u32-at-requires returns)
+previous-spec = tie.close (tie.spec record-requires (λ c κs. search needs) returns)

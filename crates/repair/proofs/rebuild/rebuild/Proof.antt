@@ -8,15 +8,6 @@ use Rattle.repair.proofs.Starts.{ready-sized}
 use Rattle.repair.proofs.rebuild.rebuild.Statement.{statement}
 use Rattle.repair.proofs.rebuild.rebuild.Tie as tie
 
-sub-body : tie.Need-sub-body
-sub-body c = search needs
-
-part-body-start : tie.Need-part-body-start
-part-body-start c = search needs
-
-part-body-end : tie.Need-part-body-end
-part-body-end c = search needs
-
 begin-requires : tie.Need-begin-requires
 begin-requires c κs =
     let b = c .before .before .before .before .before in
@@ -40,9 +31,6 @@ build-requires c κs =
       omega (arith, h .0 .high, ready-sized _ _ _ _ _ (h .0) .pages),
     )
 
-same-length : tie.Need-same-length
-same-length c = search needs
-
 returns : tie.Need-returns
 returns c =
     let b = c .before .before .before .before .before .before .before .before .before .before .before .before .before .before .before in
@@ -57,12 +45,5 @@ returns c =
 pub rebuild-spec : {M : Type 1} → statement M
 rebuild-spec =
     tie.close
-    (tie.spec
-    sub-body
-    part-body-start
-    part-body-end
-    begin-requires
-    replay-requires
-    build-requires
-    same-length
-    returns)
+    (tie.spec (λ c. search needs) (λ c. search needs) (λ c. search needs) begin-requires replay-requires build-requires
+    (λ c. search needs) returns)

@@ -18,17 +18,11 @@ most : (v : List ℕ) (g : Geometry) (f : ℕ) (e : Entry) (page count : ℕ) �
 most v g f e page count h k =
     omega (arith, k, chain-most g page (viewOf g v f e page) (h .durable), ready-sized v g f e page h .records)
 
-slice-aggregate-replay-in : tie.Need-slice-aggregate-replay-in
-slice-aggregate-replay-in c = search needs
-
 replay-in-requires : tie.Need-replay-in-requires
 replay-in-requires c κs =
     let b = c .before .before .before .before .before in
     let t = c .before .before .if1 .taken in
     (b .pre .0, (b .pre .1 .0, (search needs, b .pre .1 .1)))
-
-slice-aggregate-replay-in-2 : tie.Need-slice-aggregate-replay-in-2
-slice-aggregate-replay-in-2 c = search needs
 
 replay-in-requires-2 : tie.Need-replay-in-requires-2
 replay-in-requires-2 c κs =
@@ -36,14 +30,8 @@ replay-in-requires-2 c κs =
     let m = most _ _ (b .args .t .first) (b .args .t .entry) _ _ (b .pre .0) (b .pre .1 .0) in
     (b .pre .0, (b .pre .1 .0, (search needs, b .pre .1 .1)))
 
-same-length : tie.Need-same-length
-same-length c = search needs
-
 returns : tie.Need-returns
 returns c = c .before .before .before .replay-in .ensures
-
-same-length-2 : tie.Need-same-length-2
-same-length-2 c = search needs
 
 returns-2 : tie.Need-returns-2
 returns-2 c = c .before .before .before .replay-in2 .ensures
@@ -51,12 +39,5 @@ returns-2 c = c .before .before .before .replay-in2 .ensures
 pub replay-spec : {M : Type 1} → statement M
 replay-spec =
     tie.close
-    (tie.spec
-    slice-aggregate-replay-in
-    replay-in-requires
-    slice-aggregate-replay-in-2
-    replay-in-requires-2
-    same-length
-    returns
-    same-length-2
-    returns-2)
+    (tie.spec (λ c. search needs) replay-in-requires (λ c. search needs) replay-in-requires-2 (λ c. search needs)
+    returns (λ c. search needs) returns-2)

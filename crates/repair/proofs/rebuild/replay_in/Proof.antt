@@ -28,14 +28,11 @@ apply-requires c κs =
     let l = c .before .before .before .before .collect in
     let size = b .pre .1 .1 .0 in (
       b .pre .0,
-      (collected _ _ (b .args .t .first) (b .args .t .entry) _ _ (b .pre .0) (b .pre .1 .0) _ (l .ensures), (search needs, b .pre .1 .1 .1)),
+      (
+        collected _ _ (b .args .t .first) (b .args .t .entry) _ _ (b .pre .0) (b .pre .1 .0) _ (l .ensures),
+        (search needs, b .pre .1 .1 .1),
+      ),
     )
-
-same-length : tie.Need-same-length
-same-length c = search needs
-
-same-length-2 : tie.Need-same-length-2
-same-length-2 c = search needs
 
 returns : tie.Need-returns
 returns c =
@@ -46,4 +43,4 @@ returns c =
     (c .before .before .before .before .before .before .before .collect .ensures))
 
 pub replay-in-spec : {M : Type 1} → statement M
-replay-in-spec = tie.close (tie.spec collect-requires apply-requires same-length same-length-2 returns)
+replay-in-spec = tie.close (tie.spec collect-requires apply-requires (λ c. search needs) (λ c. search needs) returns)

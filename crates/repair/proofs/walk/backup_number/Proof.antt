@@ -4,17 +4,11 @@ use Rattle.repair.proofs.Starts.{slot-none, slot-fits, backup-valid, ba
 use Rattle.repair.proofs.walk.backup_number.Statement.{statement}
 use Rattle.repair.proofs.walk.backup_number.Tie as tie
 
-cast-slot : tie.Need-cast-slot
-cast-slot c = search needs
-
 returns : tie.Need-returns
 returns c = slot-none _ _ (c .before .before .before .args .first) (c .before .before .before .args .e) _ (c .if1 .taken)
 
 slot-requires : tie.Need-slot-requires
 slot-requires c κs = slot-fits _ _ _ _ _ (c .before .before .before .pre) (c .if1 .left)
-
-numbered-requires : tie.Need-numbered-requires
-numbered-requires c κs = search needs
 
 returns-2 : tie.Need-returns-2
 returns-2 c =
@@ -30,5 +24,4 @@ returns-3 c =
 
 pub backup-number-spec : {M : Type 1} → statement M
 backup-number-spec =
-    tie.close
-    (tie.spec cast-slot returns slot-requires numbered-requires returns-2 returns-3)
+    tie.close (tie.spec (λ c. search needs) returns slot-requires (λ c κs. search needs) returns-2 returns-3)

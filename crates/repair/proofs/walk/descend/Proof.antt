@@ -11,15 +11,6 @@ use Rattle.repair.proofs.walk.descend.Tie as tie
 page-requires : tie.Need-page-requires
 page-requires c κs = page-fits _ _ _ _ _ (c .before .pre .0)
 
-judge-requires : tie.Need-judge-requires
-judge-requires c κs = search needs
-
-lsn-requires : tie.Need-lsn-requires
-lsn-requires c κs = search needs
-
-own-number-requires : tie.Need-own-number-requires
-own-number-requires c κs = search needs
-
 backup-number-requires : tie.Need-backup-number-requires
 backup-number-requires c κs = c .before .before .before .before .before .pre .0
 
@@ -39,9 +30,6 @@ trace-requires c κs =
       λ t. walk-whole _ _ (s .args .first) (s .args .e) _ _ _ (own (c .before)) (c .backup-number .ensures) (h .1 t),
     )
 
-class-requires : tie.Need-class-requires
-class-requires c κs = search needs
-
 returns : tie.Need-returns
 returns c =
     let o = c .before .before .before in
@@ -51,5 +39,7 @@ returns c =
     (o .before .before .before .page .ensures) (o .before .before .judge .ensures) (o .before .lsn .ensures) (c .class .ensures)
 
 pub descend-spec : {M : Type 1} → statement M
-descend-spec = tie.close
-    (tie.spec page-requires judge-requires lsn-requires own-number-requires backup-number-requires trace-requires class-requires returns)
+descend-spec =
+    tie.close
+    (tie.spec page-requires (λ c κs. search needs) (λ c κs. search needs) (λ c κs. search needs) backup-number-requires
+    trace-requires (λ c κs. search needs) returns)

@@ -20,7 +20,8 @@ returns-3 c = step-copy _ _ _ _ _ _ (c .before .before .before .before .if1 .lef
 
 returns-4 : tie.Need-returns-4
 returns-4 c =
-    step-below _ _ _ _ _ _ (c .before .before .before .before .before .before .if1 .left) (c .before .before .before .before .if2 .left) (c .before .before .if3 .left) (c .if4 .taken)
+    step-below _ _ _ _ _ _ (c .before .before .before .before .before .before .if1 .left)
+    (c .before .before .before .before .if2 .left) (c .before .before .if3 .left) (c .if4 .taken)
 
 record-requires : tie.Need-record-requires
 record-requires c κs =
@@ -36,12 +37,10 @@ passes-requires c κs =
 returns-5 : tie.Need-returns-5
 returns-5 c =
     let s = c .before .before .before .before .before .before .before .before .before .before .before in
-    step-broken _ _ _ _ _ _ (c .before .before .before .before .before .before .before .before .before .if1 .left) (c .before .before .before .before .before .before .before .if2 .left)
+    step-broken _ _ _ _ _ _ (c .before .before .before .before .before .before .before .before .before .if1 .left)
+    (c .before .before .before .before .before .before .before .if2 .left)
     (c .before .before .before .before .before .if3 .left) (c .before .before .before .if4 .left) _ (c .before .before .«record» .ensures) _
     (s .pre .1) _ (c .before .passes .ensures) (not-true _ (c .if5 .taken))
-
-read-requires : tie.Need-read-requires
-read-requires c κs = search needs
 
 returns-6 : tie.Need-returns-6
 returns-6 c =
@@ -54,13 +53,5 @@ returns-6 c =
 pub look-spec : {M : Type 1} → statement M
 look-spec =
     tie.close
-    (tie.spec
-    returns
-    returns-2
-    returns-3
-    returns-4
-    record-requires
-    passes-requires
-    returns-5
-    read-requires
+    (tie.spec returns returns-2 returns-3 returns-4 record-requires passes-requires returns-5 (λ c κs. search needs)
     returns-6)

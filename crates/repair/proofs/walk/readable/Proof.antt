@@ -4,18 +4,6 @@ use Rattle.model.specs.Repair.{chainRecord}
 use Rattle.repair.proofs.walk.readable.Statement.{statement}
 use Rattle.repair.proofs.walk.readable.Tie as tie
 
-read-requires : tie.Need-read-requires
-read-requires c κs = search needs
-
-cast-owner : tie.Need-cast-owner
-cast-owner c = search needs
-
-holds-requires : tie.Need-holds-requires
-holds-requires c κs = search needs
-
-layout-requires : tie.Need-layout-requires
-layout-requires c κs = search needs
-
 returns : tie.Need-returns
 unfolding chainRecord
 returns c =
@@ -23,4 +11,5 @@ returns c =
 
 pub readable-spec : {M : Type 1} → statement M
 readable-spec =
-    tie.close (tie.spec read-requires cast-owner holds-requires layout-requires returns)
+    tie.close
+    (tie.spec (λ c κs. search needs) (λ c. search needs) (λ c κs. search needs) (λ c κs. search needs) returns)

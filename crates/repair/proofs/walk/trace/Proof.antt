@@ -19,14 +19,16 @@ abbrev μ-loop : tie.MeasureT-loop
 -- where the walk halts: the step
 halted : (c : tie.After-known-told Inv-loop μ-loop)
     → let a = c .before .before .before .before .before .before .args in
-    stepOf (logOf (a .g) (now (a .volume))) (a .c .first) (a .c .page) (a .c .own) (a .c .backup) (c .before .before .before .before .loop .n)
+    stepOf (logOf (a .g) (now (a .volume))) (a .c .first) (a .c .page) (a .c .own) (a .c .backup)
+    (c .before .before .before .before .loop .n)
     ≡ Halt (c .before .s .given .0 .0)
 halted c = sym (c .before .before .before .look .ensures) ∙ c .before .s .given .1
 
 -- at a record that is read: the step, and room for its number
 on : (c : tie.After-known-told2 Inv-loop μ-loop)
     → let a = c .before .before .before .before .before .before .args in
-    stepOf (logOf (a .g) (now (a .volume))) (a .c .first) (a .c .page) (a .c .own) (a .c .backup) (c .before .before .before .before .loop .n)
+    stepOf (logOf (a .g) (now (a .volume))) (a .c .first) (a .c .page) (a .c .own) (a .c .backup)
+    (c .before .before .before .before .loop .n)
     ≡ Read (c .before .prev .given .0 .0) (c .before .prev .given .0 .1 .0)
 on c = sym (c .before .before .before .look .ensures) ∙ c .before .prev .given .1
 
@@ -37,12 +39,6 @@ look-requires : tie.Need-look-requires Inv-loop μ-loop
 look-requires c κs =
     let h = c .before .before .pre in
     (h .0, λ s. down-sound _ _ _ _ _ _ _ _ (c .loop .inv) (h .1 s))
-
-enum-known-s : tie.Need-enum-known-s Inv-loop μ-loop
-enum-known-s c = search needs
-
-enum-known-prev : tie.Need-enum-known-prev Inv-loop μ-loop
-enum-known-prev c = search needs
 
 add-count : tie.Need-add-count Inv-loop μ-loop
 add-count c = omega (arith, step-falls _ _ _ _ _ _ _ _ (on c), c .before .before .before .before .loop .inv .room)
@@ -62,15 +58,5 @@ returns-2 c = down-format _ _ _ _ _ _ _ _ (c .before .before .before .before .be
 pub trace-spec : {M : Type 1} → statement M
 trace-spec =
     tie.close
-    (tie.spec
-    Inv-loop
-    μ-loop
-    loop-holds
-    look-requires
-    enum-known-s
-    enum-known-prev
-    add-count
-    loop-less
-    loop-again
-    returns
-    returns-2)
+    (tie.spec Inv-loop μ-loop loop-holds look-requires (λ c. search needs) (λ c. search needs) add-count loop-less
+    loop-again returns returns-2)

@@ -8,8 +8,5 @@ use Rattle.repair.proofs.walk.walk.Tie as tie
 descend-requires : tie.Need-descend-requires
 descend-requires c κs = (c .before .pre, λ e. absurd (true-not-false e refl))
 
-returns : tie.Need-returns
-returns c = search needs
-
 pub walk-spec : {M : Type 1} → statement M
-walk-spec = tie.close (tie.spec descend-requires returns)
+walk-spec = tie.close (tie.spec descend-requires (λ c. search needs))

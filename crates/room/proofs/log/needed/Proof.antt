@@ -9,18 +9,6 @@ use Rattle.room.proofs.log.needed.Tie as tie
 record-requires : tie.Need-record-requires
 record-requires c κs = let p = c .before .pre in (records-some _ _ (p .0) (p .1), record-fits _ _ (p .0) (p .1) _)
 
-read-requires : tie.Need-read-requires
-read-requires c κs = search needs
-
-cast-page : tie.Need-cast-page
-cast-page c = search needs
-
-entry-requires : tie.Need-entry-requires
-entry-requires c κs = search needs
-
-holds-requires : tie.Need-holds-requires
-holds-requires c κs = search needs
-
 returns : tie.Need-returns
 returns c =
     let h = c .before .before .before .before .before in
@@ -32,4 +20,5 @@ returns c =
 pub needed-spec : {M : Type 1} → statement M
 needed-spec =
     tie.close
-    (tie.spec record-requires read-requires cast-page entry-requires holds-requires returns)
+    (tie.spec record-requires (λ c κs. search needs) (λ c. search needs) (λ c κs. search needs) (λ c κs. search needs)
+    returns)

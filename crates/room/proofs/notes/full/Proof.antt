@@ -19,14 +19,8 @@ known c =
     past-turn (c .before .ring .result) (a .s .notes) (a .g .notes) (m .most-notes .result) (c .before .before .if1 .left) (c .if2 .left)
     (omega (arith, m .most-notes .ensures, most-notes-high (now (a .volume)) (a .g) (p .0) (p .1)))
 
-most-notes-requires : tie.Need-most-notes-requires
-most-notes-requires c κs = search needs
-
 returns : tie.Need-returns
 returns c = full-given _ _ _ _ (c .before .most-notes .ensures) (c .if1 .taken)
-
-ring-requires : tie.Need-ring-requires
-ring-requires c κs = search needs
 
 returns-2 : tie.Need-returns-2
 returns-2 c =
@@ -54,12 +48,5 @@ returns-3 c =
 pub full-spec : {M : Type 1} → statement M
 full-spec =
     tie.close
-    (tie.spec
-    most-notes-requires
-    returns
-    ring-requires
-    returns-2
-    add-needed
-    sub-needed
-    needed-requires
+    (tie.spec (λ c κs. search needs) returns (λ c κs. search needs) returns-2 add-needed sub-needed needed-requires
     returns-3)

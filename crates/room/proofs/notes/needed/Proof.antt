@@ -18,29 +18,11 @@ Inv-loop volume g k j later i₀ i = (i ≤ later) × (every i (laterOther g vol
 abbrev μ-loop : tie.MeasureT-loop
 μ-loop volume g k j later i₀ i = later - i
 
-whole-requires : tie.Need-whole-requires Inv-loop μ-loop
-whole-requires c κs = search needs
-
 returns : tie.Need-returns Inv-loop μ-loop
 returns c = needed-torn _ _ _ _ _ (c .before .whole .ensures) (not-true _ (c .if1 .taken))
 
-sub-later : tie.Need-sub-later Inv-loop μ-loop
-sub-later c = search needs
-
 loop-holds : tie.Need-loop-holds Inv-loop μ-loop
 loop-holds c = (search needs, every-none _)
-
-add-n : tie.Need-add-n Inv-loop μ-loop
-add-n c = search needs
-
-add-n-2 : tie.Need-add-n-2 Inv-loop μ-loop
-add-n-2 c = search needs
-
-whole-requires-2 : tie.Need-whole-requires-2 Inv-loop μ-loop
-whole-requires-2 c κs = search needs
-
-like-requires : tie.Need-like-requires Inv-loop μ-loop
-like-requires c κs = search needs
 
 returns-2 : tie.Need-returns-2 Inv-loop μ-loop
 returns-2 c =
@@ -51,12 +33,6 @@ returns-2 c =
     (c .if2 .taken) in
     needed-whole (a .g) (now (a .volume)) (a .k) (a .j) _ false (w .whole .ensures) (not-false _ (l .before .if1 .left))
     (every-fails _ _ _ (c .before .before .before .loop-test .taken) t)
-
-add-i : tie.Need-add-i Inv-loop μ-loop
-add-i c = search needs
-
-loop-less : tie.Need-loop-less Inv-loop μ-loop
-loop-less c = search needs
 
 loop-again : tie.Need-loop-again Inv-loop μ-loop
 loop-again c =
@@ -77,19 +53,6 @@ returns-3 c =
 pub needed-spec : {M : Type 1} → statement M
 needed-spec =
     tie.close
-    (tie.spec
-    Inv-loop
-    μ-loop
-    whole-requires
-    returns
-    sub-later
-    loop-holds
-    add-n
-    add-n-2
-    whole-requires-2
-    like-requires
-    returns-2
-    add-i
-    loop-less
-    loop-again
-    returns-3)
+    (tie.spec Inv-loop μ-loop (λ c κs. search needs) returns (λ c. search needs) loop-holds (λ c. search needs)
+    (λ c. search needs) (λ c κs. search needs) (λ c κs. search needs) returns-2 (λ c. search needs) (λ c. search needs)
+    loop-again returns-3)

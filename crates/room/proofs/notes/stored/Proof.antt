@@ -9,11 +9,8 @@ use Rattle.room.proofs.notes.stored.Tie as tie
 note-requires : tie.Need-note-requires
 note-requires c κs = let p = c .before .pre in (p .2, note-fits _ _ (p .0) (p .1) (p .2) _)
 
-read-requires : tie.Need-read-requires
-read-requires c κs = search needs
-
 returns : tie.Need-returns
 returns c = c .read .ensures ∙ ap noteOf (c .before .note .ensures)
 
 pub stored-spec : {M : Type 1} → statement M
-stored-spec = tie.close (tie.spec note-requires read-requires returns)
+stored-spec = tie.close (tie.spec note-requires (λ c κs. search needs) returns)

@@ -9,12 +9,6 @@ use Rattle.room.proofs.notes.whole.Tie as tie
 note-requires : tie.Need-note-requires
 note-requires c κs = let p = c .before .pre in (p .2, note-fits _ _ (p .0) (p .1) (p .2) _)
 
-read-requires : tie.Need-read-requires
-read-requires c κs = search needs
-
-holds-requires : tie.Need-holds-requires
-holds-requires c κs = search needs
-
 returns : tie.Need-returns
 returns c =
     let r = c .before .before in
@@ -22,4 +16,4 @@ returns c =
     whole-is (a .g) (now (a .volume)) (a .n) _ _ _ (r .before .note .ensures) (r .read .ensures) (c .before .holds .ensures)
 
 pub whole-spec : {M : Type 1} → statement M
-whole-spec = tie.close (tie.spec note-requires read-requires holds-requires returns)
+whole-spec = tie.close (tie.spec note-requires (λ c κs. search needs) (λ c κs. search needs) returns)

@@ -27,12 +27,6 @@ loop-holds c =
     let e : n - 0 ≡ n = omega arith in
     (search needs, search needs, ap (λ (k : ℕ). firstFrom k (logFullAfter (a .g) (now (a .volume)) (a .s)) 0) e)
 
-after-requires : tie.Need-after-requires Inv-loop μ-loop
-after-requires c κs = search needs
-
-full-requires : tie.Need-full-requires Inv-loop μ-loop
-full-requires c κs = search needs
-
 returns : tie.Need-returns Inv-loop μ-loop
 returns c =
     let l = c .before .before .before .before in
@@ -40,12 +34,6 @@ returns c =
     let h = log-tested (a .g) (now (a .volume)) (a .s) (l .loop .i) _ _ true (c .before .before .after .ensures) (c .before .full .ensures)
     (c .if1 .taken) in
     (sym (first-here _ _ _ (c .before .before .before .loop-test .taken) h) ∙ l .loop .inv .2, l .loop .inv .0)
-
-add-i : tie.Need-add-i Inv-loop μ-loop
-add-i c = search needs
-
-loop-less : tie.Need-loop-less Inv-loop μ-loop
-loop-less c = search needs
 
 loop-again : tie.Need-loop-again Inv-loop μ-loop
 loop-again c =
@@ -66,14 +54,5 @@ returns-2 c =
 pub count-spec : {M : Type 1} → statement M
 count-spec =
     tie.close
-    (tie.spec
-    Inv-loop
-    μ-loop
-    loop-holds
-    after-requires
-    full-requires
-    returns
-    add-i
-    loop-less
-    loop-again
-    returns-2)
+    (tie.spec Inv-loop μ-loop loop-holds (λ c κs. search needs) (λ c κs. search needs) returns (λ c. search needs)
+    (λ c. search needs) loop-again returns-2)

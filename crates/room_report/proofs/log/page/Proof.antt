@@ -24,49 +24,24 @@ past c =
     (not-false _ (c .if1 .left)) in
     (h .0, omega (arith, h .1, most-high (now (a .volume)) (a .g) (p .0) (p .1)))
 
-cast-last : tie.Need-cast-last
-cast-last c = search needs
-
-cast-last-2 : tie.Need-cast-last-2
-cast-last-2 c = search needs
-
-add-last : tie.Need-add-last
-add-last c = search needs
-
-most-requires : tie.Need-most-requires
-most-requires c κs = search needs
-
-cast-left : tie.Need-cast-left
-cast-left c = search needs
-
-full-requires : tie.Need-full-requires
-full-requires c κs = search needs
-
 returns : tie.Need-returns
 returns c = log-page-none _ _ _ _ _ (c .before .before .most .ensures) (c .before .full .ensures) (not-true _ (c .if1 .taken))
-
-add-oldest : tie.Need-add-oldest
-add-oldest c = search needs
-
-cast-oldest : tie.Need-cast-oldest
-cast-oldest c = search needs
 
 sub-oldest : tie.Need-sub-oldest
 sub-oldest c = omega (arith, past (c .before) .0)
 
 cast-oldest-2 : tie.Need-cast-oldest-2
-cast-oldest-2 c = omega (arith, past (c .before) .1, records-some _ _ (c .before .before .before .before .before .before .before .pre .0) (c .before .before .before .before .before .before .before .pre .1))
+cast-oldest-2 c = omega (
+  arith,
+  past (c .before) .1,
+  records-some _ _
+      (c .before .before .before .before .before .before .before .pre .0) (c .before .before .before .before .before .before .before .pre .1),
+)
 
 record-requires : tie.Need-record-requires
 record-requires c κs =
     let p = c .before .before .before .before .before .before .before .pre in
     (records-some _ _ (p .0) (p .1), record-fits _ _ (p .0) (p .1) _)
-
-read-requires : tie.Need-read-requires
-read-requires c κs = search needs
-
-cast-result : tie.Need-cast-result
-cast-result c = search needs
 
 returns-2 : tie.Need-returns-2
 returns-2 c =
@@ -78,19 +53,6 @@ returns-2 c =
 pub page-spec : {M : Type 1} → statement M
 page-spec =
     tie.close
-    (tie.spec
-    cast-last
-    cast-last-2
-    add-last
-    most-requires
-    cast-left
-    full-requires
-    returns
-    add-oldest
-    cast-oldest
-    sub-oldest
-    cast-oldest-2
-    record-requires
-    read-requires
-    cast-result
-    returns-2)
+    (tie.spec (λ c. search needs) (λ c. search needs) (λ c. search needs) (λ c κs. search needs) (λ c. search needs)
+    (λ c κs. search needs) returns (λ c. search needs) (λ c. search needs) sub-oldest cast-oldest-2 record-requires
+    (λ c κs. search needs) (λ c. search needs) returns-2)

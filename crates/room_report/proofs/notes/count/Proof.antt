@@ -27,12 +27,6 @@ loop-holds c =
     let e : n - 0 ≡ n = omega arith in
     (search needs, search needs, ap (λ (k : ℕ). firstFrom k (notesFullAfter (a .g) (now (a .volume)) (a .s)) 0) e)
 
-after-requires : tie.Need-after-requires Inv-loop μ-loop
-after-requires c κs = search needs
-
-full-requires : tie.Need-full-requires Inv-loop μ-loop
-full-requires c κs = search needs
-
 returns : tie.Need-returns Inv-loop μ-loop
 returns c =
     let l = c .before .before .before .before in
@@ -41,18 +35,13 @@ returns c =
     (c .if1 .taken) in
     (sym (first-here _ _ _ (c .before .before .before .loop-test .taken) h) ∙ l .loop .inv .2, l .loop .inv .0)
 
-add-i : tie.Need-add-i Inv-loop μ-loop
-add-i c = search needs
-
-loop-less : tie.Need-loop-less Inv-loop μ-loop
-loop-less c = search needs
-
 loop-again : tie.Need-loop-again Inv-loop μ-loop
 loop-again c =
     let l = c .before .before .before .before in
     let a = l .before .before .args in
     let p = l .before .before .pre in
-    let h = note-tested (a .g) (now (a .volume)) (a .s) (l .loop .i) _ _ false (c .before .before .after .ensures) (c .before .full .ensures)
+    let h = note-tested (a .g) (now (a .volume)) (a .s) (l .loop .i) _ _ false (c .before .before .after .ensures)
+    (c .before .full .ensures)
     (c .if1 .left) in
     let n = note-numbers (a .g) (now (a .volume)) (afterNotes (a .s) (l .loop .i)) h in
     let m = most-notes-high (now (a .volume)) (a .g) (p .0) (p .1) in
@@ -66,14 +55,5 @@ returns-2 c =
 pub count-spec : {M : Type 1} → statement M
 count-spec =
     tie.close
-    (tie.spec
-    Inv-loop
-    μ-loop
-    loop-holds
-    after-requires
-    full-requires
-    returns
-    add-i
-    loop-less
-    loop-again
-    returns-2)
+    (tie.spec Inv-loop μ-loop loop-holds (λ c κs. search needs) (λ c κs. search needs) returns (λ c. search needs)
+    (λ c. search needs) loop-again returns-2)

@@ -21,12 +21,6 @@ past c =
     (not-false _ (c .if1 .left)) in
     (h .0, h .1, omega (arith, h .2, most-notes-high (now (a .volume)) (a .g) (p .0) (p .1)))
 
-most-notes-requires : tie.Need-most-notes-requires
-most-notes-requires c κs = search needs
-
-full-requires : tie.Need-full-requires
-full-requires c κs = search needs
-
 returns : tie.Need-returns
 returns c = note-page-none _ _ _ _ _ (c .before .before .most-notes .ensures) (c .before .full .ensures) (not-true _ (c .if1 .taken))
 
@@ -39,9 +33,6 @@ sub-stored c = omega (arith, past c .1)
 stored-requires : tie.Need-stored-requires
 stored-requires c κs = let p = c .before .before .before .before .pre in (p .0, p .1, omega (arith, past c .0))
 
-cast-result : tie.Need-cast-result
-cast-result c = search needs
-
 returns-2 : tie.Need-returns-2
 returns-2 c =
     let f = c .before .before in
@@ -51,12 +42,5 @@ returns-2 c =
 pub page-spec : {M : Type 1} → statement M
 page-spec =
     tie.close
-    (tie.spec
-    most-notes-requires
-    full-requires
-    returns
-    add-stored
-    sub-stored
-    stored-requires
-    cast-result
-    returns-2)
+    (tie.spec (λ c κs. search needs) (λ c κs. search needs) returns add-stored sub-stored stored-requires
+    (λ c. search needs) returns-2)

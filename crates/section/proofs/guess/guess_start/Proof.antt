@@ -4,12 +4,6 @@ use borrow.Author.Needs.{needs}
 use Rattle.section.proofs.GuessLaws.{Rings, rings, Past, past-turn, guess-none, guess-seam}
 use Rattle.section.proofs.guess.guess_start.Statement.{statement}
 use Rattle.section.proofs.guess.guess_start.Tie as tie
-use Rattle.section.proofs.guess.guess_start.Reads as reads
-use Rattle.section.proofs.guess.guess_start.Lts as lts
-use Rattle.section.proofs.after.Reads as after-reads
-use Rattle.section.proofs.guess.numbered.Reads as numbered-reads
-use Rattle.section.proofs.guess.past_torn.Reads as past-torn-reads
-use Rattle.section.proofs.guess.seam.Reads as seam-reads
 
 -- the section is a ring with slots
 ring : (c : tie.Else1) → Rings (c .before .before .before .before .args .s)
@@ -40,17 +34,8 @@ returns-3 c = guess-none _
 seam-requires : tie.Need-seam-requires
 seam-requires c κs = let e = c .before .before .before .before .before in (e .before .before .before .before .pre, ring e .some)
 
-sub-after : tie.Need-sub-after
-sub-after c = search needs
-
-after-requires : tie.Need-after-requires
-after-requires c κs = search needs
-
 sub-t12 : tie.Need-sub-t12
 sub-t12 c = omega (arith, past (c .before .before .before .before .before) .past)
-
-add-t13 : tie.Need-add-t13
-add-t13 c = search needs
 
 past-torn-requires : tie.Need-past-torn-requires
 past-torn-requires c κs =
@@ -65,23 +50,8 @@ past-torn-requires c κs =
       ),
     )
 
-returns-4 : tie.Need-returns-4
-returns-4 c = search needs
-
 pub guess-start-spec : {M : Type 1} → statement M
 guess-start-spec =
     tie.close
-    (tie.spec
-    returns
-    numbered-requires
-    returns-2
-    sub-if3
-    rem-if3
-    returns-3
-    seam-requires
-    sub-after
-    after-requires
-    sub-t12
-    add-t13
-    past-torn-requires
-    returns-4)
+    (tie.spec returns numbered-requires returns-2 sub-if3 rem-if3 returns-3 seam-requires (λ c. search needs)
+    (λ c κs. search needs) sub-t12 (λ c. search needs) past-torn-requires (λ c. search needs))

@@ -4,15 +4,6 @@ use borrow.Author.Needs.{needs}
 use Rattle.state.proofs.frames.frame.Statement.{statement}
 use Rattle.state.proofs.frames.frame.Tie as tie
 
-row-requires : tie.Need-row-requires
-row-requires c κs = search needs
-
-mul-result : tie.Need-mul-result
-mul-result c = search needs
-
-element-copy-out-result : tie.Need-element-copy-out-result
-element-copy-out-result c = search needs
-
 returns : tie.Need-returns
 returns c = cc
 
@@ -21,4 +12,4 @@ returns-2 c = past-end _ (c .before .before .args .t1 .frames) _ 16 _ _ (search 
     (c .before .row .ensures)
 
 pub frame-spec : {M : Type 1} → statement M
-frame-spec = tie.close (tie.spec row-requires mul-result element-copy-out-result returns returns-2)
+frame-spec = tie.close (tie.spec (λ c κs. search needs) (λ c. search needs) (λ c. search needs) returns returns-2)

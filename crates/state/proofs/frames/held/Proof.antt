@@ -5,11 +5,8 @@ use borrow.Author.Needs.{needs}
 use Rattle.state.proofs.frames.held.Statement.{statement}
 use Rattle.state.proofs.frames.held.Tie as tie
 
-holder-requires : tie.Need-holder-requires
-holder-requires c κs = search needs
-
 returns : tie.Need-returns
 returns c = ap (λ h. ltb 0 h) (c .holder .ensures)
 
 pub held-spec : {M : Type 1} → statement M
-held-spec = tie.close (tie.spec holder-requires returns)
+held-spec = tie.close (tie.spec (λ c κs. search needs) returns)

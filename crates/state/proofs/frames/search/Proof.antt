@@ -23,32 +23,11 @@ long c = search (needs, length-mapped)
 loop-holds : tie.Need-loop-holds Inv-loop μ-loop
 loop-holds c = (search needs, refl)
 
-mul-u16-u32 : tie.Need-mul-u16-u32 Inv-loop μ-loop
-mul-u16-u32 c = search needs
-
-element-copy-out-u16-u32 : tie.Need-element-copy-out-u16-u32 Inv-loop μ-loop
-element-copy-out-u16-u32 c = search needs
-
-u16-u32-requires : tie.Need-u16-u32-requires Inv-loop μ-loop
-u16-u32-requires c κs = search needs
-
-cast-result : tie.Need-cast-result Inv-loop μ-loop
-cast-result c = search needs
-
-add-result : tie.Need-add-result Inv-loop μ-loop
-add-result c = search needs
-
 returns : tie.Need-returns Inv-loop μ-loop
 returns c =
     let k = c .before .before .before in
     let l : k .loop .i < length (k .before .args .t1) = omega (arith, long (k .before)) in
     sym (holder-here _ _ _ l (sym (c .before .u16-u32 .ensures .0) ∙ c .if1 .taken)) ∙ k .loop .inv .1
-
-add-i : tie.Need-add-i Inv-loop μ-loop
-add-i c = search needs
-
-loop-less : tie.Need-loop-less Inv-loop μ-loop
-loop-less c = search needs
 
 loop-again : tie.Need-loop-again Inv-loop μ-loop
 loop-again c =
@@ -64,17 +43,5 @@ returns-2 c =
 pub search-spec : {M : Type 1} → statement M
 search-spec =
     tie.close
-    (tie.spec
-    Inv-loop
-    μ-loop
-    loop-holds
-    mul-u16-u32
-    element-copy-out-u16-u32
-    u16-u32-requires
-    cast-result
-    add-result
-    returns
-    add-i
-    loop-less
-    loop-again
-    returns-2)
+    (tie.spec Inv-loop μ-loop loop-holds (λ c. search needs) (λ c. search needs) (λ c κs. search needs)
+    (λ c. search needs) (λ c. search needs) returns (λ c. search needs) (λ c. search needs) loop-again returns-2)

@@ -6,20 +6,8 @@ use borrow.Author.Needs.{needs}
 use Rattle.state.proofs.next.forced.Statement.{statement}
 use Rattle.state.proofs.next.forced.Tie as tie
 
-add-n : tie.Need-add-n
-add-n c = search needs
-
-sub-s : tie.Need-sub-s
-sub-s c = search needs
-
 sub-i : tie.Need-sub-i
 sub-i c = let a = c .before .args in within-bounds (a .pages) (a .page) (c .if1 .taken) .0
-
-cast-i : tie.Need-cast-i
-cast-i c = search needs
-
-mul-s : tie.Need-mul-s
-mul-s c = search needs
 
 way-write-given-s : tie.Need-way-write-given-s
 way-write-given-s c =
@@ -34,4 +22,6 @@ returns-2 c = forced-out _ _ _ (c .if1 .left)
 
 pub forced-spec : {M : Type 1} → statement M
 forced-spec =
-    tie.close (tie.spec add-n sub-s sub-i cast-i mul-s way-write-given-s returns returns-2)
+    tie.close
+    (tie.spec (λ c. search needs) (λ c. search needs) sub-i (λ c. search needs) (λ c. search needs) way-write-given-s
+    returns returns-2)

@@ -4,30 +4,12 @@ use borrow.Author.Needs.{needs}
 use Rattle.state.proofs.refusal.refusal.Statement.{statement}
 use Rattle.state.proofs.refusal.refusal.Tie as tie
 
-valid-requires : tie.Need-valid-requires
-valid-requires c κs = search needs
-
 returns : tie.Need-returns
 returns c = λ m e. refused-1 _ _ m _ (c .before .valid .ensures) (c .if1 .taken)
-
-memory-requires : tie.Need-memory-requires
-memory-requires c κs = search needs
 
 returns-2 : tie.Need-returns-2
 returns-2 c = λ m e. refused-2 _ _ m _ _ _ (c .before .before .before .valid .ensures) (c .before .memory .ensures)
     (c .before .before .if1 .left) (c .if2 .taken) e
-
-geometry-requires : tie.Need-geometry-requires
-geometry-requires c κs = search needs
-
-frames-requires : tie.Need-frames-requires
-frames-requires c κs = search needs
-
-well-formed-requires : tie.Need-well-formed-requires
-well-formed-requires c κs = search needs
-
-first-requires : tie.Need-first-requires
-first-requires c κs = search needs
 
 returns-3 : tie.Need-returns-3
 returns-3 c =
@@ -41,13 +23,5 @@ returns-3 c =
 pub refusal-spec : {M : Type 1} → statement M
 refusal-spec =
     tie.close
-    (tie.spec
-    valid-requires
-    returns
-    memory-requires
-    returns-2
-    geometry-requires
-    frames-requires
-    well-formed-requires
-    first-requires
-    returns-3)
+    (tie.spec (λ c κs. search needs) returns (λ c κs. search needs) returns-2 (λ c κs. search needs)
+    (λ c κs. search needs) (λ c κs. search needs) (λ c κs. search needs) returns-3)

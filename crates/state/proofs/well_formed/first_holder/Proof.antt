@@ -19,29 +19,11 @@ Inv-loop i table page j₀ j = (j ≤ i) × (every j (λ k. not (eqb (getD table
 abbrev μ-loop : tie.MeasureT-loop
 μ-loop i table page j₀ j = i - j
 
-mul-page : tie.Need-mul-page Inv-loop μ-loop
-mul-page c = search needs
-
-element-copy-out-page : tie.Need-element-copy-out-page Inv-loop μ-loop
-element-copy-out-page c = search needs
-
 loop-holds : tie.Need-loop-holds Inv-loop μ-loop
 loop-holds c = (search needs, every-none _)
 
-mul-if1 : tie.Need-mul-if1 Inv-loop μ-loop
-mul-if1 c = search needs
-
-element-copy-out-if1 : tie.Need-element-copy-out-if1 Inv-loop μ-loop
-element-copy-out-if1 c = search needs
-
 returns : tie.Need-returns Inv-loop μ-loop
 returns c = sym (every-fails _ _ _ (c .before .loop-test .taken) (ap not (eq-eqb _ _ (c .if1 .taken))))
-
-add-j : tie.Need-add-j Inv-loop μ-loop
-add-j c = search needs
-
-loop-less : tie.Need-loop-less Inv-loop μ-loop
-loop-less c = search needs
 
 loop-again : tie.Need-loop-again Inv-loop μ-loop
 loop-again c = (search needs, every-more _ _ (c .before .before .loop .inv .1) (ap not (ne-eqb _ _ (c .if1 .left))))
@@ -54,16 +36,5 @@ returns-2 c =
 pub first-holder-spec : {M : Type 1} → statement M
 first-holder-spec =
     tie.close
-    (tie.spec
-    Inv-loop
-    μ-loop
-    mul-page
-    element-copy-out-page
-    loop-holds
-    mul-if1
-    element-copy-out-if1
-    returns
-    add-j
-    loop-less
-    loop-again
-    returns-2)
+    (tie.spec Inv-loop μ-loop (λ c. search needs) (λ c. search needs) loop-holds (λ c. search needs)
+    (λ c. search needs) returns (λ c. search needs) (λ c. search needs) loop-again returns-2)

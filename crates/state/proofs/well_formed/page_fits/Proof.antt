@@ -11,17 +11,8 @@ use borrow.Author.Needs.{needs}
 use Rattle.state.proofs.well_formed.page_fits.Statement.{statement}
 use Rattle.state.proofs.well_formed.page_fits.Tie as tie
 
-cast-if1 : tie.Need-cast-if1
-cast-if1 c = search needs
-
-entry-zero-requires : tie.Need-entry-zero-requires
-entry-zero-requires c κs = search needs
-
 returns : tie.Need-returns
 returns c = c .entry-zero .ensures ∙ sym (when-false _ _ (le-ltb _ _ (c .before .if1 .taken)))
-
-settled-fits-requires : tie.Need-settled-fits-requires
-settled-fits-requires c κs = search needs
 
 returns-2 : tie.Need-returns-2
 returns-2 c =
@@ -30,18 +21,6 @@ returns-2 c =
     let h = ltb 0 (holderFrom 0 (a .i + 1) (a .table)) in
     c .settled-fits .ensures ∙ settled-is (a .g) (a .durable) (a .pending) h (a .e) (c .before .if2 .taken)
     ∙ sym (when-true _ (entryZero (a .e)) (lt-ltb _ _ (i .if1 .left)))
-
-cast-search : tie.Need-cast-search
-cast-search c = search needs
-
-add-search : tie.Need-add-search
-add-search c = search needs
-
-search-requires : tie.Need-search-requires
-search-requires c κs = search needs
-
-entry-fits-requires : tie.Need-entry-fits-requires
-entry-fits-requires c κs = search needs
 
 returns-3 : tie.Need-returns-3
 returns-3 c =
@@ -53,14 +32,5 @@ returns-3 c =
 pub page-fits-spec : {M : Type 1} → statement M
 page-fits-spec =
     tie.close
-    (tie.spec
-    cast-if1
-    entry-zero-requires
-    returns
-    settled-fits-requires
-    returns-2
-    cast-search
-    add-search
-    search-requires
-    entry-fits-requires
-    returns-3)
+    (tie.spec (λ c. search needs) (λ c κs. search needs) returns (λ c κs. search needs) returns-2 (λ c. search needs)
+    (λ c. search needs) (λ c κs. search needs) (λ c κs. search needs) returns-3)

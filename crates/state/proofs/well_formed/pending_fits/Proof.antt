@@ -7,12 +7,6 @@ use Rattle.state.proofs.well_formed.pending_fits.Tie as tie
 enum-told : tie.Need-enum-told
 enum-told c = search needs
 
-enum-known-p : tie.Need-enum-known-p
-enum-known-p c = search needs
-
-note-fits-requires : tie.Need-note-fits-requires
-note-fits-requires c κs = search needs
-
 returns : tie.Need-returns
 unfolding pendingNoteFits
 returns c = simp (c .enum-told .given .1)
@@ -21,4 +15,4 @@ returns-2 : tie.Need-returns-2
 returns-2 c = simp (c .before .before .p .given .1) (c .note-fits .ensures)
 
 pub pending-fits-spec : {M : Type 1} → statement M
-pending-fits-spec = tie.close (tie.spec enum-told enum-known-p note-fits-requires returns returns-2)
+pending-fits-spec = tie.close (tie.spec enum-told (λ c. search needs) (λ c κs. search needs) returns returns-2)

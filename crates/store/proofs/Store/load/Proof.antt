@@ -5,20 +5,11 @@ use borrow.Author.Needs.{needs}
 use Rattle.store.proofs.Store.load.Statement.{statement}
 use Rattle.store.proofs.Store.load.Tie as tie
 
-refusal-requires : tie.Need-refusal-requires
-refusal-requires c κs = search needs
-
 load-requires : tie.Need-load-requires
 load-requires c κs = c .before .refusal .ensures (now (c .before .before .before .before .before .args .memory)) refl
-
-wrap-requires : tie.Need-wrap-requires
-wrap-requires c κs = search needs
-
-same-length : tie.Need-same-length
-same-length c = search needs
 
 returns : tie.Need-returns
 returns c = let e = c .before .before .before .load .ensures in (rw (e .0) at (c .wrap .ensures), e .1)
 
 pub load-spec : {M : Type 1} → statement M
-load-spec = tie.close (tie.spec refusal-requires load-requires wrap-requires same-length returns)
+load-spec = tie.close (tie.spec (λ c κs. search needs) load-requires (λ c κs. search needs) (λ c. search needs) returns)

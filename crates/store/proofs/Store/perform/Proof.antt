@@ -19,77 +19,38 @@ rows : (c : tie.After-refusal) → let a = c .before .before .before .before .be
     (stateRows (now (a .volume)) (now (a .memory)) (a .self .state) [])
 rows c = c .refusal .ensures (now (c .before .before .before .before .before .args .memory)) refl
 
-refusal-requires : tie.Need-refusal-requires
-refusal-requires c κs = search needs
-
-enum-known-command : tie.Need-enum-known-command
-enum-known-command c = search needs
-
 begin-requires : tie.Need-begin-requires
 begin-requires c κs = rows (c .before .before .before .before .before)
-
-enum-known-command-2 : tie.Need-enum-known-command-2
-enum-known-command-2 c = search needs
 
 load-requires : tie.Need-load-requires
 load-requires c κs = rows (c .before .before .before .before .before)
 
-enum-known-command-3 : tie.Need-enum-known-command-3
-enum-known-command-3 c = search needs
-
 change-requires : tie.Need-change-requires
 change-requires c κs = rows (c .before .before .before .before .before)
-
-enum-told : tie.Need-enum-told
-enum-told c = search needs
 
 force-requires : tie.Need-force-requires
 force-requires c κs = rows (c .before .before .before .before)
 
-enum-known-command-4 : tie.Need-enum-known-command-4
-enum-known-command-4 c = search needs
-
 write-requires : tie.Need-write-requires
 write-requires c κs = rows (c .before .before .before .before .before)
-
-enum-known-command-5 : tie.Need-enum-known-command-5
-enum-known-command-5 c = search needs
 
 backup-requires : tie.Need-backup-requires
 backup-requires c κs = rows (c .before .before .before .before .before)
 
-enum-known-command-6 : tie.Need-enum-known-command-6
-enum-known-command-6 c = search needs
-
 release-requires : tie.Need-release-requires
 release-requires c κs = rows (c .before .before .before .before .before)
-
-enum-told-2 : tie.Need-enum-told-2
-enum-told-2 c = search needs
 
 note-requires : tie.Need-note-requires
 note-requires c κs = rows (c .before .before .before .before)
 
-enum-told-3 : tie.Need-enum-told-3
-enum-told-3 c = search needs
-
 start-requires : tie.Need-start-requires
 start-requires c κs = rows (c .before .before .before .before)
-
-enum-told-4 : tie.Need-enum-told-4
-enum-told-4 c = search needs
 
 restamp-requires : tie.Need-restamp-requires
 restamp-requires c κs = rows (c .before .before .before .before)
 
-enum-told-5 : tie.Need-enum-told-5
-enum-told-5 c = search needs
-
 finish-requires : tie.Need-finish-requires
 finish-requires c κs = rows (c .before .before .before .before)
-
-wrap-requires : tie.Need-wrap-requires
-wrap-requires c κs = search needs
 
 -- where the arms meet: what the call gave back and left
 made : (c : tie.At-match-came)
@@ -117,7 +78,8 @@ made c =
     (⊎-elim (λ w.
     memory-left _ _ _ _ _ _ _ _ _ (w .1 .given .1) (w .9 ∙ w .4 .ensures .0) (w .8) (restamp-memory _ _ _) (w .7 ∙ w .4 .ensures .1))
     (λ w.
-    memory-left _ _ _ _ _ _ _ _ _ (w .1 .given .1) (w .9 ∙ w .4 .ensures .0) (w .8) (finish-carry-memory _ _ _) (w .7 ∙ w .4 .ensures .1))))))))))))
+    memory-left _ _ _ _ _ _ _ _ _ (w .1 .given .1) (w .9 ∙ w .4 .ensures .0) (w .8) (finish-carry-memory _ _ _)
+    (w .7 ∙ w .4 .ensures .1))))))))))))
     (c .match .came)
 
 -- the volume and the memory are as long as they were
@@ -150,31 +112,8 @@ returns c = let m = made (c .before) in (c .wrap .ensures ∙ ap wrapped (m .0),
 pub perform-spec : {M : Type 1} → statement M
 perform-spec =
     tie.close
-    (tie.spec
-    refusal-requires
-    enum-known-command
-    begin-requires
-    enum-known-command-2
-    load-requires
-    enum-known-command-3
-    change-requires
-    enum-told
-    force-requires
-    enum-known-command-4
-    write-requires
-    enum-known-command-5
-    backup-requires
-    enum-known-command-6
-    release-requires
-    enum-told-2
-    note-requires
-    enum-told-3
-    start-requires
-    enum-told-4
-    restamp-requires
-    enum-told-5
-    finish-requires
-    wrap-requires
-    same-length
-    same-length-2
-    returns)
+    (tie.spec (λ c κs. search needs) (λ c. search needs) begin-requires (λ c. search needs) load-requires
+    (λ c. search needs) change-requires (λ c. search needs) force-requires (λ c. search needs) write-requires
+    (λ c. search needs) backup-requires (λ c. search needs) release-requires (λ c. search needs) note-requires
+    (λ c. search needs) start-requires (λ c. search needs) restamp-requires (λ c. search needs) finish-requires
+    (λ c κs. search needs) same-length same-length-2 returns)

@@ -5,17 +5,11 @@ use borrow.Author.Needs.{needs}
 use Rattle.store.proofs.Store.release.Statement.{statement}
 use Rattle.store.proofs.Store.release.Tie as tie
 
-refusal-requires : tie.Need-refusal-requires
-refusal-requires c κs = search needs
-
 release-requires : tie.Need-release-requires
 release-requires c κs = c .refusal .ensures (now (c .before .before .before .before .args .memory)) refl
-
-wrap-requires : tie.Need-wrap-requires
-wrap-requires c κs = search needs
 
 returns : tie.Need-returns
 returns c = rw (c .before .release .ensures) at (c .wrap .ensures)
 
 pub release-spec : {M : Type 1} → statement M
-release-spec = tie.close (tie.spec refusal-requires release-requires wrap-requires returns)
+release-spec = tie.close (tie.spec (λ c κs. search needs) release-requires (λ c κs. search needs) returns)

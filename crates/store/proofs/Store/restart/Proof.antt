@@ -3,17 +3,8 @@ use borrow.Author.Needs.{needs}
 use Rattle.store.proofs.Store.restart.Statement.{statement}
 use Rattle.store.proofs.Store.restart.Tie as tie
 
-restart-requires : tie.Need-restart-requires
-restart-requires c κs = search needs
-
-wrap-requires : tie.Need-wrap-requires
-wrap-requires c κs = search needs
-
-same-length : tie.Need-same-length
-same-length c = search needs
-
 returns : tie.Need-returns
 returns c = let e = c .before .before .before .restart .ensures in (rw (e .0) at (c .wrap .ensures), e .1)
 
 pub restart-spec : {M : Type 1} → statement M
-restart-spec = tie.close (tie.spec restart-requires wrap-requires same-length returns)
+restart-spec = tie.close (tie.spec (λ c κs. search needs) (λ c κs. search needs) (λ c. search needs) returns)

@@ -5,20 +5,12 @@ use borrow.Author.Needs.{needs}
 use Rattle.store.proofs.Store.start_carry.Statement.{statement}
 use Rattle.store.proofs.Store.start_carry.Tie as tie
 
-refusal-requires : tie.Need-refusal-requires
-refusal-requires c κs = search needs
-
 start-requires : tie.Need-start-requires
 start-requires c κs = c .before .refusal .ensures (now (c .before .before .before .before .before .before .args .memory)) refl
-
-wrap-requires : tie.Need-wrap-requires
-wrap-requires c κs = search needs
-
-same-length : tie.Need-same-length
-same-length c = search needs
 
 returns : tie.Need-returns
 returns c = let e = c .before .before .before .start .ensures in (rw (e .0) at (c .wrap .ensures), e .1)
 
 pub start-carry-spec : {M : Type 1} → statement M
-start-carry-spec = tie.close (tie.spec refusal-requires start-requires wrap-requires same-length returns)
+start-carry-spec =
+    tie.close (tie.spec (λ c κs. search needs) start-requires (λ c κs. search needs) (λ c. search needs) returns)

@@ -40,12 +40,6 @@ loop-holds c =
           ∙ c .before .pre .1 .leads,
     )
 
-step-requires : tie.Need-step-requires Inv-loop μ-loop
-step-requires c κs = search needs
-
-add-step : tie.Need-add-step Inv-loop μ-loop
-add-step c = search needs
-
 step-requires-2 : tie.Need-step-requires-2 Inv-loop μ-loop
 step-requires-2 c κs = (
   (
@@ -91,17 +85,11 @@ loop-again c =
       rw (← add-assoc (t .at) (l .k) 8) (sym s ∙ l .inv .4),
     )
 
-low-requires : tie.Need-low-requires Inv-loop μ-loop
-low-requires c κs = search needs
-
 add-t11 : tie.Need-add-t11 Inv-loop μ-loop
 add-t11 c =
     let q = c .before .before .before .before .before .pre in
     let l = c .before .before .before .loop in
     omega (arith, q .0 .1, q .1 .inside, q .1 .few, q .1 .many, l .inv .0, l .inv .3, c .before .low .ensures .1)
-
-low-requires-2 : tie.Need-low-requires-2 Inv-loop μ-loop
-low-requires-2 c κs = search needs
 
 add-t13 : tie.Need-add-t13 Inv-loop μ-loop
 add-t13 c =
@@ -119,17 +107,11 @@ add-t13 c =
       c .low2 .ensures .1,
     )
 
-high-requires : tie.Need-high-requires Inv-loop μ-loop
-high-requires c κs = search needs
-
 add-t15 : tie.Need-add-t15 Inv-loop μ-loop
 add-t15 c =
     let q = c .before .before .before .before .before .before .before .pre in
     let l = c .before .before .before .before .before .loop in
     omega (arith, q .0 .1, q .1 .inside, q .1 .few, q .1 .many, l .inv .0, l .inv .3, c .high .ensures .1)
-
-high-requires-2 : tie.Need-high-requires-2 Inv-loop μ-loop
-high-requires-2 c κs = search needs
 
 add-t17 : tie.Need-add-t17 Inv-loop μ-loop
 add-t17 c =
@@ -174,27 +156,6 @@ returns c =
 pub block-spec : {M : Type 1} → statement M
 block-spec =
     tie.close
-    (tie.spec
-    Inv-loop
-    μ-loop
-    loop-holds
-    step-requires
-    add-step
-    step-requires-2
-    mul-b
-    add-b
-    add-k
-    loop-less
-    loop-again
-    low-requires
-    add-t11
-    low-requires-2
-    add-t13
-    high-requires
-    add-t15
-    high-requires-2
-    add-t17
-    mul-t18
-    add-t19
-    add-t20
-    returns)
+    (tie.spec Inv-loop μ-loop loop-holds (λ c κs. search needs) (λ c. search needs) step-requires-2 mul-b add-b add-k
+    loop-less loop-again (λ c κs. search needs) add-t11 (λ c κs. search needs) add-t13 (λ c κs. search needs) add-t15
+    (λ c κs. search needs) add-t17 mul-t18 add-t19 add-t20 returns)

@@ -6,57 +6,6 @@ use borrow.Author.Needs.{needs}
 use Rattle.sums.proofs.byte_lanes.step.Statement.{statement}
 use Rattle.sums.proofs.byte_lanes.step.Tie as tie
 
-add-i : tie.Need-add-i
-add-i c = search needs
-
-shared-slice-read-u8-u16 : tie.Need-shared-slice-read-u8-u16
-shared-slice-read-u8-u16 c = search needs
-
-u8-u16-requires : tie.Need-u8-u16-requires
-u8-u16-requires c κs = search needs
-
-add-t9 : tie.Need-add-t9
-add-t9 c = search needs
-
-add-u8-u16 : tie.Need-add-u8-u16
-add-u8-u16 c = search needs
-
-shared-slice-read-u8-u16-2 : tie.Need-shared-slice-read-u8-u16-2
-shared-slice-read-u8-u16-2 c = search needs
-
-u8-u16-requires-2 : tie.Need-u8-u16-requires-2
-u8-u16-requires-2 c κs = search needs
-
-add-t14 : tie.Need-add-t14
-add-t14 c = search needs
-
-add-u8-u16-2 : tie.Need-add-u8-u16-2
-add-u8-u16-2 c = search needs
-
-shared-slice-read-u8-u16-3 : tie.Need-shared-slice-read-u8-u16-3
-shared-slice-read-u8-u16-3 c = search needs
-
-u8-u16-requires-3 : tie.Need-u8-u16-requires-3
-u8-u16-requires-3 c κs = search needs
-
-add-t19 : tie.Need-add-t19
-add-t19 c = search needs
-
-add-u8-u16-3 : tie.Need-add-u8-u16-3
-add-u8-u16-3 c = search needs
-
-shared-slice-read-u8-u16-4 : tie.Need-shared-slice-read-u8-u16-4
-shared-slice-read-u8-u16-4 c = search needs
-
-u8-u16-requires-4 : tie.Need-u8-u16-requires-4
-u8-u16-requires-4 c κs = search needs
-
-add-t24 : tie.Need-add-t24
-add-t24 c = search needs
-
-add-t25 : tie.Need-add-t25
-add-t25 c = search needs
-
 add-t26 : tie.Need-add-t26
 add-t26 c =
     let q = c .before .before .before .before .before .before .before .before .before .before .before .before .before .before .before .pre in
@@ -105,25 +54,7 @@ returns c =
 pub step-spec : {M : Type 1} → statement M
 step-spec =
     tie.close
-    (tie.spec
-    add-i
-    shared-slice-read-u8-u16
-    u8-u16-requires
-    add-t9
-    add-u8-u16
-    shared-slice-read-u8-u16-2
-    u8-u16-requires-2
-    add-t14
-    add-u8-u16-2
-    shared-slice-read-u8-u16-3
-    u8-u16-requires-3
-    add-t19
-    add-u8-u16-3
-    shared-slice-read-u8-u16-4
-    u8-u16-requires-4
-    add-t24
-    add-t25
-    add-t26
-    add-t27
-    add-t28
-    returns)
+    (tie.spec (λ c. search needs) (λ c. search needs) (λ c κs. search needs) (λ c. search needs) (λ c. search needs)
+    (λ c. search needs) (λ c κs. search needs) (λ c. search needs) (λ c. search needs) (λ c. search needs)
+    (λ c κs. search needs) (λ c. search needs) (λ c. search needs) (λ c. search needs) (λ c κs. search needs)
+    (λ c. search needs) (λ c. search needs) add-t26 add-t27 add-t28 returns)

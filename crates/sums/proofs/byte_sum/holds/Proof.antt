@@ -7,24 +7,6 @@ use Rattle.sums.proofs.Past.{sum-past}
 use Rattle.sums.proofs.byte_sum.holds.Statement.{statement}
 use Rattle.sums.proofs.byte_sum.holds.Tie as tie
 
-sub-sum : tie.Need-sub-sum
-sub-sum c = search needs
-
-part-sum-start : tie.Need-part-sum-start
-part-sum-start c = search needs
-
-part-sum-end : tie.Need-part-sum-end
-part-sum-end c = search needs
-
-sum-requires : tie.Need-sum-requires
-sum-requires c κs = search needs
-
-u32-at-requires : tie.Need-u32-at-requires
-u32-at-requires c κs = search needs
-
-sum-requires-2 : tie.Need-sum-requires-2
-sum-requires-2 c κs = search needs
-
 returns : tie.Need-returns
 unfolding sumHolds
 returns c = rw (c .before .sum .ensures, c .u32-at .ensures, sub-zero)
@@ -35,12 +17,5 @@ returns-2 c = rw (c .sum2 .ensures) (sym (sum-past byteSum _ _ (c .before .if1 .
 pub holds-spec : {M : Type 1} → statement M
 holds-spec =
     tie.close
-    (tie.spec
-    sub-sum
-    part-sum-start
-    part-sum-end
-    sum-requires
-    u32-at-requires
-    sum-requires-2
-    returns
-    returns-2)
+    (tie.spec (λ c. search needs) (λ c. search needs) (λ c. search needs) (λ c κs. search needs) (λ c κs. search needs)
+    (λ c κs. search needs) returns returns-2)

@@ -18,27 +18,6 @@ Inv-loop s a₀ b₀ i₀ a b i =
 abbrev μ-loop : tie.MeasureT-loop
 μ-loop s a₀ b₀ i₀ a b i = length s - i
 
-loop-holds : tie.Need-loop-holds Inv-loop μ-loop
-loop-holds c = search needs
-
-shared-slice-read-u8-u64 : tie.Need-shared-slice-read-u8-u64 Inv-loop μ-loop
-shared-slice-read-u8-u64 c = search needs
-
-u8-u64-requires : tie.Need-u8-u64-requires Inv-loop μ-loop
-u8-u64-requires c κs = search needs
-
-add-a : tie.Need-add-a Inv-loop μ-loop
-add-a c = search needs
-
-add-b : tie.Need-add-b Inv-loop μ-loop
-add-b c = search needs
-
-add-i : tie.Need-add-i Inv-loop μ-loop
-add-i c = search needs
-
-loop-less : tie.Need-loop-less Inv-loop μ-loop
-loop-less c = search needs
-
 loop-again : tie.Need-loop-again Inv-loop μ-loop
 loop-again c =
     let l = c .before .before .before .loop in
@@ -49,9 +28,6 @@ loop-again c =
       rw (c .u8-u64 .ensures .0) (sym (byteSum-byte-late (l .a) (l .b) (l .i) xs (omega arith)) ∙ l .inv .3),
     )
 
-value-requires : tie.Need-value-requires Inv-loop μ-loop
-value-requires c κs = search needs
-
 returns : tie.Need-returns Inv-loop μ-loop
 returns c =
     let l = c .before .before .loop in
@@ -61,16 +37,5 @@ returns c =
 pub late-spec : {M : Type 1} → statement M
 late-spec =
     tie.close
-    (tie.spec
-    Inv-loop
-    μ-loop
-    loop-holds
-    shared-slice-read-u8-u64
-    u8-u64-requires
-    add-a
-    add-b
-    add-i
-    loop-less
-    loop-again
-    value-requires
-    returns)
+    (tie.spec Inv-loop μ-loop (λ c. search needs) (λ c. search needs) (λ c κs. search needs) (λ c. search needs)
+    (λ c. search needs) (λ c. search needs) (λ c. search needs) loop-again (λ c κs. search needs) returns)

@@ -16,27 +16,6 @@ Inv-loop v a₀ b₀ i₀ a b i = (i ≤ length v) × (a < 65535) × (b < 65535)
 abbrev μ-loop : tie.MeasureT-loop
 μ-loop v a₀ b₀ i₀ a b i = length v - i
 
-loop-holds : tie.Need-loop-holds Inv-loop μ-loop
-loop-holds c = search needs
-
-shared-slice-read-u8-u64 : tie.Need-shared-slice-read-u8-u64 Inv-loop μ-loop
-shared-slice-read-u8-u64 c = search needs
-
-u8-u64-requires : tie.Need-u8-u64-requires Inv-loop μ-loop
-u8-u64-requires c κs = search needs
-
-add-a : tie.Need-add-a Inv-loop μ-loop
-add-a c = search needs
-
-add-b : tie.Need-add-b Inv-loop μ-loop
-add-b c = search needs
-
-add-i : tie.Need-add-i Inv-loop μ-loop
-add-i c = search needs
-
-loop-less : tie.Need-loop-less Inv-loop μ-loop
-loop-less c = search needs
-
 loop-again : tie.Need-loop-again Inv-loop μ-loop
 loop-again c =
     let l = c .before .before .before .loop in
@@ -47,15 +26,6 @@ loop-again c =
       rw (c .u8-u64 .ensures .0) (sym (byteSum-byte (l .a) (l .b) (l .i) xs (c .before .before .loop-test .taken)) ∙ l .inv .3),
     )
 
-mul-result : tie.Need-mul-result Inv-loop μ-loop
-mul-result c = search needs
-
-add-result : tie.Need-add-result Inv-loop μ-loop
-add-result c = search needs
-
-cast-result : tie.Need-cast-result Inv-loop μ-loop
-cast-result c = search needs
-
 returns : tie.Need-returns Inv-loop μ-loop
 returns c =
     let l = c .before .loop in
@@ -64,18 +34,6 @@ returns c =
 pub stepwise-spec : {M : Type 1} → statement M
 stepwise-spec =
     tie.close
-    (tie.spec
-    Inv-loop
-    μ-loop
-    loop-holds
-    shared-slice-read-u8-u64
-    u8-u64-requires
-    add-a
-    add-b
-    add-i
-    loop-less
-    loop-again
-    mul-result
-    add-result
-    cast-result
-    returns)
+    (tie.spec Inv-loop μ-loop (λ c. search needs) (λ c. search needs) (λ c κs. search needs) (λ c. search needs)
+    (λ c. search needs) (λ c. search needs) (λ c. search needs) loop-again (λ c. search needs) (λ c. search needs)
+    (λ c. search needs) returns)

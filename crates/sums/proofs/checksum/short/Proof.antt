@@ -8,12 +8,6 @@ use Rattle.laws.proofs.Checksums.{checksum-end}
 use Rattle.sums.proofs.checksum.short.Statement.{statement}
 use Rattle.sums.proofs.checksum.short.Tie as tie
 
-head-requires : tie.Need-head-requires
-head-requires c κs = search needs
-
-value-requires : tie.Need-value-requires
-value-requires c κs = search needs
-
 returns : tie.Need-returns
 returns c =
     let h = c .before .before .head in
@@ -23,14 +17,8 @@ returns c =
     (omega (arith, h .ensures .1 .place, c .before .if1 .taken)))
     ∙ h .ensures .0 .leads
 
-blocks-requires : tie.Need-blocks-requires
-blocks-requires c κs = search needs
-
-late-requires : tie.Need-late-requires
-late-requires c κs = search needs
-
-returns-2 : tie.Need-returns-2
-returns-2 c = search needs
-
 pub short-spec : {M : Type 1} → statement M
-short-spec = tie.close (tie.spec head-requires value-requires returns blocks-requires late-requires returns-2)
+short-spec =
+    tie.close
+    (tie.spec (λ c κs. search needs) (λ c κs. search needs) returns (λ c κs. search needs) (λ c κs. search needs)
+    (λ c. search needs))

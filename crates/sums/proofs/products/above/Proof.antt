@@ -4,17 +4,6 @@ use native.Mathlib.Omega.{arith}
 use borrow.Author.Needs.{needs}
 use Rattle.sums.proofs.products.above.Statement.{statement}
 use Rattle.sums.proofs.products.above.Tie as tie
-use Rattle.sums.proofs.products.above.Reads as reads
-use Rattle.sums.proofs.products.above.Lts as lts
-
-cast-result : tie.Need-cast-result
-cast-result c = search needs
-
-mul-result : tie.Need-mul-result
-mul-result c = search needs
-
-sub-result : tie.Need-sub-result
-sub-result c = search needs
 
 returns : tie.Need-returns
 returns c = (rw (lt-ltb (c .before .args .k) 3 (c .if1 .taken)), omega arith)
@@ -23,4 +12,4 @@ returns-2 : tie.Need-returns-2
 returns-2 c = (rw (le-ltb (c .before .args .k) 3 (c .if1 .left)), omega arith)
 
 pub above-spec : {M : Type 1} → statement M
-above-spec = tie.close (tie.spec cast-result mul-result sub-result returns returns-2)
+above-spec = tie.close (tie.spec (λ c. search needs) (λ c. search needs) (λ c. search needs) returns returns-2)

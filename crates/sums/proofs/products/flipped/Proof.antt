@@ -13,15 +13,6 @@ use Rattle.sums.proofs.Differences.{minus-pos, minus-fits, minus-back, 
 use Rattle.sums.proofs.Weighed.{word-most}
 use Rattle.sums.proofs.products.flipped.Statement.{statement}
 use Rattle.sums.proofs.products.flipped.Tie as tie
-use Rattle.sums.proofs.products.flipped.Reads as reads
-use Rattle.sums.proofs.products.flipped.Lts as lts
-use Rattle.codec.proofs.field.two.Reads as two-reads
-
-two-requires : tie.Need-two-requires
-two-requires c κs = search needs
-
-cast-result : tie.Need-cast-result
-cast-result c = search needs
 
 abbrev word : tie.After-two → ℕ
 word c = field 2 (c .before .before .args .at) (now (c .before .before .args .s))
@@ -49,4 +40,4 @@ returns : tie.Need-returns
 returns c = let h = most c in minus-back (less-back c) w16 (omega arith) (omega arith)
 
 pub flipped-spec : {M : Type 1} → statement M
-flipped-spec = tie.close (tie.spec two-requires cast-result sub-result cast-result-2 returns)
+flipped-spec = tie.close (tie.spec (λ c κs. search needs) (λ c. search needs) sub-result cast-result-2 returns)

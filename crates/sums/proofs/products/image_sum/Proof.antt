@@ -12,14 +12,6 @@ use Rattle.sums.proofs.Images.{no-parts, no-parts-high, part-low-most, 
 use Rattle.sums.proofs.Images.{highs-most, lows-next, highs-next, lows-all, highs-all, image-checksum}
 use Rattle.sums.proofs.products.image_sum.Statement.{statement}
 use Rattle.sums.proofs.products.image_sum.Tie as tie
-use Rattle.sums.proofs.products.image_sum.Reads as reads
-use Rattle.sums.proofs.products.image_sum.Lts as lts
-use Rattle.codec.proofs.field.two.Reads as two-reads
-use Rattle.codec.proofs.number.u16_u32.Reads as u16-u32-reads
-use Rattle.sums.proofs.products.above.Reads as above-reads
-use Rattle.sums.proofs.products.folded.Reads as folded-reads
-use Rattle.sums.proofs.products.place.Reads as place-reads
-use Rattle.sums.proofs.products.sums_at.Reads as sums-at-reads
 
 abbrev Inv-loop : tie.InvT-loop
 Inv-loop s v w a₀ b₀ k₀ a b k = (k ≤ 4) × (a ≡ 1 + lows s k) × (b ≡ 126 + highs s k)
@@ -27,25 +19,10 @@ Inv-loop s v w a₀ b₀ k₀ a b k = (k ≤ 4) × (a ≡ 1 + lows s k) × (b �
 abbrev μ-loop : tie.MeasureT-loop
 μ-loop s v w a₀ b₀ k₀ a b k = 4 - k
 
-two-requires : tie.Need-two-requires Inv-loop μ-loop
-two-requires c κs = search needs
-
-u16-u32-requires : tie.Need-u16-u32-requires Inv-loop μ-loop
-u16-u32-requires c κs = search needs
-
-two-requires-2 : tie.Need-two-requires-2 Inv-loop μ-loop
-two-requires-2 c κs = search needs
-
-u16-u32-requires-2 : tie.Need-u16-u32-requires-2 Inv-loop μ-loop
-u16-u32-requires-2 c κs = search needs
-
 loop-holds : tie.Need-loop-holds Inv-loop μ-loop
 loop-holds c =
     let s = now (c .before .before .before .before .before .args .s) in
     (omega arith, no-parts s, no-parts-high s)
-
-place-requires : tie.Need-place-requires Inv-loop μ-loop
-place-requires c κs = search needs
 
 sums-at-requires : tie.Need-sums-at-requires Inv-loop μ-loop
 sums-at-requires c κs = omega (arith, c .place .ensures .1)
@@ -84,9 +61,6 @@ add-a c =
     let d = c .before in
     omega (arith, low-few d, lows-most (bytes-of d) (known d) (k-of d))
 
-above-requires : tie.Need-above-requires Inv-loop μ-loop
-above-requires c κs = search needs
-
 mul-b : tie.Need-mul-b Inv-loop μ-loop
 mul-b c =
     let d = c .before .before .before in
@@ -108,12 +82,6 @@ add-b-2 c =
       highs-most (bytes-of d) (known d) (k-of d),
       term-most (u .result) (d .sums-at .result .a) (u .ensures .1) (low-few d),
     )
-
-add-k : tie.Need-add-k Inv-loop μ-loop
-add-k c = search needs
-
-loop-less : tie.Need-loop-less Inv-loop μ-loop
-loop-less c = search needs
 
 loop-again : tie.Need-loop-again Inv-loop μ-loop
 loop-again c =
@@ -156,14 +124,8 @@ module _ (c : tie.After-loop Inv-loop μ-loop) where
       let b : Bytes image = λ i. c .before .before .before .before .before .before .shared-slice-known .given i .fits in
       omega (arith, lows-most image b (c .before .loop .k))
 
-mul-folded : tie.Need-mul-folded Inv-loop μ-loop
-mul-folded c = search needs
-
 sub-folded : tie.Need-sub-folded Inv-loop μ-loop
 sub-folded c = omega (arith, first-word c, sum-high c)
-
-mul-folded-2 : tie.Need-mul-folded-2 Inv-loop μ-loop
-mul-folded-2 c = search needs
 
 sub-folded-2 : tie.Need-sub-folded-2 Inv-loop μ-loop
 sub-folded-2 c = omega (arith, first-word c, second-word c, sum-high c)
@@ -194,37 +156,13 @@ returns c =
     let w = d .before .before .u16-u322 .result in
     let e : l .a - v - w ≡ 1 + low (image d) 126 = omega (arith, first-word d, second-word d, sum-low d) in
     let f : l .b - 32 * v - 31 * w ≡ 126 + high (image d) 126 = omega (arith, first-word d, second-word d, sum-high d) in
-    rw (c .before .folded .ensures .0, c .folded2 .ensures .0, e, f) (sym (image-checksum (image d) (d .before .before .before .before .before .before .before .pre)))
+    rw (c .before .folded .ensures .0, c .folded2 .ensures .0, e, f)
+    (sym (image-checksum (image d) (d .before .before .before .before .before .before .before .pre)))
 
 pub image-sum-spec : {M : Type 1} → statement M
 image-sum-spec =
     tie.close
-    (tie.spec
-    Inv-loop
-    μ-loop
-    two-requires
-    u16-u32-requires
-    two-requires-2
-    u16-u32-requires-2
-    loop-holds
-    place-requires
-    sums-at-requires
-    add-a
-    above-requires
-    mul-b
-    add-b
-    add-b-2
-    add-k
-    loop-less
-    loop-again
-    mul-folded
-    sub-folded
-    mul-folded-2
-    sub-folded-2
-    folded-requires
-    mul-result
-    sub-folded-3
-    sub-folded-4
-    folded-requires-2
-    add-result
-    returns)
+    (tie.spec Inv-loop μ-loop (λ c κs. search needs) (λ c κs. search needs) (λ c κs. search needs)
+    (λ c κs. search needs) loop-holds (λ c κs. search needs) sums-at-requires add-a (λ c κs. search needs) mul-b add-b
+    add-b-2 (λ c. search needs) (λ c. search needs) loop-again (λ c. search needs) sub-folded (λ c. search needs)
+    sub-folded-2 folded-requires mul-result sub-folded-3 sub-folded-4 folded-requires-2 add-result returns)

@@ -14,12 +14,6 @@ use Rattle.sums.proofs.Pairs.{Pair, all-fits, both-fits, often-fits, tw
 use Rattle.sums.proofs.Pairs.{x-cast, x-abs, all-more-fits, y-cast, y-abs}
 use Rattle.sums.proofs.products.note_holds.Statement.{statement}
 use Rattle.sums.proofs.products.note_holds.Tie as tie
-use Rattle.sums.proofs.products.note_holds.Reads as reads
-use Rattle.sums.proofs.products.note_holds.Lts as lts
-use Rattle.codec.proofs.field.four.Reads as four-reads
-use Rattle.sums.proofs.products.multiple_of_modulus.Reads as multiple-of-modulus-reads
-use Rattle.sums.proofs.products.lower_note.Reads as lower-reads
-use Rattle.sums.proofs.products.upper_note.Reads as upper-reads
 
 -- the item
 module _ (c : tie.After-lower-note) where
@@ -35,12 +29,6 @@ module _ (c : tie.After-lower-note) where
   products : Pair (low item 8) (high item 8) 8 (weights 73 8) (weights 72 8) 1441802 458750 (x-of 6 item) (y-of 6 item)
       (c .before .upper-note .result) (c .lower-note .result)
   products = pair 6 item bytes 1441802 458750 _ _ note-constants (c .before .upper-note .ensures) (c .lower-note .ensures)
-
-upper-note-requires : tie.Need-upper-note-requires
-upper-note-requires c κs = search needs
-
-lower-note-requires : tie.Need-lower-note-requires
-lower-note-requires c κs = search needs
 
 sub-all : tie.Need-sub-all
 sub-all c = all-fits (products c)
@@ -60,25 +48,16 @@ add-multiple-of-modulus c = twice-more-fits (products c)
 cast-multiple-of-modulus : tie.Need-cast-multiple-of-modulus
 cast-multiple-of-modulus c = x-cast (products c)
 
-multiple-of-modulus-requires : tie.Need-multiple-of-modulus-requires
-multiple-of-modulus-requires c κs = search needs
-
 returns : tie.Need-returns
 returns c =
     let d = c .before .before in
     first-fails 6 (item d) (bytes d) (long d) (failed (c .if1 .taken) (c .before .multiple-of-modulus .ensures) (x-abs (products d)))
-
-four-requires : tie.Need-four-requires
-four-requires c κs = search needs
 
 add-multiple-of-modulus-2 : tie.Need-add-multiple-of-modulus-2
 add-multiple-of-modulus-2 c = all-more-fits (products (c .before .before .before))
 
 cast-multiple-of-modulus-2 : tie.Need-cast-multiple-of-modulus-2
 cast-multiple-of-modulus-2 c = y-cast (products (c .before .before .before))
-
-mul-multiple-of-modulus : tie.Need-mul-multiple-of-modulus
-mul-multiple-of-modulus c = search needs
 
 sub-multiple-of-modulus : tie.Need-sub-multiple-of-modulus
 sub-multiple-of-modulus c =
@@ -89,9 +68,6 @@ sub-multiple-of-modulus-2 : tie.Need-sub-multiple-of-modulus-2
 sub-multiple-of-modulus-2 c =
     let d = c .before .before .before in
     rw (y-abs (products d)) (rest-high 6 (item d) (bytes d) (long d) (c .four .result) (c .four .ensures))
-
-multiple-of-modulus-requires-2 : tie.Need-multiple-of-modulus-requires-2
-multiple-of-modulus-requires-2 c κs = search needs
 
 returns-2 : tie.Need-returns-2
 returns-2 c =
@@ -111,23 +87,7 @@ returns-3 c =
 pub note-holds-spec : {M : Type 1} → statement M
 note-holds-spec =
     tie.close
-    (tie.spec
-    upper-note-requires
-    lower-note-requires
-    sub-all
-    add-twice
-    mul-twice
-    sub-twice
-    add-multiple-of-modulus
-    cast-multiple-of-modulus
-    multiple-of-modulus-requires
-    returns
-    four-requires
-    add-multiple-of-modulus-2
-    cast-multiple-of-modulus-2
-    mul-multiple-of-modulus
-    sub-multiple-of-modulus
-    sub-multiple-of-modulus-2
-    multiple-of-modulus-requires-2
-    returns-2
-    returns-3)
+    (tie.spec (λ c κs. search needs) (λ c κs. search needs) sub-all add-twice mul-twice sub-twice
+    add-multiple-of-modulus cast-multiple-of-modulus (λ c κs. search needs) returns (λ c κs. search needs)
+    add-multiple-of-modulus-2 cast-multiple-of-modulus-2 (λ c. search needs) sub-multiple-of-modulus
+    sub-multiple-of-modulus-2 (λ c κs. search needs) returns-2 returns-3)

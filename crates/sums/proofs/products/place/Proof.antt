@@ -4,11 +4,6 @@ use native.Mathlib.Omega.{arith}
 use borrow.Author.Needs.{needs}
 use Rattle.sums.proofs.products.place.Statement.{statement}
 use Rattle.sums.proofs.products.place.Tie as tie
-use Rattle.sums.proofs.products.place.Reads as reads
-use Rattle.sums.proofs.products.place.Lts as lts
-
-mul-result : tie.Need-mul-result
-mul-result c = search needs
 
 returns : tie.Need-returns
 returns c = (rw (lt-ltb (c .before .args .k) 3 (c .if1 .taken)), omega arith)
@@ -17,4 +12,4 @@ returns-2 : tie.Need-returns-2
 returns-2 c = (rw (le-ltb (c .before .args .k) 3 (c .if1 .left)), omega arith)
 
 pub place-spec : {M : Type 1} → statement M
-place-spec = tie.close (tie.spec mul-result returns returns-2)
+place-spec = tie.close (tie.spec (λ c. search needs) returns returns-2)

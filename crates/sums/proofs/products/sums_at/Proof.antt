@@ -13,28 +13,6 @@ use Rattle.sums.proofs.Pairs.{all-more-fits, y-cast, y-abs}
 use borrow.Author.Needs.{needs}
 use Rattle.sums.proofs.products.sums_at.Statement.{statement}
 use Rattle.sums.proofs.products.sums_at.Tie as tie
-use Rattle.sums.proofs.products.sums_at.Reads as reads
-use Rattle.sums.proofs.products.sums_at.Lts as lts
-use Rattle.sums.proofs.products.lower_part.Reads as lower-part-reads
-use Rattle.sums.proofs.products.upper_part.Reads as upper-part-reads
-
-add-end : tie.Need-add-end
-add-end c = search needs
-
-sub-r : tie.Need-sub-r
-sub-r c = search needs
-
-part-r-start : tie.Need-part-r-start
-part-r-start c = search needs
-
-part-r-end : tie.Need-part-r-end
-part-r-end c = search needs
-
-upper-part-requires : tie.Need-upper-part-requires
-upper-part-requires c κs = search needs
-
-lower-part-requires : tie.Need-lower-part-requires
-lower-part-requires c κs = search needs
 
 -- the words
 module _ (c : tie.After-lower-part) where
@@ -96,22 +74,5 @@ returns c =
 pub sums-at-spec : {M : Type 1} → statement M
 sums-at-spec =
     tie.close
-    (tie.spec
-    add-end
-    sub-r
-    part-r-start
-    part-r-end
-    upper-part-requires
-    lower-part-requires
-    sub-all
-    add-twice
-    mul-twice
-    sub-twice
-    add-a
-    cast-a
-    add-b
-    cast-b
-    mul-b
-    add-b-2
-    sub-b
-    returns)
+    (tie.spec (λ c. search needs) (λ c. search needs) (λ c. search needs) (λ c. search needs) (λ c κs. search needs)
+    (λ c κs. search needs) sub-all add-twice mul-twice sub-twice add-a cast-a add-b cast-b mul-b add-b-2 sub-b returns)

@@ -11,10 +11,6 @@ use Rattle.sums.specs.Products.{Product}
 use Rattle.sums.proofs.Turns.{Turn, no-words, word-back, place-fits, weight-fits, term-fits, sum-fits, sum-next}
 use Rattle.sums.proofs.products.upper_part.Statement.{statement}
 use Rattle.sums.proofs.products.upper_part.Tie as tie
-use Rattle.sums.proofs.products.upper_part.Reads as reads
-use Rattle.sums.proofs.products.upper_part.Lts as lts
-use Rattle.sums.proofs.products.flipped.Reads as flipped-reads
-use Rattle.codec.proofs.number.i16_i32.Reads as i16-i32-reads
 
 abbrev Inv-loop : tie.InvT-loop
 Inv-loop r t₀ i₀ t i = (i ≤ 32) × Product 97 r i (toZ w32 t)
@@ -24,15 +20,6 @@ abbrev μ-loop : tie.MeasureT-loop
 
 loop-holds : tie.Need-loop-holds Inv-loop μ-loop
 loop-holds c = (omega arith, no-words 97 (now (c .before .args .r)))
-
-mul-flipped : tie.Need-mul-flipped Inv-loop μ-loop
-mul-flipped c = search needs
-
-flipped-requires : tie.Need-flipped-requires Inv-loop μ-loop
-flipped-requires c κs = search needs
-
-i16-i32-requires : tie.Need-i16-i32-requires Inv-loop μ-loop
-i16-i32-requires c κs = search needs
 
 turn : (c : tie.After-i16-i32 Inv-loop μ-loop)
     → Turn 97 (now (c .before .before .before .before .before .args .r)) (c .before .before .before .loop .i)
@@ -61,12 +48,6 @@ mul-t c = term-fits (turn c)
 add-t : tie.Need-add-t Inv-loop μ-loop
 add-t c = sum-fits (turn c)
 
-add-i : tie.Need-add-i Inv-loop μ-loop
-add-i c = search needs
-
-loop-less : tie.Need-loop-less Inv-loop μ-loop
-loop-less c = search needs
-
 loop-again : tie.Need-loop-again Inv-loop μ-loop
 loop-again c = (omega arith, sum-next (turn c))
 
@@ -76,18 +57,5 @@ returns c = let e : c .before .loop .i ≡ 32 = omega arith in rw e at (c .befor
 pub upper-part-spec : {M : Type 1} → statement M
 upper-part-spec =
     tie.close
-    (tie.spec
-    Inv-loop
-    μ-loop
-    loop-holds
-    mul-flipped
-    flipped-requires
-    i16-i32-requires
-    cast-t
-    sub-t
-    mul-t
-    add-t
-    add-i
-    loop-less
-    loop-again
-    returns)
+    (tie.spec Inv-loop μ-loop loop-holds (λ c. search needs) (λ c κs. search needs) (λ c κs. search needs) cast-t sub-t
+    mul-t add-t (λ c. search needs) (λ c. search needs) loop-again returns)

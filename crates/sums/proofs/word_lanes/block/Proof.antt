@@ -9,39 +9,9 @@ use borrow.Author.Needs.{needs}
 use Rattle.sums.proofs.word_lanes.block.Statement.{statement}
 use Rattle.sums.proofs.word_lanes.block.Tie as tie
 
-step-requires : tie.Need-step-requires
-step-requires c κs = search needs
-
-add-step : tie.Need-add-step
-add-step c = search needs
-
-step-requires-2 : tie.Need-step-requires-2
-step-requires-2 c κs = search needs
-
-add-step-2 : tie.Need-add-step-2
-add-step-2 c = search needs
-
-step-requires-3 : tie.Need-step-requires-3
-step-requires-3 c κs = search needs
-
-add-step-3 : tie.Need-add-step-3
-add-step-3 c = search needs
-
-step-requires-4 : tie.Need-step-requires-4
-step-requires-4 c κs = search needs
-
-add-step-4 : tie.Need-add-step-4
-add-step-4 c = search needs
-
-step-requires-5 : tie.Need-step-requires-5
-step-requires-5 c κs = search needs
-
 add-step-5 : tie.Need-add-step-5
 add-step-5 c = omega
     (arith, c .before .before .before .before .before .before .pre .0 .0, c .before .before .before .before .before .before .pre .0 .1)
-
-step-requires-6 : tie.Need-step-requires-6
-step-requires-6 c κs = search needs
 
 returns : tie.Need-returns
 returns c =
@@ -57,16 +27,6 @@ returns c =
 pub block-spec : {M : Type 1} → statement M
 block-spec =
     tie.close
-    (tie.spec
-    step-requires
-    add-step
-    step-requires-2
-    add-step-2
-    step-requires-3
-    add-step-3
-    step-requires-4
-    add-step-4
-    step-requires-5
-    add-step-5
-    step-requires-6
-    returns)
+    (tie.spec (λ c κs. search needs) (λ c. search needs) (λ c κs. search needs) (λ c. search needs)
+    (λ c κs. search needs) (λ c. search needs) (λ c κs. search needs) (λ c. search needs) (λ c κs. search needs)
+    add-step-5 (λ c κs. search needs) returns)

@@ -41,24 +41,6 @@ loop-holds c =
       led checksumFrom (drop (t .at) (now (c .before .args .s))) p₁ p₂ ∙ q .1 .leads,
     )
 
-sub-loop : tie.Need-sub-loop Inv-loop μ-loop
-sub-loop c = search needs
-
-block-requires : tie.Need-block-requires Inv-loop μ-loop
-block-requires c κs = search needs
-
-mul-b : tie.Need-mul-b Inv-loop μ-loop
-mul-b c = search needs
-
-add-b : tie.Need-add-b Inv-loop μ-loop
-add-b c = search needs
-
-add-i : tie.Need-add-i Inv-loop μ-loop
-add-i c = search needs
-
-loop-less : tie.Need-loop-less Inv-loop μ-loop
-loop-less c = search needs
-
 loop-again : tie.Need-loop-again Inv-loop μ-loop
 loop-again c =
     let l = c .before .before .before .loop in
@@ -69,9 +51,6 @@ loop-again c =
       omega (arith, l .inv .2, c .before .before .before .before .before .pre .0 .1 .few),
       sym (k .1 .same (t .a) (l .b)) ∙ l .inv .3,
     )
-
-total-requires : tie.Need-total-requires Inv-loop μ-loop
-total-requires c κs = search needs
 
 returns : tie.Need-returns Inv-loop μ-loop
 returns c =
@@ -90,16 +69,5 @@ returns c =
 pub blocks-spec : {M : Type 1} → statement M
 blocks-spec =
     tie.close
-    (tie.spec
-    Inv-loop
-    μ-loop
-    loop-holds
-    sub-loop
-    block-requires
-    mul-b
-    add-b
-    add-i
-    loop-less
-    loop-again
-    total-requires
-    returns)
+    (tie.spec Inv-loop μ-loop loop-holds (λ c. search needs) (λ c κs. search needs) (λ c. search needs)
+    (λ c. search needs) (λ c. search needs) (λ c. search needs) loop-again (λ c κs. search needs) returns)

@@ -42,13 +42,4 @@ returns-2 c =
 
 pub ahead-spec : {M : Type 1} → statement M
 ahead-spec =
-    tie.close
-    (tie.spec
-    cast-slots
-    cast-number
-    add-number
-    returns
-    sub-needed
-    cast-needed
-    needed-requires
-    returns-2)
+    tie.close (tie.spec cast-slots cast-number add-number returns sub-needed cast-needed needed-requires returns-2)

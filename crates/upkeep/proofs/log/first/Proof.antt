@@ -68,15 +68,4 @@ returns-2 c =
     (omega (arith, c .loop-test .left))) ∙ l .inv .2
 
 pub first-spec : {M : Type 1} → statement M
-first-spec =
-    tie.close
-    (tie.spec
-    Inv-loop
-    μ-loop
-    loop-holds
-    ahead-requires
-    returns
-    add-i
-    loop-less
-    loop-again
-    returns-2)
+first-spec = tie.close (tie.spec Inv-loop μ-loop loop-holds ahead-requires returns add-i loop-less loop-again returns-2)

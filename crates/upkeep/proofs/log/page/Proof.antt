@@ -53,13 +53,5 @@ returns c =
 pub page-spec : {M : Type 1} → statement M
 page-spec =
     tie.close
-    (tie.spec
-    cast-slots
-    cast-number
-    add-number
-    sub-record
-    cast-record
-    record-requires
-    read-requires
-    cast-result
+    (tie.spec cast-slots cast-number add-number sub-record cast-record record-requires read-requires cast-result
     returns)

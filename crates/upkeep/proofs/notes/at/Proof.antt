@@ -96,16 +96,5 @@ returns c =
 pub at-spec : {M : Type 1} → statement M
 at-spec =
     tie.close
-    (tie.spec
-    cast-slots
-    cast-number
-    add-number
-    sub-n
-    sub-n-2
-    rem-n
-    cast-note-at
-    add-note-at
-    note-at-requires
-    part-requires
-    read-requires
-    returns)
+    (tie.spec cast-slots cast-number add-number sub-n sub-n-2 rem-n cast-note-at add-note-at note-at-requires
+    part-requires read-requires returns)

@@ -5,15 +5,6 @@ use borrow.Author.Needs.{needs}
 use Rattle.upkeep.proofs.notes.first.Statement.{statement}
 use Rattle.upkeep.proofs.notes.first.Tie as tie
 
-cast-k : tie.Need-cast-k
-cast-k c = search needs
-
-cast-slots : tie.Need-cast-slots
-cast-slots c = search needs
-
-add-if1 : tie.Need-add-if1
-add-if1 c = search needs
-
 returns : tie.Need-returns
 returns c =
     let a = c .before .before .before .before .args in
@@ -51,12 +42,5 @@ returns-4 c =
 pub first-spec : {M : Type 1} → statement M
 first-spec =
     tie.close
-    (tie.spec
-    cast-k
-    cast-slots
-    add-if1
-    returns
-    positions-requires
-    returns-2
-    returns-3
-    returns-4)
+    (tie.spec (λ c. search needs) (λ c. search needs) (λ c. search needs) returns positions-requires returns-2
+    returns-3 returns-4)

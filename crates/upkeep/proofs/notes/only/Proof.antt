@@ -15,18 +15,6 @@ note-requires c κs =
     let some : 1 ≤ a .g .notes = omega (arith, p .2) in
     (some, note-fits _ _ (p .0) (p .1) some 1)
 
-read-requires : tie.Need-read-requires
-read-requires c κs = search needs
-
-holds-requires : tie.Need-holds-requires
-holds-requires c κs = search needs
-
-cast-t9 : tie.Need-cast-t9
-cast-t9 c = search needs
-
-add-t11 : tie.Need-add-t11
-add-t11 c = search needs
-
 returns : tie.Need-returns
 returns c =
     let q = c .before .before in
@@ -39,4 +27,7 @@ returns c =
     )
 
 pub only-spec : {M : Type 1} → statement M
-only-spec = tie.close (tie.spec note-requires read-requires holds-requires cast-t9 add-t11 returns)
+only-spec =
+    tie.close
+    (tie.spec note-requires (λ c κs. search needs) (λ c κs. search needs) (λ c. search needs) (λ c. search needs)
+    returns)

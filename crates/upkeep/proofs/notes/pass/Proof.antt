@@ -23,30 +23,6 @@ Inv-loop volume g k j a b second₀ first₀ later i₀ second first i =
 abbrev μ-loop : tie.MeasureT-loop
 μ-loop volume g k j a b second₀ first₀ later i₀ second first i = later - i
 
-sub-stored : tie.Need-sub-stored Inv-loop μ-loop
-sub-stored c = search needs
-
-stored-requires : tie.Need-stored-requires Inv-loop μ-loop
-stored-requires c κs = search needs
-
-stored-requires-2 : tie.Need-stored-requires-2 Inv-loop μ-loop
-stored-requires-2 c κs = search needs
-
-whole-requires : tie.Need-whole-requires Inv-loop μ-loop
-whole-requires c κs = search needs
-
-sub-whole : tie.Need-sub-whole Inv-loop μ-loop
-sub-whole c = search needs
-
-whole-requires-2 : tie.Need-whole-requires-2 Inv-loop μ-loop
-whole-requires-2 c κs = search needs
-
-like-requires : tie.Need-like-requires Inv-loop μ-loop
-like-requires c κs = search needs
-
-sub-later : tie.Need-sub-later Inv-loop μ-loop
-sub-later c = search needs
-
 loop-holds : tie.Need-loop-holds Inv-loop μ-loop
 loop-holds c =
     let q = c .before .before in
@@ -70,18 +46,6 @@ add-n-2 c =
     let l = c .before .loop in
     let d = c .before .before .before .before .before .before .before .before .args in
     omega (arith, in-loop (l .i) (d .k - d .j) (l .first) (l .second) (c .loop-test .taken))
-
-stored-requires-3 : tie.Need-stored-requires-3 Inv-loop μ-loop
-stored-requires-3 c κs = search needs
-
-whole-requires-3 : tie.Need-whole-requires-3 Inv-loop μ-loop
-whole-requires-3 c κs = search needs
-
-like-requires-2 : tie.Need-like-requires-2 Inv-loop μ-loop
-like-requires-2 c κs = search needs
-
-like-requires-3 : tie.Need-like-requires-3 Inv-loop μ-loop
-like-requires-3 c κs = search needs
 
 add-i : tie.Need-add-i Inv-loop μ-loop
 add-i c =
@@ -137,25 +101,7 @@ returns c =
 pub pass-spec : {M : Type 1} → statement M
 pass-spec =
     tie.close
-    (tie.spec
-    Inv-loop
-    μ-loop
-    sub-stored
-    stored-requires
-    stored-requires-2
-    whole-requires
-    sub-whole
-    whole-requires-2
-    like-requires
-    sub-later
-    loop-holds
-    add-n
-    add-n-2
-    stored-requires-3
-    whole-requires-3
-    like-requires-2
-    like-requires-3
-    add-i
-    loop-less
-    loop-again
-    returns)
+    (tie.spec Inv-loop μ-loop (λ c. search needs) (λ c κs. search needs) (λ c κs. search needs) (λ c κs. search needs)
+    (λ c. search needs) (λ c κs. search needs) (λ c κs. search needs) (λ c. search needs) loop-holds add-n add-n-2
+    (λ c κs. search needs) (λ c κs. search needs) (λ c κs. search needs) (λ c κs. search needs) add-i loop-less
+    loop-again returns)

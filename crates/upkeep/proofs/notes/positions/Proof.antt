@@ -11,9 +11,6 @@ use Rattle.upkeep.proofs.notes.positions.Tie as tie
 two : (c : tie.Else1) → 2 ≤ c .before .before .args .g .notes
 two c = omega (arith, c .if1 .left, c .before .before .pre .2)
 
-only-requires : tie.Need-only-requires
-only-requires c κs = search needs
-
 returns : tie.Need-returns
 returns c =
     let a = c .before .before .before .args in
@@ -40,12 +37,4 @@ returns-2 c =
     (c .pass .ensures)
 
 pub positions-spec : {M : Type 1} → statement M
-positions-spec =
-    tie.close
-    (tie.spec
-    only-requires
-    returns
-    sub-pass
-    sub-pass-2
-    pass-requires
-    returns-2)
+positions-spec = tie.close (tie.spec (λ c κs. search needs) returns sub-pass sub-pass-2 pass-requires returns-2)

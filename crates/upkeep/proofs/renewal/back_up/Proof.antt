@@ -5,12 +5,6 @@ use borrow.Author.Needs.{needs}
 use Rattle.upkeep.proofs.renewal.back_up.Statement.{statement}
 use Rattle.upkeep.proofs.renewal.back_up.Tie as tie
 
-free-slot-requires : tie.Need-free-slot-requires
-free-slot-requires c κs = search needs
-
-stuck-requires : tie.Need-stuck-requires
-stuck-requires c κs = search needs
-
 returns : tie.Need-returns
 returns c =
     let a = c .before .before .before .before .before .args in
@@ -18,9 +12,6 @@ returns c =
     back-stuck (now (a .volume)) (a .s) (a .page) _ (a .g) (p .1) _ _ (c .before .before .before .free-slot .ensures)
     (p .2)
     (c .before .if1 .taken) (c .stuck .ensures)
-
-make-requires : tie.Need-make-requires
-make-requires c κs = search needs
 
 returns-2 : tie.Need-returns-2
 returns-2 c =
@@ -32,10 +23,4 @@ returns-2 c =
 
 pub back-up-spec : {M : Type 1} → statement M
 back-up-spec =
-    tie.close
-    (tie.spec
-    free-slot-requires
-    stuck-requires
-    returns
-    make-requires
-    returns-2)
+    tie.close (tie.spec (λ c κs. search needs) (λ c κs. search needs) returns (λ c κs. search needs) returns-2)

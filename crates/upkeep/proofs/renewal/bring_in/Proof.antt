@@ -31,5 +31,4 @@ returns-2 c =
     (c .before .before .refusal .ensures) (c .before .if1 .left) (c .make .ensures)
 
 pub bring-in-spec : {M : Type 1} → statement M
-bring-in-spec =
-    tie.close (tie.spec refusal-requires stuck-requires returns make-requires returns-2)
+bring-in-spec = tie.close (tie.spec refusal-requires stuck-requires returns make-requires returns-2)

@@ -70,14 +70,4 @@ returns-2 c =
 
 pub free-slot-spec : {M : Type 1} → statement M
 free-slot-spec =
-    tie.close
-    (tie.spec
-    Inv-loop
-    μ-loop
-    loop-holds
-    used-requires
-    returns
-    add-b
-    loop-less
-    loop-again
-    returns-2)
+    tie.close (tie.spec Inv-loop μ-loop loop-holds used-requires returns add-b loop-less loop-again returns-2)

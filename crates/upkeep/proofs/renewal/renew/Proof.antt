@@ -6,20 +6,11 @@ use borrow.Author.Needs.{needs}
 use Rattle.upkeep.proofs.renewal.renew.Statement.{statement}
 use Rattle.upkeep.proofs.renewal.renew.Tie as tie
 
-held-requires : tie.Need-held-requires
-held-requires c κs = search needs
-
-bring-in-requires : tie.Need-bring-in-requires
-bring-in-requires c κs = search needs
-
 returns : tie.Need-returns
 returns c =
     let a = c .before .before .before .before .before .args in
     renew-load (now (a .volume)) (now (a .memory)) (a .s) (a .frame) (a .page) (a .written) _ _
     (c .before .before .held .ensures) (not-true _ (c .before .if1 .taken)) (c .bring-in .ensures)
-
-write-out-requires : tie.Need-write-out-requires
-write-out-requires c κs = search needs
 
 returns-2 : tie.Need-returns-2
 returns-2 c =
@@ -27,9 +18,6 @@ returns-2 c =
     renew-write (now (a .volume)) (now (a .memory)) (a .s) (a .frame) (a .page) (a .written) _ _
     (c .before .before .before .held .ensures) (not-false _ (c .before .before .if1 .left)) (c .before .if2 .taken)
     (c .write-out .ensures)
-
-back-up-requires : tie.Need-back-up-requires
-back-up-requires c κs = search needs
 
 returns-3 : tie.Need-returns-3
 returns-3 c =
@@ -41,11 +29,5 @@ returns-3 c =
 pub renew-spec : {M : Type 1} → statement M
 renew-spec =
     tie.close
-    (tie.spec
-    held-requires
-    bring-in-requires
-    returns
-    write-out-requires
-    returns-2
-    back-up-requires
-    returns-3)
+    (tie.spec (λ c κs. search needs) (λ c κs. search needs) returns (λ c κs. search needs) returns-2
+    (λ c κs. search needs) returns-3)

@@ -5,15 +5,6 @@ use borrow.Author.Needs.{needs}
 use Rattle.upkeep.proofs.renewal.write_out.Statement.{statement}
 use Rattle.upkeep.proofs.renewal.write_out.Tie as tie
 
-holder-requires : tie.Need-holder-requires
-holder-requires c κs = search needs
-
-frame-requires : tie.Need-frame-requires
-frame-requires c κs = search needs
-
-stuck-requires : tie.Need-stuck-requires
-stuck-requires c κs = search needs
-
 returns : tie.Need-returns
 returns c =
     let a = c .before .before .before .before .before .before .before .args in
@@ -22,9 +13,6 @@ returns c =
     (c .before .before .before .before .holder .ensures)
     (c .before .before .before .frame .ensures) _ (c .before .before .if1 .taken) (p .2) (c .before .if2 .taken)
     (c .stuck .ensures)
-
-make-requires : tie.Need-make-requires
-make-requires c κs = search needs
 
 returns-2 : tie.Need-returns-2
 returns-2 c =
@@ -35,12 +23,6 @@ returns-2 c =
     (c .before .before .before .frame .ensures) _ (c .before .before .if1 .taken) (p .2) (c .before .if2 .left)
     (c .make .ensures)
 
-full-requires : tie.Need-full-requires
-full-requires c κs = search needs
-
-stuck-requires-2 : tie.Need-stuck-requires-2
-stuck-requires-2 c κs = search needs
-
 returns-3 : tie.Need-returns-3
 returns-3 c =
     let a = c .before .before .before .before .before .before .before .before .args in
@@ -50,18 +32,6 @@ returns-3 c =
     (q .before .before .holder .ensures)
     (q .before .frame .ensures) _ (q .if1 .left) (c .before .before .full .ensures) (c .before .if3 .taken)
     (c .stuck2 .ensures)
-
-frame-at-requires : tie.Need-frame-at-requires
-frame-at-requires c κs = search needs
-
-add-byte : tie.Need-add-byte
-add-byte c = search needs
-
-byte-requires : tie.Need-byte-requires
-byte-requires c κs = search needs
-
-put-requires : tie.Need-put-requires
-put-requires c κs = search needs
 
 returns-4 : tie.Need-returns-4
 returns-4 c =
@@ -77,18 +47,6 @@ returns-4 c =
 pub write-out-spec : {M : Type 1} → statement M
 write-out-spec =
     tie.close
-    (tie.spec
-    holder-requires
-    frame-requires
-    stuck-requires
-    returns
-    make-requires
-    returns-2
-    full-requires
-    stuck-requires-2
-    returns-3
-    frame-at-requires
-    add-byte
-    byte-requires
-    put-requires
-    returns-4)
+    (tie.spec (λ c κs. search needs) (λ c κs. search needs) (λ c κs. search needs) returns (λ c κs. search needs)
+    returns-2 (λ c κs. search needs) (λ c κs. search needs) returns-3 (λ c κs. search needs) (λ c. search needs)
+    (λ c κs. search needs) (λ c κs. search needs) returns-4)

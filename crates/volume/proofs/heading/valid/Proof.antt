@@ -6,21 +6,13 @@ use Rattle.volume.proofs.Readings.{unknown-read}
 use Rattle.volume.proofs.heading.valid.Statement.{statement}
 use Rattle.volume.proofs.heading.valid.Tie as tie
 
-known-requires : tie.Need-known-requires
-known-requires c κs = search needs
-
 returns : tie.Need-returns
 returns c = sym (unknown-read _ (sym (c .before .known .ensures) ∙ not-true _ (c .if1 .taken)))
-
-geometry-requires : tie.Need-geometry-requires
-geometry-requires c κs = search needs
 
 sound-requires : tie.Need-sound-requires
 sound-requires c κs =
     (sym (c .before .before .known .ensures) ∙ not-false _ (c .before .if1 .left), c .geometry .ensures)
 
-returns-2 : tie.Need-returns-2
-returns-2 c = search needs
-
 pub valid-spec : {M : Type 1} → statement M
-valid-spec = tie.close (tie.spec known-requires returns geometry-requires sound-requires returns-2)
+valid-spec =
+    tie.close (tie.spec (λ c κs. search needs) returns (λ c κs. search needs) sound-requires (λ c. search needs))

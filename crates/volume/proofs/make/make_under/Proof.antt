@@ -6,12 +6,6 @@ use Rattle.volume.proofs.Fresh.{make-refused, make-fits, make-done}
 use Rattle.volume.proofs.make.make_under.Statement.{statement}
 use Rattle.volume.proofs.make.make_under.Tie as tie
 
-counts-requires : tie.Need-counts-requires
-counts-requires c κs = search needs
-
-size-requires : tie.Need-size-requires
-size-requires c κs = search needs
-
 returns : tie.Need-returns
 returns c = make-refused _ _ _ _ _ _ _ _ (c .before .before .counts .ensures) (c .before .size .ensures) (c .if1 .taken)
 
@@ -19,9 +13,6 @@ write-requires : tie.Need-write-requires
 write-requires c κs =
     make-fits (now (c .before .before .before .before .before .args .v)) (c .before .before .before .before .before .args .h) _ _ _ _ _ _
     (c .before .before .before .counts .ensures) (c .before .before .size .ensures) (c .before .if1 .left)
-
-same-length : tie.Need-same-length
-same-length c = search needs
 
 returns-2 : tie.Need-returns-2
 returns-2 c =
@@ -31,4 +22,5 @@ returns-2 c =
 
 pub make-under-spec : {M : Type 1} → statement M
 make-under-spec =
-    tie.close (tie.spec counts-requires size-requires returns write-requires same-length returns-2)
+    tie.close
+    (tie.spec (λ c κs. search needs) (λ c κs. search needs) returns write-requires (λ c. search needs) returns-2)

@@ -5,17 +5,8 @@ use borrow.Author.Needs.{needs}
 use Rattle.volume.proofs.ring.slot_of.Statement.{statement}
 use Rattle.volume.proofs.ring.slot_of.Tie as tie
 
-before-requires : tie.Need-before-requires
-before-requires c κs = search needs
-
-turned-requires : tie.Need-turned-requires
-turned-requires c κs = search needs
-
-add-result : tie.Need-add-result
-add-result c = search needs
-
 returns : tie.Need-returns
 returns c = (rw (c .turned .ensures .0, c .before .before2 .ensures, add-one), omega (arith, c .turned .ensures .1))
 
 pub slot-of-spec : {M : Type 1} → statement M
-slot-of-spec = tie.close (tie.spec before-requires turned-requires add-result returns)
+slot-of-spec = tie.close (tie.spec (λ c κs. search needs) (λ c κs. search needs) (λ c. search needs) returns)

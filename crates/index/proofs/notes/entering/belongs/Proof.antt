@@ -7,14 +7,8 @@ use borrow.Author.Needs.{needs}
 use Rattle.index.proofs.notes.entering.belongs.Statement.{statement}
 use Rattle.index.proofs.notes.entering.belongs.Tie as tie
 
-cast-page : tie.Need-cast-page
-cast-page c = search needs
-
 returns : tie.Need-returns
 returns c = λ t. absurd (true-not-false t refl)
-
-names-requires : tie.Need-names-requires
-names-requires c κs = search needs
 
 returns-2 : tie.Need-returns-2
 returns-2 c = λ t.
@@ -27,4 +21,4 @@ returns-2 c = λ t.
     }
 
 pub belongs-spec : {M : Type 1} → statement M
-belongs-spec = tie.close (tie.spec cast-page returns names-requires returns-2)
+belongs-spec = tie.close (tie.spec (λ c. search needs) returns (λ c κs. search needs) returns-2)

@@ -6,21 +6,6 @@ use borrow.Author.Needs.{needs}
 use Rattle.index.proofs.notes.entering.enter.Statement.{statement}
 use Rattle.index.proofs.notes.entering.enter.Tie as tie
 
-cast-j : tie.Need-cast-j
-cast-j c = search needs
-
-sub-j : tie.Need-sub-j
-sub-j c = search needs
-
-cast-j-2 : tie.Need-cast-j-2
-cast-j-2 c = search needs
-
-write-requires : tie.Need-write-requires
-write-requires c κs = search needs
-
-same-length : tie.Need-same-length
-same-length c = search needs
-
 returns : tie.Need-returns
 returns c =
     let k = c .before .before .before .before .if1 .taken in
@@ -32,15 +17,6 @@ returns c =
 returns-2 : tie.Need-returns-2
 returns-2 c = (λ t. absurd (true-not-false t refl), λ t. absurd (true-not-false t refl))
 
-back-up-requires : tie.Need-back-up-requires
-back-up-requires c κs = search needs
-
-same-length-2 : tie.Need-same-length-2
-same-length-2 c = search needs
-
-same-length-3 : tie.Need-same-length-3
-same-length-3 c = search needs
-
 returns-3 : tie.Need-returns-3
 returns-3 c =
     let k = c .before .before .before .before .before .before .before .if2 .left in
@@ -50,15 +26,5 @@ returns-3 c =
 pub enter-spec : {M : Type 1} → statement M
 enter-spec =
     tie.close
-    (tie.spec
-    cast-j
-    sub-j
-    cast-j-2
-    write-requires
-    same-length
-    returns
-    returns-2
-    back-up-requires
-    same-length-2
-    same-length-3
-    returns-3)
+    (tie.spec (λ c. search needs) (λ c. search needs) (λ c. search needs) (λ c κs. search needs) (λ c. search needs)
+    returns returns-2 (λ c κs. search needs) (λ c. search needs) (λ c. search needs) returns-3)

@@ -27,8 +27,11 @@ near-at c =
     near-is (start (s .args .g) (recordAt 1)) (s .args .g .records) (f .first) (s .args .e .lsn) (f .from) (f .stop) _
     (omega (arith, h .some, l .first-is)) (c .before .if2 .left)
     (omega (arith, c .before .before .before .if1 .left, l .next-is, l .first-is, h .few))
-    (l .from-is ∙ ap (λ (x : ℕ). start (s .args .g) (recordAt 1) + 64 * ((x - 1) % s .args .g .records)) (sym (l .first-is))) (l .stop-is)
-    (c .near .ensures .0, λ q. c .near .ensures .1 q ∙ ap (λ (x : ℕ). f .from + 64 * (s .args .e .lsn - f .first) - (f .stop - x)) (l .at-is))
+    (l .from-is ∙ ap (λ (x : ℕ). start (s .args .g) (recordAt 1) + 64 * ((x - 1) % s .args .g .records)) (sym (l .first-is))) (l .stop-is) (
+      c .near .ensures .0,
+      λ q. c .near .ensures .1 q ∙
+          ap (λ (x : ℕ). f .from + 64 * (s .args .e .lsn - f .first) - (f .stop - x)) (l .at-is),
+    )
 
 returns : tie.Need-returns
 returns c = λ t. absurd (true-not-false t refl)
@@ -37,7 +40,8 @@ returns-2 : tie.Need-returns-2
 returns-2 c = λ t.
     let s = c .before .before .before .before .before in
     let l = s .pre .1 .1 in
-    names-below _ _ _ _ (s .pre .1 .0) _ (omega (arith, c .before .before .if1 .left, l .next-is)) (omega (arith, c .if2 .taken, l .first-is))
+    names-below _ _ _ _ (s .pre .1 .0) _ (omega (arith, c .before .before .if1 .left, l .next-is))
+    (omega (arith, c .if2 .taken, l .first-is))
     (leb-true _ _ t)
 
 near-requires : tie.Need-near-requires
@@ -70,7 +74,8 @@ returns-3 c = λ t.
     let l = s .pre .1 .1 in
     names-in _ _ _ _ (s .pre .1 .0) _ (omega (arith, n .before .before .before .if1 .left, l .next-is))
     (omega (arith, n .before .if2 .left, l .first-is)) _ (near-at n)
-    (sym (field-part 2 8 64 (n .near .result) (now (s .args .volume)) (omega arith)) ∙ ap (field 2 8) (sym (c .before .before .part .ensures))
+    (sym (field-part 2 8 64 (n .near .result) (now (s .args .volume)) (omega arith)) ∙ ap (field 2 8)
+    (sym (c .before .before .part .ensures))
     ∙ sym (c .before .two .ensures) ∙ eqb-true _ _ t)
 
 pub names-spec : {M : Type 1} → statement M

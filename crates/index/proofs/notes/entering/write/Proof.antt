@@ -6,23 +6,8 @@ use borrow.Author.Needs.{needs}
 use Rattle.index.proofs.notes.entering.write.Statement.{statement}
 use Rattle.index.proofs.notes.entering.write.Tie as tie
 
-mul-if1 : tie.Need-mul-if1
-mul-if1 c = search needs
-
-slice-read-if1 : tie.Need-slice-read-if1
-slice-read-if1 c = search needs
-
 returns : tie.Need-returns
 returns c = λ t. absurd (true-not-false t refl)
-
-mul-written : tie.Need-mul-written
-mul-written c = search needs
-
-slice-write-written : tie.Need-slice-write-written
-slice-write-written c = search needs
-
-same-length : tie.Need-same-length
-same-length c = search needs
 
 returns-2 : tie.Need-returns-2
 returns-2 c = λ t.
@@ -32,4 +17,5 @@ returns-2 c = λ t.
 pub write-spec : {M : Type 1} → statement M
 write-spec =
     tie.close
-    (tie.spec mul-if1 slice-read-if1 returns mul-written slice-write-written same-length returns-2)
+    (tie.spec (λ c. search needs) (λ c. search needs) returns (λ c. search needs) (λ c. search needs)
+    (λ c. search needs) returns-2)
