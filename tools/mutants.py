@@ -7,8 +7,8 @@ the check must fail there, by a computed test that is now false, and nowhere els
 `planning_theory` the check must fail in a proof of theirs or of the laws below, for `instances`, `bounds` and
 `cases_neighbours` (a claim that says less, which its proofs still give) also in one of their own, and not for a name
 that is missing or a text that is not read. The definitions for C (`file face/NAME`, `file called/NAME`) are tried
-against `numbers`, `face_step`, `capi` or `called`, whose proofs must fail, over what target/ has proved of the crates
-below.
+against `numbers`, `face_numbers`, `face_step`, `capi` or `called`, whose proofs must fail. What target/ has proved of
+the crates below an edit is not proved again.
 
     python3 tools/mutants.py [--only WORD] [--file NAME] [--part WORD] [--search] [--jobs N] [--texts]
                              [--crate NAME]
@@ -37,7 +37,7 @@ from probes import write_probe
 ROW_CRATES = ("cases", "upkeep_cases")
 PROOF_CRATES = ("history", "reports_theory", "planning_theory", "instances", "bounds", "cases_neighbours")
 # what a wrong definition for C is tried against
-C_CRATES = ("numbers", "face_step", "capi", "called")
+C_CRATES = ("numbers", "face_numbers", "face_step", "capi", "called")
 # the error of a test that computes to false; a long name puts the types on a line of their own
 FALSE = r"`caught-(\d+)`: (?:expected type|.*type mismatch|.*the two types are `Prim\.⊥` \(expected\))"
 # the proofs that an edit may break
@@ -95,14 +95,18 @@ def definition(folder, edit):
 
 
 def copy(crate, to):
+    """The crate and what it needs, and, but for rows, what target/ has proved of them: an edit has only what is above it
+    proved again."""
     lines = needed(crate)
-    if crate in C_CRATES:
-        for proved in ("rlib", "stamp", "log"):
-            if (ROOT / "target" / proved).is_dir():
-                shutil.copytree(ROOT / "target" / proved, to / "target" / proved)
     for name in lines:
         shutil.copytree(ROOT / "crates" / name, to / "crates" / name)
-    (to / "crates.txt").write_text("".join(f"{name}: {' '.join(deps)}\n" for name, deps in lines.items()))
+        stamp, library = ROOT / "target/stamp" / name, ROOT / "target/rlib" / f"{name}.rlib"
+        if crate not in ROW_CRATES and stamp.is_file() and library.is_dir():
+            (to / "target/stamp").mkdir(parents=True, exist_ok=True)
+            shutil.copy(stamp, to / "target/stamp")
+            shutil.copytree(library, to / "target/rlib" / library.name)
+    # to the letter as in the original, which `rt` compares
+    (to / "crates.txt").write_text("".join(f"{name}: {' '.join(deps)}".rstrip() + "\n" for name, deps in lines.items()))
     if crate in ROW_CRATES:
         shutil.rmtree(to / "crates/cases/proofs")
         shutil.rmtree(to / "crates" / crate / "proofs", ignore_errors=True)

@@ -1,7 +1,7 @@
 -- What the heading says and what stands in a slot: the refusals' chain, and the numbers that are left.
 use mathlib.Core.Path.{_≡_, refl, sym, ap, _∙_}
-use mathlib.Core.Bool.{Bool, true, false, cond, not, _&&_}
-use mathlib.Core.List.{List, [], _∷_}
+use mathlib.Core.Bool.{Bool, true, false, cond, not}
+use mathlib.Core.List.{List}
 use Prim.Native.Nat.{ℕ, _+_, _≤_}
 use native.Mathlib.Omega.{arith}
 use lib.Dec.{eqb}
@@ -10,21 +10,17 @@ use borrow.Author.Tests.{eq-eqb, ne-eqb, eqb-true}
 use Rattle.laws.proofs.Tables.{not-true}
 use Rattle.laws.proofs.Places.{in-item, place-fits, valid-facts, total}
 use Rattle.volume.proofs.Readings.{unknown-read}
-use Rattle.model.specs.Tables.{firstOf, within}
-use Rattle.model.specs.Bytes.{part, allZero}
+use Rattle.model.specs.Tables.{firstOf}
+use Rattle.model.specs.Bytes.{part}
 use Rattle.model.specs.Geometry.{knownMagic, Place, itemOf, width, start, item, geometryOf, validVolume}
-use Rattle.model.specs.Item.{imagePage, imageLsn, validImage, validSomewhere, recordOf, noteOf}
-use Rattle.model.specs.declared.{geometry.Geometry.Geometry, item.LogRecord.LogRecord, item.Note.Note}
-use Rattle.face.specs.Slots.{listed, countsRows, countNumbers, countsOf, standing, recordNumbers, storedNoteNumbers}
+use Rattle.model.specs.declared.{geometry.Geometry.Geometry}
+use Rattle.face.specs.Slots.{listed, countsRows, countNumbers, countsOf}
 use Rattle.face.specs.Slots.{slotRows, listedAt, backupNumbers}
 
 -- three rows
 pub chained : (v w r t : Bool) (x y z : ℕ) → w ≡ v → x ≡ cond (not t) 5 0 → y ≡ cond (not r) 2 x → z ≡ cond (not w) 1 y
     → z ≡ cond (not v) 1 (cond (not r) 2 (cond (not t) 5 0))
 chained v w r t x y z ew ex ey ez = ez ∙ rw (ew, ey, ex)
-
-pub stand : (z h p q : Bool) (x y : ℕ) → p ≡ z → q ≡ h → x ≡ cond q 1 2 → y ≡ cond p 0 x → y ≡ cond z 0 (cond h 1 2)
-stand z h p q x y ep eq ex ey = ey ∙ rw (ep, ex, eq)
 
 -- none of the three holds
 pub record Passed (v r t : Bool) : Type 0 where
@@ -67,23 +63,6 @@ module _ (v xs : List ℕ) (n : ℕ)
       (ey ∙ ap (λ (k : Geometry). countNumbers k) eg)
 
 -- ---- a slot
-
-pub record-told : (x : List ℕ) (e : LogRecord) (s : ℕ) → e ≡ recordOf x → s ≡ standing 60 x
-    → s ∷ e .lsn ∷ e .prev ∷ e .page ∷ e .kind ∷ e .length ∷ e .offset ∷ e .fill ∷ [] ≡ recordNumbers x
-record-told x e s ee es =
-    rw es
-    (ap (λ (k : LogRecord). standing 60 x ∷ k .lsn ∷ k .prev ∷ k .page ∷ k .kind ∷ k .length ∷ k .offset ∷ k .fill ∷ []) ee)
-
-pub note-told : (x : List ℕ) (e : Note) (s : ℕ) → e ≡ noteOf x → s ≡ standing 12 x
-    → s ∷ e .number ∷ e .page ∷ e .kind ∷ e .slot ∷ e .lsn ∷ 0 ∷ 0 ∷ [] ≡ storedNoteNumbers x
-note-told x e s ee es =
-    rw es (ap (λ (k : Note). standing 12 x ∷ k .number ∷ k .page ∷ k .kind ∷ k .slot ∷ k .lsn ∷ 0 ∷ 0 ∷ []) ee)
-
-pub backup-told : (g : Geometry) (x : List ℕ) (page lsn y z : ℕ) (valid zero : Bool) → page ≡ imagePage x
-    → valid ≡ validImage g page x → zero ≡ allZero x → y ≡ cond (within (g .pages) page && valid) 1 2 → z ≡ cond zero 0 y
-    → lsn ≡ imageLsn x → z ∷ page ∷ lsn ∷ 0 ∷ 0 ∷ 0 ∷ 0 ∷ 0 ∷ [] ≡ backupNumbers g x
-unfolding validSomewhere
-backup-told g x page lsn y z valid zero ep ev ez ey es el = rw (es, ez, ey, ev, ep, el)
 
 pub told-under : (v x ns : List ℕ) (g : Geometry) → g ≡ geometryOf v → ns ≡ backupNumbers g x
     → ns ≡ backupNumbers (geometryOf v) x

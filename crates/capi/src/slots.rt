@@ -5,15 +5,10 @@ ghost use mathlib.Core.Bool.{cond, not};
 ghost use Prim.Native.Nat.{_+_, _≤_};
 ghost use lib.ListN.{length};
 ghost use Rattle.model.specs.Geometry.{validVolume};
-ghost use Rattle.face.specs.Slots.{standing, countsOf, recordNumbers, storedNoteNumbers, backupNumbers};
-ghost use Rattle.face.specs.Slots.{recordSlotOf, noteSlotOf, backupSlotOf};
-use codec::field;
-use codec::part;
-use item::image;
-use item::note;
-use item::record;
-use model::geometry::Geometry;
-use sums::checksum;
+ghost use Rattle.face.specs.Slots.{countsOf, recordSlotOf, noteSlotOf, backupSlotOf};
+use face_numbers::slots::backup_numbers;
+use face_numbers::slots::note_numbers;
+use face_numbers::slots::record_numbers;
 use volume::heading;
 use volume::place;
 use volume::rows;
@@ -42,45 +37,6 @@ pub extern "C" fn pagestore_counts(volume: &[u8], counts: &mut [u32]) -> u32
     let n = [g.tag as u32, g.pages, g.slots, g.records, g.notes];
     numbers::copy(counts, &n);
     0
-}
-
-// What stands in a slot of n bytes and a checksum.
-fn stands(x: &[u8], n: usize) -> u32
-    ensures { λ r. ⌜ r ≡ standing n (now (x .entry)) ⌝ }
-{
-    rows::first(part::zero(x), 0, rows::first(checksum::holds(x, n), 1, 2))
-}
-
-fn record_numbers(x: &[u8]) -> [u32; 8]
-    ensures { λ r. ⌜ r ≡ recordNumbers (now (x .entry)) ⌝ }
-{
-    let e = record::read(x);
-    [
-        stands(x, 60),
-        e.lsn,
-        e.prev,
-        e.page as u32,
-        e.kind as u32,
-        e.length as u32,
-        e.offset as u32,
-        e.fill as u32,
-    ]
-}
-
-fn note_numbers(x: &[u8]) -> [u32; 8]
-    ensures { λ r. ⌜ r ≡ storedNoteNumbers (now (x .entry)) ⌝ }
-{
-    let e = note::read(x);
-    [
-        stands(x, 12),
-        e.number,
-        e.page as u32,
-        e.kind as u32,
-        e.slot as u32,
-        e.lsn,
-        0,
-        0,
-    ]
 }
 
 // What stands in a slot of the log: 0 or the refusal.
@@ -123,16 +79,6 @@ pub extern "C" fn pagestore_note_at(volume: &[u8], slot: u32, fields: &mut [u32]
     let n = note_numbers(place::part(volume, place::note_at(g, slot), 16));
     numbers::copy(fields, &n);
     0
-}
-
-fn backup_numbers(g: Geometry, x: &[u8]) -> [u32; 8]
-    ensures { λ r. ⌜ r ≡ backupNumbers g (now (x .entry)) ⌝ }
-{
-    let page = field::u16_at(x, 0) as u32;
-    let valid = image::valid(g, page, x);
-    let whole = ((1 <= page) & (page <= g.pages)) & valid;
-    let stands = rows::first(part::zero(x), 0, rows::first(whole, 1, 2));
-    [stands, page, field::u32_at(x, 4), 0, 0, 0, 0, 0]
 }
 
 // What stands in a backup slot: 0 or the refusal.

@@ -3,7 +3,6 @@
 // before and after.
 use checklist_checks::both;
 use checklist_checks::lost;
-use checklist_checks::plug;
 use checklist_checks::thread;
 use codec::number::one32;
 use print::phrase;
@@ -36,7 +35,7 @@ fn main() {
     );
     legend();
     let passed = one32(lost::check())
-        + one32(plug::check())
+        + one32(checklist_plug::check())
         + one32(both::check())
         + one32(thread::check());
     phrase(b"\n", passed, b" of 4 checks passed\n");

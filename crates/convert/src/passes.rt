@@ -7,7 +7,7 @@ ghost use Rattle.model.specs.Geometry.{withTag, slotAt};
 ghost use Rattle.model.specs.Item.{validImage, validSomewhere};
 ghost use Rattle.model.specs.Passes.{validAsNoted, passesAt, imageCount, imagePlace};
 use codec::field;
-use index::entries;
+use index_rows::entries;
 use item::image;
 use model::geometry::Geometry;
 use model::state::Entry;

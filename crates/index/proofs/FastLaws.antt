@@ -8,7 +8,7 @@ use borrow.Author.Tests.{eqb-false}
 use Rattle.model.specs.Geometry.{geometryOf, validVolume}
 use Rattle.model.specs.Scan.{durableCount, noteCount}
 use Rattle.model.specs.declared.geometry.Geometry.{Geometry}
-use Rattle.index.specs.Columns.{Columns, columnsOrdered, Unwritten}
+use Rattle.index_rows.specs.Columns.{Columns, columnsOrdered, Unwritten}
 use Rattle.index.specs.Filled.{Filled, sweptCounts}
 use Rattle.index.specs.Scanned.{scanRefusal, columnIndex, countsOf}
 use Rattle.log_scan.specs.LogSection.{logRun}

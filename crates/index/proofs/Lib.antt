@@ -1,6 +1,4 @@
 -- Laws that belong to no one function.
-pub mod EntryLaws
-pub mod ColumnLaws
 pub mod Located
 pub mod PastPages
 pub mod NotePass

@@ -18,14 +18,14 @@ use Rattle.model.specs.Scan.{logRecord, noteRecord, durableCount, firstHeld, no
 use Rattle.model.specs.Scan.{noteFollows, noteFits, endsIn, validNotes, indexOf}
 use Rattle.model.specs.declared.{geometry.Geometry.Geometry, item.Note.Note, state.Entry.Entry}
 use Rattle.log_scan.specs.Rows.{rowOf}
-use Rattle.index.specs.Columns.{Noted, Blank, earlierEntry, slotIn}
+use Rattle.index_rows.specs.Columns.{Noted, Blank, earlierEntry, slotIn}
 use Rattle.index.specs.NoteSection.{noteSection, noteRun, noteAfter, noteAgrees, notedIndex, notesFit}
 use Rattle.section.specs.Section.{slotsIn, frontIn}
 use Rattle.section.specs.declared.Run.{Run}
 use Rattle.section.specs.declared.Section.{Section}
 use Rattle.log_scan.proofs.RowLaws.{column-set, row-is}
-use Rattle.index.proofs.ColumnLaws.{slot-in, log-written, log-slots, log-backup, noted-written, noted-slot}
-use Rattle.index.proofs.ColumnLaws.{noted-backup, Long, blank-long, long-set}
+use Rattle.index_rows.proofs.ColumnLaws.{slot-in, log-written, log-slots, log-backup, noted-written, noted-slot}
+use Rattle.index_rows.proofs.ColumnLaws.{noted-backup, Long, blank-long, long-set}
 use Rattle.index.proofs.Located.{note-known, note-section, first-note-low, notes-some}
 use Rattle.log_scan.proofs.Conjunctions.{guarded}
 

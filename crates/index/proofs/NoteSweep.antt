@@ -24,7 +24,7 @@ use Rattle.model.specs.declared.geometry.Geometry.{Geometry}
 use Rattle.model.specs.declared.item.Note.{Note}
 use Rattle.section.specs.Sweep.{begunOf}
 use Rattle.log_scan.specs.Rows.{rowOf}
-use Rattle.index.specs.Columns.{slotIn}
+use Rattle.index_rows.specs.Columns.{slotIn}
 use Rattle.index.specs.NotesPassed.{Names, Belongs, rowAt, Follows, Enters, BackedUp}
 use Rattle.index.specs.NoteSection.{noteAfter, noteAgrees}
 use Rattle.log_scan.specs.LogSwept.{LogCounts}

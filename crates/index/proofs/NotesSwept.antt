@@ -21,7 +21,7 @@ use Rattle.section.specs.Section.{slotBytes, slotsIn}
 use Rattle.section.specs.Sweep.{Guessed, Swept, closedOf, begunOf}
 use Rattle.section.specs.declared.guess.Guess.{Guess}
 use Rattle.section.proofs.SweepLaws.{Closes, closes, closed-none}
-use Rattle.index.specs.Columns.{Noted}
+use Rattle.index_rows.specs.Columns.{Noted}
 use Rattle.index.specs.NotesPassed.{NotesPassed}
 use Rattle.log_scan.specs.LogSection.{Sized}
 use Rattle.index.specs.NoteSection.{noteSection, notedIndex, notesFit}

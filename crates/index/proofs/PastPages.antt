@@ -17,10 +17,10 @@ use Rattle.model.specs.Index.{entryOf, withNote, enterNote}
 use Rattle.model.specs.Scan.{endsIn, noteSlots, logRecord, noteRecord, durableCount, firstHeld, noteCount, firstNote}
 use Rattle.model.specs.Scan.{noteIndex, noteFollows, noteFits}
 use Rattle.model.specs.declared.{geometry.Geometry.Geometry, state.Entry.Entry}
-use Rattle.index.specs.Columns.{writtens, Noted, Unwritten}
+use Rattle.index_rows.specs.Columns.{writtens, Noted, Unwritten}
 use Rattle.index.specs.NoteSection.{notedIndex, notesFit}
 use Rattle.log_scan.proofs.RowLaws.{column-set}
-use Rattle.index.proofs.ColumnLaws.{log-written}
+use Rattle.index_rows.proofs.ColumnLaws.{log-written}
 
 zero-row : (n i : ℕ) → _≡_ {A = ℕ} (getD (replicate n 0) i 0) 0
 zero-row n i = elim (decLt i n) [

@@ -10,7 +10,7 @@ use Rattle.model.specs.Geometry.{geometryOf, validVolume}
 use Rattle.model.specs.Scan.{validLog, durableCount, firstHeld, runIndex, validNotes, noteCount, firstNote}
 use Rattle.model.specs.declared.{geometry.Geometry.Geometry, state.Entry.Entry}
 use Rattle.log_scan.specs.Rows.{lasts}
-use Rattle.index.specs.Columns.{Noted, Columns, columnRow, columnsOrdered, Unwritten}
+use Rattle.index_rows.specs.Columns.{Noted, Columns, columnRow, columnsOrdered, Unwritten}
 use Rattle.log_scan.specs.LogSection.{Sized, logRun}
 use Rattle.index.specs.NoteSection.{noteRun, notedIndex, notesFit}
 use Rattle.index.specs.Scanned.{scanRows, scanRefusal, columnIndex, scannedIndex, countsOf, foundOf, scannedOf}
@@ -18,7 +18,7 @@ use Rattle.section.specs.declared.Run.{Run}
 use Rattle.index.specs.declared.Counts.{Counts}
 use Rattle.index.specs.declared.Found.{Found}
 use Rattle.index.specs.declared.Scanned.{Scanned}
-use Rattle.index.proofs.ColumnLaws.{log-durable, note-last, note-durable, settled-row, ordered-is}
+use Rattle.index_rows.proofs.ColumnLaws.{log-durable, note-last, note-durable, settled-row, ordered-is}
 use Rattle.index.proofs.NotePass.{notes-valid}
 use Rattle.index.proofs.PastPages.{unwritten}
 

@@ -6,7 +6,7 @@ use Rattle.model.specs.Geometry.{ring}
 use Rattle.model.specs.declared.geometry.Geometry.{Geometry}
 use Rattle.section.specs.Sweep.{begunOf}
 use Rattle.index.specs.declared.Counts.{Counts}
-use Rattle.index.specs.Columns.{Columns}
+use Rattle.index_rows.specs.Columns.{Columns}
 use Rattle.index.specs.Scanned.{scanRefusal, columnIndex, countsOf}
 
 pub record Filled (v : List ℕ) (r : Counts) (last written slots backup : List ℕ) : Type 0 where

@@ -16,7 +16,7 @@ use Rattle.model.specs.declared.geometry.Geometry.{Geometry}
 use Rattle.model.specs.declared.item.Note.{Note}
 use Rattle.model.specs.declared.state.Entry.{Entry}
 use Rattle.index.specs.declared.notes.entering.Reach.{Reach}
-use Rattle.index.specs.Columns.{Noted, earlierEntry, slotIn}
+use Rattle.index_rows.specs.Columns.{Noted, earlierEntry, slotIn}
 use Rattle.index.specs.NoteSection.{noteAfter}
 
 -- a log's run from f on and its slots lie there

@@ -5,7 +5,7 @@ use mathlib.Core.Bool.{true}
 use mathlib.Core.List.{List}
 use Rattle.model.specs.Scan.{noteCount}
 use Rattle.model.specs.declared.geometry.Geometry.{Geometry}
-use Rattle.index.specs.Columns.{Noted}
+use Rattle.index_rows.specs.Columns.{Noted}
 use Rattle.index.specs.NoteSection.{notedIndex, notesFit}
 
 pub record NotesSwept (g : Geometry) (v : List ℕ) (next : ℕ) (written slots backup : List ℕ) : Type 0 where

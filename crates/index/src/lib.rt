@@ -4,15 +4,14 @@ ghost use mathlib.Core.Bool.{true};
 ghost use Prim.Native.Nat.{_≤_};
 ghost use lib.ListN.{length, replicate};
 ghost use Rattle.model.specs.Geometry.{knownMagic, geometryOf, validVolume};
-ghost use Rattle.index.specs.Columns.{Blank, Columns, Wide};
+ghost use Rattle.index_rows.specs.Columns.{Blank, Columns, Wide};
 ghost use Rattle.index.specs.Filled.{Filled, sweptCounts};
 ghost use Rattle.index.specs.Scanned.{scanRefusal, columnIndex, foundOf, countsOf, goneIn, scannedOf};
 
-pub mod columns;
-pub mod entries;
 pub mod notes;
 
 use codec::part;
+use index_rows::columns;
 use log_scan::Swept;
 use model::geometry::Geometry;
 use model::state::Entry;

@@ -4,7 +4,7 @@ ghost use mathlib.Core.Bool.{true, _||_};
 ghost use lib.Dec.{eqb, ltb};
 ghost use lib.ListN.{length};
 ghost use Rattle.model.specs.Scan.{logRecord};
-ghost use Rattle.index.specs.Columns.{Blank, Noted, earlierEntry};
+ghost use Rattle.index_rows.specs.Columns.{Blank, Noted, earlierEntry};
 ghost use Rattle.index.specs.NotesPassed.{NotesPassed};
 ghost use Rattle.log_scan.specs.LogSection.{Sized, logRun};
 ghost use Rattle.index.specs.NoteSection.{noteSection, noteRun, noteAfter, noteAgrees, notedIndex, notesFit};
@@ -14,9 +14,9 @@ ghost use Rattle.section.specs.Sweep.{Guessed};
 
 mod entering;
 
-use crate::columns;
-use crate::entries;
 use codec::field;
+use index_rows::columns;
+use index_rows::entries;
 use item::note;
 use log_scan::Passed;
 use log_scan::Swept;

@@ -9,7 +9,7 @@ ghost use Rattle.model.specs.declared.state.State as states;
 ghost use Rattle.face.specs.Numbers.{bitOf, noteNumbers, frameNumbers, entryNumbers, numbersOf};
 ghost use Rattle.face.specs.Numbers.{noteFrom, frameFrom, entryFrom, framesOf, entriesOf, stateOf};
 ghost use Rattle.face.specs.Numbers.{noteHeld, frameHeld, entryHeld, fits};
-use index::entries;
+use index_rows::entries;
 use model::item::Note;
 use model::state::Entry;
 use model::state::Frame;

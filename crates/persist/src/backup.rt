@@ -27,7 +27,7 @@ fn own(s: State, volume: &[u8], g: Geometry, page: u32, slot: u32, f: u32, lsn: 
     let outside = !((1 <= page) & (page <= g.pages));
     let no_slot = !((1 <= slot) & (slot <= g.slots));
     let index = s.index;
-    let used = index::entries::used(index, slot);
+    let used = index_rows::entries::used(index, slot);
     let rest = noting::refusal(s, volume, g, true, lsn, rows::first(used, 16, 0));
     rows::first(
         outside,

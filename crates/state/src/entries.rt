@@ -2,7 +2,7 @@
 ghost use mathlib.Core.Path.{_≡_};
 ghost use Rattle.model.specs.Index.{entryOf};
 ghost use Rattle.model.specs.State.{blank};
-use index::entries;
+use index_rows::entries;
 use model::state::Entry;
 use model::state::State;
 

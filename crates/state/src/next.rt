@@ -6,7 +6,7 @@ ghost use Rattle.model.specs.State.{zeroState};
 ghost use Rattle.state.specs.Resumed.{resumedState};
 ghost use Rattle.model.specs.Effects.{withFrame, withFrames, nextNote, appendedState, forcedState, notedState};
 use index::Scanned;
-use index::entries;
+use index_rows::entries;
 use model::item::Note;
 use model::state::Frame;
 use model::state::PendingNote;

@@ -23,7 +23,7 @@ fn free_slot(s: State, volume: &[u8], g: Geometry) -> u32
     let slots = g.slots;
     let mut b: u32 = 1;
     while b <= slots {
-        if !index::entries::used(index, b) {
+        if !index_rows::entries::used(index, b) {
             return b;
         }
         b += 1;

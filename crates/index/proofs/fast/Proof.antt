@@ -6,7 +6,7 @@ use borrow.Author.Tests.{not-true, not-false}
 use denote.Ref.{now}
 use Rattle.laws.proofs.Tables.{true-not-false}
 use Rattle.log_scan.specs.LogSection.{Sized}
-use Rattle.index.proofs.ColumnLaws.{blank-long}
+use Rattle.index_rows.proofs.ColumnLaws.{blank-long}
 use Rattle.index.proofs.FastLaws.{log-next, notes-next, fast-refused, fast-clean}
 use Rattle.index.proofs.Whole.{sized}
 use Rattle.index.proofs.fast.Statement.{statement}

@@ -6,7 +6,7 @@ use borrow.Author.Tests.{not-true, not-false, eqb-false}
 use denote.Ref.{now}
 use lib.ListN.{length, length-replicate}
 use Rattle.log_scan.specs.LogSection.{Sized}
-use Rattle.index.proofs.ColumnLaws.{blank-long}
+use Rattle.index_rows.proofs.ColumnLaws.{blank-long}
 use Rattle.index.proofs.FastLaws.{filled}
 use Rattle.index.proofs.Whole.{refuses, sized, log-refused, notes-refused, scan-clean}
 use Rattle.index.proofs.slow.Statement.{statement}

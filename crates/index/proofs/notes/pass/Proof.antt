@@ -15,7 +15,7 @@ use Rattle.model.specs.Checksum.{sealed}
 use Rattle.model.specs.Geometry.{noteAt, noteSlot, start, item}
 use Rattle.model.specs.declared.geometry.Geometry.{Geometry}
 use Rattle.index.specs.NotesPassed.{Belongs}
-use Rattle.index.proofs.ColumnLaws.{Long, blank-long}
+use Rattle.index_rows.proofs.ColumnLaws.{Long, blank-long}
 use Rattle.index.proofs.NotePass.{Entered, entered-none}
 use Rattle.index.proofs.NoteSweep.{next-is, note-read, passed-more}
 use Rattle.index.proofs.notes.pass.Statement.{statement}

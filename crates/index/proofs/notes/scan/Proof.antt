@@ -13,7 +13,7 @@ use Rattle.model.specs.declared.geometry.Geometry.{Geometry}
 use Rattle.section.specs.declared.Run.{Run}
 use Rattle.section.specs.declared.Section.{Section}
 use Rattle.log_scan.proofs.RowLaws.{row-below}
-use Rattle.index.proofs.ColumnLaws.{Long, blank-long}
+use Rattle.index_rows.proofs.ColumnLaws.{Long, blank-long}
 use Rattle.index.proofs.Located.{note-here, note-placed}
 use Rattle.index.proofs.NotePass.{note-whole, Entered, entered-none, entered-more, run-low, run-some}
 use Rattle.index.proofs.NotePass.{note-judged, notes-break, notes-end, notes-columns}

@@ -1,0 +1,3 @@
+// The rows and columns of the page recovery index.
+pub mod columns;
+pub mod entries;
