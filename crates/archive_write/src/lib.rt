@@ -1,4 +1,5 @@
 // The log archive's length and its writer, from a volume and without memory or state.
+#![tactic(auto)]
 ghost use Rattle.std.specs.Prelude.{◌≡◌, cond, not, ◌+◌, ◌*◌, eqb};
 ghost use Rattle.reports.specs.Archive.{size_of, archive_of};
 ghost use Rattle.model.specs.Outcome.{refusal_of};
@@ -13,7 +14,7 @@ use reports::reading::Size;
 use volume::{heading, rows};
 
 // What an archive takes: 0 or the refusal, the durable records, and the archive's length.
-#[derive(Drop)]
+#[derive(Clone, Copy)]
 pub struct Extent {
     pub refusal: u32,
     pub durable: u32,

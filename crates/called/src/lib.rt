@@ -1,1 +1,2 @@
 // What C calls is the step of a history: no code.
+#![tactic(auto)]

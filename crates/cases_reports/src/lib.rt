@@ -1,1 +1,2 @@
 // The rows of `cases` on single volumes that are read, computed: report, forecast, archive. No code: see proofs/.
+#![tactic(auto)]

@@ -1,1 +1,2 @@
 // The rows of `cases` on the log and the notes as rings, computed. No code: see proofs/.
+#![tactic(auto)]

@@ -1,6 +1,7 @@
 // The four checks that support staff are taught, played with the store's own calls. Only the damage is this program's:
 // it plays the disk and the plug. The calls are proved; the program shows them at work, and compares each page's text
 // before and after.
+#![tactic(auto)]
 use checklist_checks::{both, lost, thread};
 use codec::number::one32;
 use print::{phrase, say};

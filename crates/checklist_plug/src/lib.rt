@@ -1,5 +1,6 @@
 // Check 2 of `checklist`: the plug pulled while a record is being stored, at every byte of it. Nothing is proved of it
 // but that it is safe and ends.
+#![tactic(auto)]
 ghost use Rattle.std.specs.Prelude.{◌≤◌};
 
 use checklist_steps::disk::{Image, Memory, Volume};

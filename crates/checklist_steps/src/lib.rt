@@ -3,6 +3,7 @@
 //
 // No verdict rests on the public functions without a contract, nor on `text::lines`: `steps::answer`, `text::line`,
 // `show` and `held` only print, and what `text::newest` and `lines` give is only printed.
+#![tactic(auto)]
 pub mod disk;
 pub mod steps;
 pub mod text;

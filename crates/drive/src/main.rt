@@ -1,6 +1,7 @@
 // Drives the store by a script of cells on standard input, at most 4,096, and prints a line for each: what the call
 // answered, and hashes of all that it may have changed. It holds the proved store against an independent
 // implementation, so nothing is proved of it but that it is safe and ends.
+#![tactic(auto)]
 mod calls;
 
 use codec::number::least;

@@ -1,1 +1,2 @@
 // No code: facts about `face`.
+#![tactic(auto)]

@@ -10,7 +10,7 @@ use model::state::State;
 use volume::{heading, place};
 
 // Offset and length of a part of the volume.
-#[derive(Drop)]
+#[derive(Clone, Copy)]
 pub struct Range {
     pub at: u32,
     pub size: u32,

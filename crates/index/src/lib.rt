@@ -1,4 +1,5 @@
 // The scan of a volume's log and notes into the page recovery index, for any bytes and without memory or state.
+#![tactic(auto)]
 ghost use Rattle.std.specs.Prelude.{◌≡◌, true, ◌≤◌, length, replicate};
 ghost use Rattle.model.specs.Geometry.{known_magic, geometry_of, valid_volume};
 ghost use Rattle.index_rows.specs.Columns.{Blank, Columns, Wide};
@@ -16,7 +17,7 @@ use section::guess;
 use volume::{heading, ring};
 
 // What a scan counts: 0 or the refusal, the log's run start, and the counts of durable log records and of notes.
-#[derive(Drop)]
+#[derive(Clone, Copy)]
 pub struct Counts {
     pub refusal: u32,
     pub first: u64,
@@ -25,14 +26,14 @@ pub struct Counts {
 }
 
 // What one pass gives: whether it tells what the scan is, and what it then counts.
-#[derive(Drop)]
+#[derive(Clone, Copy)]
 pub struct Pass {
     pub known: bool,
     pub counts: Counts,
 }
 
 // What a scan gives: its counts with the log's run start, and the index.
-#[derive(Drop)]
+#[derive(Clone, Copy)]
 pub struct Scanned {
     pub refusal: u32,
     pub first: u64,
@@ -42,7 +43,7 @@ pub struct Scanned {
 }
 
 // What a scan gives of one page, with the log's run start.
-#[derive(Drop)]
+#[derive(Clone, Copy)]
 pub struct Found {
     pub refusal: u32,
     pub first: u64,

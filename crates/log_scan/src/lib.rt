@@ -1,4 +1,5 @@
 // The scan of the log: its records judged one by one, and the last number of each page.
+#![tactic(auto)]
 ghost use Rattle.std.specs.Prelude.{◌≡◌, true, length, replicate};
 ghost use Rattle.model.specs.Scan as scans;
 ghost use Rattle.section.specs.Sweep.{Guessed};
@@ -126,7 +127,7 @@ fn links(prev: u32, last: u32, below: u32, kind: u32) -> bool
 }
 
 // What a pass finds: the number at which it stopped, and whether the slot there is not whole, or there is none.
-#[derive(Drop)]
+#[derive(Clone, Copy)]
 pub struct Passed {
     pub next: u32,
     pub clean: bool,
@@ -179,7 +180,7 @@ fn pass(volume: &[u8], g: Geometry, u: Guess, last: &mut [u32]) -> Passed
 
 // What a sweep finds: the number that it starts with, the one behind its last, and whether these are all that the
 // section holds.
-#[derive(Drop)]
+#[derive(Clone, Copy)]
 pub struct Swept {
     pub first: u32,
     pub next: u32,

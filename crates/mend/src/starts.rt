@@ -16,7 +16,7 @@ use repair::{class, walk};
 use volume::place;
 
 // The number at which a walk may stop at the own image, 0 where it is none, and the image's class.
-#[derive(Drop)]
+#[derive(Clone, Copy)]
 pub struct OwnImage {
     pub number: u32,
     pub class: Class,

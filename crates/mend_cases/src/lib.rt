@@ -1,1 +1,2 @@
 // Worked rows of mending, computed: no code.
+#![tactic(auto)]

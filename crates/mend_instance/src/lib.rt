@@ -1,1 +1,2 @@
 // Mending's theorems applied where they only just hold: no code.
+#![tactic(auto)]

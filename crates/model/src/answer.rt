@@ -1,7 +1,7 @@
 use crate::state::State;
 
 // What a page's own image is worth.
-#[derive(Drop)]
+#[derive(Clone, Copy)]
 pub enum Class {
     Good,
     Behind,
@@ -11,7 +11,7 @@ pub enum Class {
 }
 
 // Where a replay starts.
-#[derive(Drop)]
+#[derive(Clone, Copy)]
 pub enum Start {
     Own,
     Backup,
@@ -19,7 +19,7 @@ pub enum Start {
 }
 
 // Where the chain walk stops: at a start, at a record that breaks the chain, or below the run.
-#[derive(Drop)]
+#[derive(Clone, Copy)]
 pub enum Stop {
     Own,
     Backup,
@@ -29,7 +29,7 @@ pub enum Stop {
 }
 
 // How a page was found and repaired: its image's class, the replay's start and the count of records replayed.
-#[derive(Drop)]
+#[derive(Clone, Copy)]
 pub struct Repair {
     pub class: Class,
     pub start: Start,
@@ -37,7 +37,7 @@ pub struct Repair {
 }
 
 // The answer of a call.
-#[derive(Drop)]
+#[derive(Clone, Copy)]
 pub enum Answer {
     Refused(u32),
     Nothing,
@@ -46,7 +46,7 @@ pub enum Answer {
 }
 
 // What a call on the state gives back.
-#[derive(Drop)]
+#[derive(Clone, Copy)]
 pub struct Reply {
     pub answer: Answer,
     pub state: State,

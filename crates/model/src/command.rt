@@ -1,7 +1,7 @@
 use crate::change::Change;
 
 // A call on the state with its arguments, one step of a history. A change's bytes stand beside it, in an array of 44.
-#[derive(Drop)]
+#[derive(Clone, Copy)]
 pub enum Command {
     Begin { page: u32, frame: u32, fill: u8 },
     Load { page: u32, frame: u32 },

@@ -1,4 +1,5 @@
 // Words, numbers and answers on standard output, as the programs print them.
+#![tactic(auto)]
 use libc::STDOUT_FILENO;
 use model::answer::{Answer, Class, Repair, Start};
 

@@ -2,7 +2,7 @@
 // thread, each begun and then changed 20 times.
 
 // At most 1,024 events.
-#[derive(Drop)]
+#[derive(Clone, Copy)]
 pub struct List {
     pub bytes: [u8; 1024],
     pub len: usize,

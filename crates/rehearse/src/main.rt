@@ -3,6 +3,7 @@
 // input is the list, a byte an event: below 128 a read of that page, else a change of page − 128. Its figures are
 // printed in total and for each page; where it is refused, the refusal is the only line. All that matters is in
 // `planning_model`, which is proved; this file makes the two lists and prints.
+#![tactic(auto)]
 
 mod lists;
 mod table;

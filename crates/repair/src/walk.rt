@@ -16,7 +16,7 @@ use sums::checksum;
 use volume::place;
 
 // A page that is repaired: its volume's geometry and run start, its entry of the index, and its number.
-#[derive(Drop)]
+#[derive(Clone, Copy)]
 pub struct Target {
     pub g: Geometry,
     pub first: u64,
@@ -26,7 +26,7 @@ pub struct Target {
 
 // What a walk goes by: the run start, the page, the numbers at which it may stop at the own image and at the backup (0
 // is none), and whether it is sure that the walk is not broken, so that no record is tested.
-#[derive(Drop)]
+#[derive(Clone, Copy)]
 pub struct Course {
     pub first: u64,
     pub page: u32,
@@ -36,21 +36,21 @@ pub struct Course {
 }
 
 // What the walk finds at a number: it halts there, or it reads the record, which names the one before it.
-#[derive(Drop)]
+#[derive(Clone, Copy)]
 pub enum Step {
     Halt(Stop),
     Read { prev: u32, format: bool },
 }
 
 // Where a walk stopped, and how many records are to be replayed.
-#[derive(Drop)]
+#[derive(Clone, Copy)]
 pub struct Traced {
     pub stop: Stop,
     pub count: u32,
 }
 
 // What a walk found, and the class of the own image, which it had to judge.
-#[derive(Drop)]
+#[derive(Clone, Copy)]
 pub struct Walked {
     pub stop: Stop,
     pub count: u32,

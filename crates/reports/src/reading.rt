@@ -1,7 +1,7 @@
 // What the calls that read volumes, and take no state, give back.
 
 // What a walk would come to: the count of records replayed, or (count 0) the refusal 23 where it goes below the run.
-#[derive(Drop)]
+#[derive(Clone, Copy)]
 pub struct Figure {
     pub refusal: u32,
     pub count: u32,
@@ -9,14 +9,14 @@ pub struct Figure {
 
 // The forecast of a volume: 0 or the refusal, and a figure for each page; zeros past the last page and where it is
 // refused.
-#[derive(Drop)]
+#[derive(Clone, Copy)]
 pub struct Forecast {
     pub refusal: u32,
     pub pages: [Figure; 64],
 }
 
 // A length in bytes, or the refusal.
-#[derive(Drop)]
+#[derive(Clone, Copy)]
 pub enum Size {
     Refused(u32),
     Bytes(u32),
@@ -24,7 +24,7 @@ pub enum Size {
 
 // How two durable logs compare: they agree, one is a beginning of the other and lacks so many records, or the first number at which they
 // differ.
-#[derive(Drop)]
+#[derive(Clone, Copy)]
 pub enum Comparison {
     Refused(u32),
     Agree,
@@ -34,7 +34,7 @@ pub enum Comparison {
 }
 
 // A comparison, and for each page whether a record behind the common beginning is of it; all false where it is refused.
-#[derive(Drop)]
+#[derive(Clone, Copy)]
 pub struct Compared {
     pub answer: Comparison,
     pub touched: [bool; 64],
@@ -42,14 +42,14 @@ pub struct Compared {
 
 // How many more records, or notes, a volume takes before the next is refused, and the page that then stands in the way
 // (0: none).
-#[derive(Drop)]
+#[derive(Clone, Copy)]
 pub struct Space {
     pub count: u32,
     pub page: u32,
 }
 
 // The room of a volume: 0 or the refusal, and what is left of its log and of its notes; zeros where it is refused.
-#[derive(Drop)]
+#[derive(Clone, Copy)]
 pub struct Room {
     pub refusal: u32,
     pub log: Space,

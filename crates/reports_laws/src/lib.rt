@@ -1,1 +1,2 @@
 // Facts about the definitions of `reports`, over plain variables. No code: see proofs/.
+#![tactic(auto)]

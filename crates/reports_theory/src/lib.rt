@@ -1,1 +1,2 @@
 // What the reports tell after any history. No code: see proofs/.
+#![tactic(auto)]

@@ -2,6 +2,7 @@
 // each page, how Inspect found it. A refusal, of the volume or of a page that the log can no longer rebuild, or a
 // longer input, is the only line: all pages are judged before one is printed. All that matters is in `inspect`, which
 // is proved; this file only prints.
+#![tactic(auto)]
 use libc::STDIN_FILENO;
 use model::answer::Answer;
 use print::{number, say};

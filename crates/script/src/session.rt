@@ -7,7 +7,7 @@ use print::{number, phrase, say};
 use state::next;
 use store::{Returned, Store};
 
-#[derive(Drop)]
+#[derive(Clone, Copy)]
 pub struct Session {
     pub store: Store,
     pub volume: usize,
@@ -17,7 +17,7 @@ pub struct Session {
 }
 
 // The session after a cell, and whether the cell was skipped: then nothing more is printed of it.
-#[derive(Drop)]
+#[derive(Clone, Copy)]
 pub struct Turn {
     pub skipped: bool,
     pub session: Session,

@@ -9,7 +9,7 @@ use script::{cell, session};
 use upkeep_policy::upkeep::Upkeep;
 
 // A call as it is told: its number in a script, its page, and its frame or slot.
-#[derive(Drop)]
+#[derive(Clone, Copy)]
 struct Words {
     number: u32,
     page: u32,

@@ -10,7 +10,7 @@ use codec::field;
 use sums::checksum;
 
 // A slot, counted from 0, and the number that it should hold.
-#[derive(Drop)]
+#[derive(Clone, Copy)]
 pub struct Guess {
     pub slot: u32,
     pub first: u32,

@@ -1,4 +1,5 @@
 // A section of a volume, its log or its notes: its whole slots, and the run of numbers that they hold.
+#![tactic(auto)]
 ghost use Rattle.std.specs.Prelude.{◌≡◌, true, cond, suc, ◌+◌, ◌-◌, ◌*◌, ◌%◌, ◌≤◌, ◌<◌, length};
 ghost use Rattle.model.specs.Bytes as bytes;
 ghost use Rattle.model.specs.Checksum.{sealed};
@@ -14,7 +15,7 @@ use volume::ring;
 
 // Where a section lies: whether it is a ring, where its slots start, an item's bytes before its checksum, and how many
 // slots it has.
-#[derive(Drop)]
+#[derive(Clone, Copy)]
 pub struct Section {
     pub ring: bool,
     pub at: usize,
@@ -24,7 +25,7 @@ pub struct Section {
 
 // The numbers that a section holds: the first, and how many were ever given, which is the last; none where the first is
 // above it. And how many of its slots are whole before the first that is not: these are not summed again.
-#[derive(Drop)]
+#[derive(Clone, Copy)]
 pub struct Run {
     pub first: u64,
     pub count: u32,
@@ -32,7 +33,7 @@ pub struct Run {
 }
 
 // How many slots of a section are whole before the first that is not, and the highest number in these.
-#[derive(Drop)]
+#[derive(Clone, Copy)]
 pub struct Front {
     pub slots: u32,
     pub top: u32,

@@ -5,6 +5,7 @@
 // Each call works on any volume, memory, buffer and state. Its contract is an equation for what it gives back and one
 // for each slice that it may write, by the outcome that `model::specs::Calls` defines. So each rules out a refusal out
 // of the table's order, and a refused call that changes a byte or the state. What else it rules out stands beside it.
+#![tactic(auto)]
 ghost use Rattle.std.specs.Prelude.{◌≡◌};
 ghost use Rattle.store.specs.Store.{wrapped, performed};
 ghost use Rattle.model.specs.declared.geometry.Heading.TheVariants.{First, Second};
@@ -19,13 +20,13 @@ use model::command::Command;
 use model::state::State;
 use persist::backup;
 
-#[derive(Drop)]
+#[derive(Clone, Copy)]
 pub struct Store {
     pub state: State,
 }
 
 // What a call on the state gives back: its answer, and the store with the next state.
-#[derive(Drop)]
+#[derive(Clone, Copy)]
 pub struct Returned {
     pub answer: Answer,
     pub store: Store,

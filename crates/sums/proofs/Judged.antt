@@ -11,11 +11,23 @@ use lib.ListN.{length}
 use Rattle.laws.proofs.Fields.{Bytes, field-add}
 use Rattle.model.specs.Bytes.{field}
 use Rattle.model.specs.Checksum.{sealed}
-use Rattle.sums.specs.Products.{Minus, Product, weights, low, high, Weights, Constants}
+use Rattle.sums.specs.Products.{Minus, Product, weights, low, high}
 use Rattle.sums.proofs.Multiples.{wrong-high, wrong-low, right-words}
 use Rattle.sums.proofs.Pairs.{Pair}
-use Rattle.sums.proofs.Turns.{read, product-back}
 use Rattle.sums.proofs.Weighed.{word-most, weights-most, weighed-most, low-most, weighed-split, sealed-words}
+
+-- the weights of two products of n words and two
+pub record Weights (n : ℕ) : Type 0 where
+  pub few : n ≤ 30
+  pub apart : weights (65 + suc (suc n)) (suc (suc n)) ≡ weights (64 + suc (suc n)) (suc (suc n)) + suc (suc n)
+
+-- and what is added to the sums that are made of them
+pub record Constants (n i j : ℕ) : Type 0 where
+  pub weighing : Weights n
+  pub little : (i ≤ 67108864) × (j ≤ 67108864)
+  pub first : 32768 * (weights (65 + suc (suc n)) (suc (suc n)) + weights (64 + suc (suc n)) (suc (suc n))) + 2 * n + 131070
+      ≡ 133 * (32768 * suc (suc n)) + i
+  pub second : j ≡ 32768 * suc (suc n) + 196606
 
 -- a test of multiples that failed, and one that was passed
 pub failed : {t : Bool} {z x : ℕ} → not t ≡ true → t ≡ eqb (z % 65535) 0 → z ≡ x → eqb (x % 65535) 0 ≡ false
@@ -141,24 +153,6 @@ module _ (n : ℕ) (s : List ℕ) (b : Bytes s) where
           ∙ right-words (1 + low s n) (n + high s n) word_low word-high x rest low_fits high_fits (omega (arith, high_fits)) rest-is t v
           ∙ sym is-sealed
 
--- what an item's products are handed on as
-module _ {n : ℕ} {i j : ℕ} {p q : ℤ} where
-  pub handed : (s : List ℕ) → Bytes s → length s ≡ 2 * n + 4 → Constants n i j → Product (65 + suc (suc n)) s (suc (suc n)) p
-      → Product (64 + suc (suc n)) s (suc (suc n)) q
-      → (length s ≡ 2 * n + 4) × (Constants n i j
-      × (Product (65 + suc (suc n)) s (suc (suc n)) (read p) × Product (64 + suc (suc n)) s (suc (suc n)) (read q)))
-  handed s b l c e f =
-      let h = c.weighing.few in (
-        l,
-        (
-          c,
-          (
-            product-back (65 + suc (suc n)) s (suc (suc n)) p b (omega arith) (omega arith) e,
-            product-back (64 + suc (suc n)) s (suc (suc n)) q b (omega arith) (omega arith) f,
-          ),
-        ),
-      )
-
 pub record-weights : Weights 30
 unfolding weights
 record-weights = record { few = omega arith; apart = refl }
@@ -166,3 +160,11 @@ record-weights = record { few = omega arith; apart = refl }
 pub note-weights : Weights 6
 unfolding weights
 note-weights = record { few = omega arith; apart = refl }
+
+pub record-constants : Constants 30 30539834 1245182
+unfolding weights
+record-constants = record { weighing = record-weights; little = (omega arith, omega arith); first = refl; second = refl }
+
+pub note-constants : Constants 6 1441802 458750
+unfolding weights
+note-constants = record { weighing = note-weights; little = (omega arith, omega arith); first = refl; second = refl }

@@ -34,19 +34,6 @@ module _ {l h m k k' i j x y : ℕ} {p q : ℤ} (u : Pair l h m k k' i j x y p q
   q_back : Minus (read q) (h + 64 * l) (32768 * k')
   q_back = minus-back u.lower w32 (omega arith) (omega arith)
 
-  -- the two numbers that are added
-  pub first_fits : SFits w32 (pos i)
-  first_fits = minus-fits (minus_pos i) w32 (omega (arith, u.little.0)) (omega arith)
-
-  first_back : Minus (read (pos i)) i 0
-  first_back = minus-back (minus_pos i) w32 (omega (arith, u.little.0)) (omega arith)
-
-  pub second_fits : SFits w32 (pos j)
-  second_fits = minus-fits (minus_pos j) w32 (omega (arith, u.little.1)) (omega arith)
-
-  second_back : Minus (read (pos j)) j 0
-  second_back = minus-back (minus_pos j) w32 (omega (arith, u.little.1)) (omega arith)
-
   -- the words
   abbrev pub all : ℤ
   all = read p -ℤ read q
@@ -96,10 +83,10 @@ module _ {l h m k k' i j x y : ℕ} {p q : ℤ} (u : Pair l h m k k' i j x y p q
 
   -- what is tested of it
   abbrev pub twice-more : ℤ
-  twice-more = read twice +ℤ read (pos i)
+  twice-more = read twice +ℤ pos i
 
   is_x : Minus twice-more x 0
-  is_x = minus-other (add-minus (minus-back is-twice w32 (omega arith) (omega arith)) first_back) x 0 (omega arith)
+  is_x = minus-other (add-minus (minus-back is-twice w32 (omega arith) (omega arith)) (minus_pos i)) x 0 (omega arith)
 
   pub twice-more-fits : SFits w32 twice-more
   twice-more-fits = minus-fits is_x w32 (omega arith) (omega arith)
@@ -115,10 +102,10 @@ module _ {l h m k k' i j x y : ℕ} {p q : ℤ} (u : Pair l h m k k' i j x y p q
 
   -- and of the words
   abbrev pub all_more : ℤ
-  all_more = read all +ℤ read (pos j)
+  all_more = read all +ℤ pos j
 
   is_y : Minus all_more y 0
-  is_y = minus-other (add-minus all_back second_back) y 0 (omega arith)
+  is_y = minus-other (add-minus all_back (minus_pos j)) y 0 (omega arith)
 
   pub all-more-fits : SFits w32 all_more
   all-more-fits = minus-fits is_y w32 (omega arith) (omega arith)

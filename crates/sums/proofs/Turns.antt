@@ -41,15 +41,17 @@ module _ {top : ℕ} {s : List ℕ} {n t : ℕ} {x : ℤ} (u : Turn top s n t x)
   word_fits : field 2 (2 * n) s ≤ 65535
   word_fits = word-most (2 * n) s u.bytes
 
-  pub weight-fits : SFits w32 (pos (top - n))
-  weight-fits = minus-fits (minus_pos (top - n)) w32 (omega arith) (omega arith)
+  pub place-fits : SFits w32 (pos n)
+  place-fits = minus-fits (minus_pos n) w32 (omega arith) (omega arith)
 
-  -- the next weight, signed
   abbrev pub weight : ℤ
-  weight = pos (top - n)
+  weight = pos top -ℤ to_z w32 n
 
   is-weight : Minus weight top n
-  is-weight = minus-other (minus_pos (top - n)) top n (omega arith)
+  is-weight = minus-other (sub-minus (minus_pos top) (minus-back (minus_pos n) w32 (omega arith) (omega arith))) top n (omega arith)
+
+  pub weight-fits : SFits w32 weight
+  weight-fits = minus-fits is-weight w32 (omega arith) (omega arith)
 
   abbrev pub term : ℤ
   term = read x *ℤ read weight
@@ -85,10 +87,3 @@ module _ {top : ℕ} {s : List ℕ} {n t : ℕ} {x : ℤ} (u : Turn top s n t x)
 
   pub sum-next : Product top s (n + 1) (read sum)
   sum-next = rw add-one (minus-back is_sum w32 (omega (arith, sum-most, all_most)) (omega (arith, all_most)))
-
--- ---- a product that is handed on is read back from its bits
-
-pub product-back : (top : ℕ) (s : List ℕ) (n : ℕ) (z : ℤ) → Bytes s → n ≤ 32 → top ≤ 97 → Product top s n z → Product top s n (read z)
-product-back top s n z b few light e =
-    let w = weights-most top n light in
-    minus-back e w32 (omega (arith, w, weighed-most top s n b)) (omega (arith, w))

@@ -1,5 +1,5 @@
 -- Sums of words with weights, and integers as differences of numbers.
-use Rattle.std.specs.Prelude.{◌≡◌, cond, List, ℕ, zero, suc, ◌+◌, ◌*◌, ◌-◌, ◌≤◌, ltb, ℤ, pos, negsuc}
+use Rattle.std.specs.Prelude.{◌≡◌, cond, List, ℕ, zero, suc, ◌+◌, ◌*◌, ◌-◌, ltb, ℤ, pos, negsuc}
 use Rattle.model.specs.Bytes.{field, part}
 
 -- an integer is p - n
@@ -32,21 +32,6 @@ low s (suc n) = low s n + field 2 (2 * n) s
 unfoldable pub high : List ℕ → ℕ → ℕ
 high s zero = 0
 high s (suc n) = high s n + low s (suc n)
-
--- ---- an item of n words, and the two behind them
-
--- the weights of two products of n + 2 words
-pub record Weights (n : ℕ) : Type 0 where
-  pub few : n ≤ 30
-  pub apart : weights (65 + suc (suc n)) (suc (suc n)) ≡ weights (64 + suc (suc n)) (suc (suc n)) + suc (suc n)
-
--- and what is added to the sums that are made of them
-pub record Constants (n i j : ℕ) : Type 0 where
-  pub weighing : Weights n
-  pub little : (i ≤ 67108864) × (j ≤ 67108864)
-  pub first : 32768 * (weights (65 + suc (suc n)) (suc (suc n)) + weights (64 + suc (suc n)) (suc (suc n))) + 2 * n + 131070
-      ≡ 133 * (32768 * suc (suc n)) + i
-  pub second : j ≡ 32768 * suc (suc n) + 196606
 
 -- ---- an image's 126 words, in four parts of 32: the last starts two words early
 

@@ -8,7 +8,7 @@ ghost use Rattle.sums.specs.Quads as quads;
 use crate::partial::Sums;
 use codec::number::{u8_u16, u16_u64};
 
-#[derive(Drop)]
+#[derive(Clone, Copy)]
 pub struct Quad {
     pub x0: u16,
     pub x1: u16,

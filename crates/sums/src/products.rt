@@ -2,10 +2,10 @@
 // that of an image computed by such products. The products are of signed words, so that each word goes in as w - 32768.
 // No weight is 0 or a power of two: the compiler then makes `pmaddwd` of the products, where of others it makes shifts
 // and sums, which are slower.
-ghost use Rattle.std.specs.Prelude.{◌≡◌, suc, ◌+◌, ◌*◌, ◌%◌, ◌≤◌, ◌<◌, eqb, length};
+ghost use Rattle.std.specs.Prelude.{◌≡◌, ◌+◌, ◌*◌, ◌%◌, ◌≤◌, eqb, length};
 ghost use Rattle.model.specs.Bytes.{field, part};
 ghost use Rattle.model.specs.Checksum.{checksum, sealed};
-ghost use Rattle.sums.specs.Products.{Minus, Product, Constants, low, high, place_of, above_of};
+ghost use Rattle.sums.specs.Products.{Minus, Product, low, high, place_of, above_of};
 
 use codec::field;
 use codec::number::{i16_i32, u16_u32};
@@ -18,16 +18,57 @@ fn flipped(s: &[u8], at: usize) -> i16
     (field::two(s, at) as i32 - 32768) as i16
 }
 
-// The first words of an item, count of them, with the weights top, top - 1, .., for every item size and every weight.
-// The compiler expands it at each call, where both are known.
-fn product(r: &[u8], top: usize, count: usize) -> i32
-    requires { (2 * count ≤ length r.now) × (count ≤ 32) × (count < top) × (top ≤ 97) }
-    ensures { Product top r.now count result }
+// 32 words with the weights 97 to 66.
+fn upper(r: &[u8]) -> i32
+    requires { length r.now ≡ 64 }
+    ensures { Product 97 r.now 32 result }
 {
     let mut t: i32 = 0;
     let mut i: usize = 0;
-    while i < count {
-        t = t + i16_i32(flipped(r, 2 * i)) * ((top - i) as i32);
+    while i < 32 {
+        t = t + i16_i32(flipped(r, 2 * i)) * (97 - i as i32);
+        i += 1;
+    }
+    t
+}
+
+// And with 96 to 65.
+fn lower(r: &[u8]) -> i32
+    requires { length r.now ≡ 64 }
+    ensures { Product 96 r.now 32 result }
+{
+    let mut t: i32 = 0;
+    let mut i: usize = 0;
+    while i < 32 {
+        t = t + i16_i32(flipped(r, 2 * i)) * (96 - i as i32);
+        i += 1;
+    }
+    t
+}
+
+// 8 words with the weights 73 to 66.
+fn upper_note(r: &[u8]) -> i32
+    requires { length r.now ≡ 16 }
+    ensures { Product 73 r.now 8 result }
+{
+    let mut t: i32 = 0;
+    let mut i: usize = 0;
+    while i < 8 {
+        t = t + i16_i32(flipped(r, 2 * i)) * (73 - i as i32);
+        i += 1;
+    }
+    t
+}
+
+// And with 72 to 65.
+fn lower_note(r: &[u8]) -> i32
+    requires { length r.now ≡ 16 }
+    ensures { Product 72 r.now 8 result }
+{
+    let mut t: i32 = 0;
+    let mut i: usize = 0;
+    while i < 8 {
+        t = t + i16_i32(flipped(r, 2 * i)) * (72 - i as i32);
         i += 1;
     }
     t
@@ -40,56 +81,81 @@ fn multiple_of_modulus(x: u32) -> bool
     x % 65535 == 0
 }
 
-// An item of n words, w0 on, has a right checksum in the two behind them, of every item size. With a = 1 + w0 + .. and
-// b = n + n w0 + (n - 1) w1 + .. it is right where a and b less those two are multiples of 65535, and neither of the two
-// is 65535. p and q are products of all n + 2 words. What is tested first is twice the difference of b with 131070 more,
-// and then that of a with 3 * 65535 more: neither is below 0, by the numbers i and j. Of both products their sum and
-// their difference are taken: neither may be added up into another sum, or the compiler takes the products apart.
-fn judged(r: &[u8], n: usize, p: i32, q: i32, i: u32, j: u32) -> bool
-    requires r_len { length r.now ≡ 2 * n + 4 }
-    requires constants { Constants n i j }
-    requires product { Product (65 + suc (suc n)) r.now (suc (suc n)) p × Product (64 + suc (suc n)) r.now (suc (suc n)) q }
-    ensures { result ≡ sealed (2 * n) r.now }
+// A record of 64 bytes has a right checksum. With w0 to w31 its words, a = 1 + w0 + .. + w29 and b = 30 + 30 w0 + .. +
+// w29, it is right where a - w30 and b - w31 are multiples of 65535, and neither w30 nor w31 is 65535. What is tested
+// first is 2 (b - w31 + 65535), and then a - w30 + 3 * 65535: neither is below 0. Of both products their sum and their
+// difference are taken: neither may be added up into another sum, or the compiler takes the products apart.
+pub fn record_holds(r: &[u8]) -> bool
+    requires { length r.now ≡ 64 }
+    ensures { result ≡ sealed 60 r.now }
 {
+    let p = upper(r);
+    let q = lower(r);
     let all = p - q;
     let twice = p + q - 133 * all;
-    if !multiple_of_modulus((twice + i as i32) as u32) {
+    if !multiple_of_modulus((twice + 30539834) as u32) {
         return false;
     }
-    let c = field::four(r, 2 * n);
+    let c = field::four(r, 60);
     let low = c % 65536;
     let high = c / 65536;
-    if !multiple_of_modulus((all + j as i32) as u32 - 2 * low - high) {
+    if !multiple_of_modulus((all + 1245182) as u32 - 2 * low - high) {
         return false;
     }
     (low != 65535) & (high != 65535)
 }
 
-// A record of 64 bytes has a right checksum.
-pub fn record_holds(r: &[u8]) -> bool
-    requires { length r.now ≡ 64 }
-    ensures { result ≡ sealed 60 r.now }
-{
-    judged(
-        r,
-        30,
-        product(r, 97, 32),
-        product(r, 96, 32),
-        30539834,
-        1245182,
-    )
-}
-
-// A note of 16 bytes has.
+// A note of 16 bytes, as a record: 6 words.
 pub fn note_holds(r: &[u8]) -> bool
     requires { length r.now ≡ 16 }
     ensures { result ≡ sealed 12 r.now }
 {
-    judged(r, 6, product(r, 73, 8), product(r, 72, 8), 1441802, 458750)
+    let p = upper_note(r);
+    let q = lower_note(r);
+    let all = p - q;
+    let twice = p + q - 133 * all;
+    if !multiple_of_modulus((twice + 1441802) as u32) {
+        return false;
+    }
+    let c = field::four(r, 12);
+    let low = c % 65536;
+    let high = c / 65536;
+    if !multiple_of_modulus((all + 458750) as u32 - 2 * low - high) {
+        return false;
+    }
+    (low != 65535) & (high != 65535)
+}
+
+// 32 words of an image with the weights 97 to 66, and with 96 to 65: as of a record, and apart from it, so that each is
+// called once and the compiler expands it there.
+fn upper_part(r: &[u8]) -> i32
+    requires { length r.now ≡ 64 }
+    ensures { Product 97 r.now 32 result }
+{
+    let mut t: i32 = 0;
+    let mut i: usize = 0;
+    while i < 32 {
+        t = t + i16_i32(flipped(r, 2 * i)) * (97 - i as i32);
+        i += 1;
+    }
+    t
+}
+
+fn lower_part(r: &[u8]) -> i32
+    requires { length r.now ≡ 64 }
+    ensures { Product 96 r.now 32 result }
+{
+    let mut t: i32 = 0;
+    let mut i: usize = 0;
+    while i < 32 {
+        t = t + i16_i32(flipped(r, 2 * i)) * (96 - i as i32);
+        i += 1;
+    }
+    t
 }
 
 // The two sums of 32 words.
-#[derive(Drop)]
+#[derive(Clone, Copy)]
 pub struct Words {
     pub a: u32,
     pub b: u32,
@@ -102,8 +168,8 @@ fn sums_at(s: &[u8], at: usize) -> Words
 {
     let end = at + 64;
     let r = &s[at..end];
-    let p = product(r, 97, 32);
-    let q = product(r, 96, 32);
+    let p = upper_part(r);
+    let q = lower_part(r);
     let all = p - q;
     let twice = p + q - 133 * all;
     let a = (all + 1048576) as u32;

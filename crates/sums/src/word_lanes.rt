@@ -10,7 +10,7 @@ use crate::partial::Sums;
 use codec::field;
 use codec::number::{u16_u32, u32_u64};
 
-#[derive(Drop)]
+#[derive(Clone, Copy)]
 pub struct Lanes {
     pub x0: u32,
     pub x1: u32,

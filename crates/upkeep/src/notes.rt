@@ -15,7 +15,7 @@ use sums::checksum;
 use volume::{place, ring};
 
 // Whether the note is needed that the next one displaces, and the one that the note after that displaces.
-#[derive(Drop)]
+#[derive(Clone, Copy)]
 pub struct Oldest {
     pub first: bool,
     pub second: bool,

@@ -1,1 +1,2 @@
 // No code: worked rows of upkeep, computed (specs/).
+#![tactic(auto)]

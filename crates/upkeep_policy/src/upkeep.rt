@@ -1,7 +1,7 @@
 use model::command::Command;
 
 // What upkeep says: refused; nothing to do; stuck at a page whose note or record it cannot renew; or a call to make.
-#[derive(Drop)]
+#[derive(Clone, Copy)]
 pub enum Upkeep {
     Refused(u32),
     Idle,
@@ -10,7 +10,7 @@ pub enum Upkeep {
 }
 
 // The same with the bytes of a change that is to be made; zeros beside anything else.
-#[derive(Drop)]
+#[derive(Clone, Copy)]
 pub struct Advised {
     pub upkeep: Upkeep,
     pub payload: [u8; 44],

@@ -15,7 +15,7 @@ use volume::place;
 
 // Where the log's run lies, for a pass over the notes: its first number and where that is, the number behind its last,
 // and where the log's slots start and end.
-#[derive(Drop)]
+#[derive(Clone, Copy)]
 pub struct Reach {
     pub first: u32,
     pub next: u32,

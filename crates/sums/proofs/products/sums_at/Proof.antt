@@ -14,7 +14,7 @@ use Rattle.sums.proofs.products.sums_at.Statement.{statement}
 use Rattle.sums.proofs.products.sums_at.Tie as tie
 
 -- the words
-module _ (c : tie.After-product2) where
+module _ (c : tie.After-lower-part) where
   abbrev here : List ℕ
   here = part c.before.before.before.before.args.s.now c.before.before.before.before.args.at 64
 
@@ -24,12 +24,12 @@ module _ (c : tie.After-product2) where
       bytes-part a.s.now a.at 64 (λ i. (c.before.before.before.shared-slice-known.given i).fits)
 
   products : Pair (low here 32) (high here 32) 32 (weights 97 32) (weights 96 32) 30539774 1048576 (double here bytes) (low here 32)
-      c.before.product.result c.product2.result
+      c.before.upper-part.result c.lower-part.result
   products =
       let a = c.before.before.before.before.args in
       let e = piece a.at a.s.now in
-      part_pair here bytes _ _ (subst (λ (l : List ℕ). Product 97 l 32 c.before.product.result) e c.before.product.ensures)
-      (subst (λ (l : List ℕ). Product 96 l 32 c.product2.result) e c.product2.ensures)
+      part_pair here bytes _ _ (subst (λ (l : List ℕ). Product 97 l 32 c.before.upper-part.result) e c.before.upper-part.ensures)
+      (subst (λ (l : List ℕ). Product 96 l 32 c.lower-part.result) e c.lower-part.ensures)
 
 sub-all : tie.Need-overflow-sub-all
 sub-all c = all-fits (products c)

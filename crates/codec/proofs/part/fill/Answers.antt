@@ -1,0 +1,27 @@
+-- `codec::part::fill` meets its contract. The loop keeps: the first i bytes are set, and the length is as it was.
+use mathlib.Core.Path.{◌≡◌, sym, ap, ◌∙◌}
+use Prim.Native.Nat.{ℕ, ◌-◌, ◌≤◌}
+use native.Mathlib.Omega.{arith}
+use borrow.Author.Rules.{rules}
+use lib.ListN.{length, take, replicate, length-set}
+use lib.Seq.{take_all}
+use Rattle.codec.proofs.Stores.{fill_more}
+use Rattle.codec.proofs.part.fill.Goals as goal
+
+pub loop-i-smaller : goal.loop-i-smaller
+loop-i-smaller c = simp length-set (omega arith)
+
+pub loop-i-preserved : goal.loop-i-preserved
+loop-i-preserved c =
+    let l = c.loop-i in (
+      simp length-set (omega arith),
+      simp length-set l.invariant.1,
+      fill_more c.args.b l.i l.dst c.loop-i-test.true l.invariant.2,
+    )
+
+pub returns : goal.returns
+returns c =
+    let l = c.loop-i in
+    let b = c.args.b in
+    let e : l.i ≡ length c.args.dst.now = omega arith in
+    sym (take_all l.i l.dst (omega arith)) ∙ l.invariant.2 ∙ ap (λ (n : ℕ). replicate n b) e

@@ -1,0 +1,15 @@
+-- `codec::part::fill` meets its contract. The loop keeps: the first i bytes are set, and the length is as it was.
+use mathlib.Core.Path.{◌≡◌, sym, ap, ◌∙◌}
+use Prim.Native.Nat.{ℕ, ◌-◌, ◌≤◌}
+use native.Mathlib.Omega.{arith}
+use borrow.Author.Rules.{rules}
+use lib.ListN.{length, take, replicate, length-set}
+use lib.Seq.{take_all}
+use Rattle.codec.proofs.Stores.{fill_more}
+use Rattle.codec.proofs.part.fill.Given as goal
+
+abbrev pub invariant-loop-i : goal.invariant-loop-i
+invariant-loop-i l = (l.i ≤ length l.dst) × (length l.dst ≡ length l.initial.dst) × (take l.i l.dst ≡ replicate l.i l.b)
+
+abbrev pub decreases-loop-i : goal.decreases-loop-i
+decreases-loop-i l = length l.dst - l.i

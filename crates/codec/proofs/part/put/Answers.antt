@@ -1,0 +1,14 @@
+-- `codec::part::put` meets its contract.
+use borrow.Author.Rules.{rules}
+use mathlib.Core.Path.{◌≡◌}
+use Prim.Native.Nat.{◌+◌, ◌-◌}
+use lib.ListN.{length}
+use native.Mathlib.Omega.{arith}
+use Rattle.laws.proofs.Parts.{put-splice}
+use Rattle.codec.proofs.part.put.Goals as goal
+
+pub returns : goal.returns
+returns c =
+    let a = c.args in
+    let e : length a.src.now ≡ a.at + length a.src.now - a.at = omega arith in
+    rw c.copy.ensures (put-splice a.dst-1.now a.at _ a.src.now e)
