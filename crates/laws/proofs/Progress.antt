@@ -4,7 +4,7 @@ use mathlib.Core.Path.{◌≡◌, refl, sym, ◌∙◌, subst}
 use mathlib.Core.Logic.{◌≢◌, ◌↔◌}
 use mathlib.Core.Bool.{Bool, true, false, cond, ◌&&◌, ◌||◌, not}
 use mathlib.Core.List.{List, [], ◌∷◌}
-use Prim.Native.Nat.{ℕ, zero, suc, ◌-◌, ◌<◌}
+use Prim.Native.Nat.{ℕ, zero, suc, ◌<◌}
 use native.Mathlib.Omega.{arith}
 use lib.Dec.{eqb, ltb}
 use lib.ListN.{length, take}
@@ -20,7 +20,7 @@ use Rattle.model.specs.Geometry.{tag_of, carry_tag, headed, geometry_of, valid_v
 use Rattle.model.specs.Passes.{is_image, by_byte_sum, only_old, image_count, old_at, first_old, old_left}
 use Rattle.model.specs.State.{frame_count, valid_memory, well_formed}
 use Rattle.model.specs.Refusals.{restamp_rows, finish_carry_rows}
-use Rattle.model.specs.Outcome.{nothing, new_heading, volume_after, storing, refusal_of, decided}
+use Rattle.model.specs.Outcome.{new_heading, volume_after, storing, refusal_of, decided}
 use Rattle.model.specs.Effects.{restamp_done}
 use Rattle.model.specs.Calls.{restamp_of, finish_carry_of}
 use Rattle.model.specs.Carry.{old_count, restamps, AllDone, Progress, passes_on, DropsNone}

@@ -2,7 +2,7 @@
 -- are proved in the crate `history`. The paragraph on demand 3 is in two types: its sentence on one history is
 -- `Demand2.inspects`, its sentence on two histories is `Demand3`. "Inspect changes no volume" is seen in
 -- `Restart.Inspected`, which holds an answer and a buffer.
-use Rattle.std.specs.Prelude.{ℕ, ◌+◌, ◌≤◌}
+use Rattle.std.specs.Prelude.{ℕ, ◌≤◌}
 use mathlib.Core.{Path.◌≡◌, Logic.◌≢◌, Logic.◌⊎◌, Logic.◌↔◌, Bool.Bool, Bool.true, Bool.◌&&◌, Bool.◌||◌, List.List}
 use mathlib.Core.{List.◌++◌}
 use lib.{ListN.length, Dec.eqb, Dec.leb}

@@ -1,6 +1,6 @@
 -- The refusals of the calls: document 01's table, with document 02's rows, turned on its side, one list of rows a call,
 -- in the order in which they are tested. The answer is the first row that holds.
-use Rattle.std.specs.Prelude.{ℕ, ◌+◌}
+use Rattle.std.specs.Prelude.{ℕ}
 use mathlib.Core.{Bool.Bool, Bool.true, Bool.◌&&◌, Bool.not, List.List, List.[], List.◌∷◌, List.◌++◌}
 use lib.{Dec.eqb, Dec.ltb, ListN.length}
 use Rattle.model.specs.Tables.{Row, within}

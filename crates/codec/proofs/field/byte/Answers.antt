@@ -1,5 +1,4 @@
 -- `codec::field::byte` meets its contract.
-use borrow.Author.Rules.{rules}
 use mathlib.Core.Path.{sym}
 use lib.ListN.{get_or-eq_default}
 use Rattle.codec.proofs.field.byte.Goals as goal

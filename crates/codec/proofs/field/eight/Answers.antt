@@ -1,5 +1,4 @@
 -- `codec::field::eight` meets its contract.
-use borrow.Author.Rules.{rules}
 use native.Mathlib.Omega.{arith}
 use Rattle.laws.proofs.Fields.{field-add}
 use Rattle.codec.proofs.field.eight.Goals as goal

@@ -1,5 +1,4 @@
 -- `codec::field::put_u16` meets its contract.
-use borrow.Author.Rules.{rules}
 use native.Mathlib.Numerals.{add-one}
 use native.Mathlib.Omega.{arith}
 use lib.ListN.{length-set}

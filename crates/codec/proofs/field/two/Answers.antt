@@ -1,5 +1,4 @@
 -- `codec::field::two` meets its contract.
-use borrow.Author.Rules.{rules}
 use native.Mathlib.Omega.{arith}
 use Rattle.codec.proofs.Stores.{field-two}
 use Rattle.codec.proofs.field.two.Goals as goal

@@ -1,5 +1,4 @@
 -- `codec::field::u16_at` meets its contract.
-use borrow.Author.Rules.{rules}
 use mathlib.Core.Path.{◌≡◌, sym}
 use native.Mathlib.Omega.{arith}
 use Prim.Native.Nat.{◌+◌}

@@ -1,5 +1,4 @@
 -- `codec::field::u32_at` meets its contract.
-use borrow.Author.Rules.{rules}
 use mathlib.Core.Path.{sym}
 use native.Mathlib.Omega.{arith}
 use Rattle.laws.proofs.Fields.{field-add}

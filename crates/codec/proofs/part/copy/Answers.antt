@@ -1,10 +1,10 @@
 -- `codec::part::copy` meets its contract. The loop keeps: the first i bytes are the source's, and the length is as it was.
-use mathlib.Core.Path.{◌≡◌, sym, ◌∙◌}
-use Prim.Native.Nat.{◌-◌, ◌≤◌, ◌<◌}
+use mathlib.Core.Path.{sym, ◌∙◌}
+use Prim.Native.Nat.{◌<◌}
 use native.Mathlib.Numerals.{add-one}
 use native.Mathlib.Omega.{arith}
 use borrow.Author.Rules.{rules}
-use lib.ListN.{length, take}
+use lib.ListN.{length}
 use lib.Seq.{take-suc, take-suc-set, take_all}
 use Rattle.codec.proofs.part.copy.Goals as goal
 

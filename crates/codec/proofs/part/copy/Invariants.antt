@@ -1,11 +1,7 @@
 -- `codec::part::copy` meets its contract. The loop keeps: the first i bytes are the source's, and the length is as it was.
-use mathlib.Core.Path.{◌≡◌, sym, ◌∙◌}
-use Prim.Native.Nat.{◌-◌, ◌≤◌, ◌<◌}
-use native.Mathlib.Numerals.{add-one}
-use native.Mathlib.Omega.{arith}
-use borrow.Author.Rules.{rules}
+use mathlib.Core.Path.{◌≡◌}
+use Prim.Native.Nat.{◌-◌, ◌≤◌}
 use lib.ListN.{length, take}
-use lib.Seq.{take-suc, take-suc-set, take_all}
 use Rattle.codec.proofs.part.copy.Given as goal
 
 abbrev pub invariant-loop-i : goal.invariant-loop-i

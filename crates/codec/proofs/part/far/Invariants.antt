@@ -1,12 +1,8 @@
 -- `codec::part::far` meets its contract. The loop keeps: the test of what is left is that of the whole.
-use mathlib.Core.Path.{◌≡◌, sym, ◌∙◌}
+use mathlib.Core.Path.{◌≡◌}
 use Prim.Native.Nat.{◌-◌, ◌≤◌}
-use native.Mathlib.Omega.{arith}
 use lib.ListN.{length, drop}
-use borrow.Author.Rules.{rules}
-use borrow.Author.Tests.{eqb-true, not-false}
-use Rattle.model.specs.Bytes.{field, all_zero}
-use Rattle.codec.proofs.Runs.{zero_field}
+use Rattle.model.specs.Bytes.{all_zero}
 use Rattle.codec.proofs.part.far.Given as goal
 
 abbrev pub invariant-loop-i : goal.invariant-loop-i

@@ -1,9 +1,8 @@
 -- `codec::part::fill` meets its contract. The loop keeps: the first i bytes are set, and the length is as it was.
 use mathlib.Core.Path.{◌≡◌, sym, ap, ◌∙◌}
-use Prim.Native.Nat.{ℕ, ◌-◌, ◌≤◌}
+use Prim.Native.Nat.{ℕ}
 use native.Mathlib.Omega.{arith}
-use borrow.Author.Rules.{rules}
-use lib.ListN.{length, take, replicate, length-set}
+use lib.ListN.{length, replicate, length-set}
 use lib.Seq.{take_all}
 use Rattle.codec.proofs.Stores.{fill_more}
 use Rattle.codec.proofs.part.fill.Goals as goal

@@ -1,11 +1,7 @@
 -- `codec::part::fill` meets its contract. The loop keeps: the first i bytes are set, and the length is as it was.
-use mathlib.Core.Path.{◌≡◌, sym, ap, ◌∙◌}
-use Prim.Native.Nat.{ℕ, ◌-◌, ◌≤◌}
-use native.Mathlib.Omega.{arith}
-use borrow.Author.Rules.{rules}
-use lib.ListN.{length, take, replicate, length-set}
-use lib.Seq.{take_all}
-use Rattle.codec.proofs.Stores.{fill_more}
+use mathlib.Core.Path.{◌≡◌}
+use Prim.Native.Nat.{◌-◌, ◌≤◌}
+use lib.ListN.{length, take, replicate}
 use Rattle.codec.proofs.part.fill.Given as goal
 
 abbrev pub invariant-loop-i : goal.invariant-loop-i

@@ -1,6 +1,5 @@
 -- `codec::part::front` meets its contract.
 use mathlib.Core.Path.{◌∙◌}
-use borrow.Author.Rules.{rules}
 use Rattle.codec.proofs.part.front.Goals as goal
 
 pub returns : goal.returns

@@ -1,8 +1,8 @@
 -- `codec::part::near` meets its contract. The loop keeps: the test of what is left is that of all from the place on.
 use mathlib.Core.Path.{◌≡◌, sym, ◌∙◌}
-use Prim.Native.Nat.{◌+◌, ◌-◌, ◌≤◌}
+use Prim.Native.Nat.{◌+◌}
 use native.Mathlib.Omega.{arith}
-use lib.ListN.{length, drop}
+use lib.ListN.{drop}
 use borrow.Author.Rules.{rules}
 use Rattle.model.specs.Bytes.{all_zero}
 use Rattle.codec.proofs.Runs.{zero_field}

@@ -1,11 +1,8 @@
 -- `codec::part::near` meets its contract. The loop keeps: the test of what is left is that of all from the place on.
-use mathlib.Core.Path.{◌≡◌, sym, ◌∙◌}
-use Prim.Native.Nat.{◌+◌, ◌-◌, ◌≤◌}
-use native.Mathlib.Omega.{arith}
+use mathlib.Core.Path.{◌≡◌}
+use Prim.Native.Nat.{◌-◌, ◌≤◌}
 use lib.ListN.{length, drop}
-use borrow.Author.Rules.{rules}
 use Rattle.model.specs.Bytes.{all_zero}
-use Rattle.codec.proofs.Runs.{zero_field}
 use Rattle.codec.proofs.part.near.Given as goal
 
 abbrev pub invariant-loop-i : goal.invariant-loop-i

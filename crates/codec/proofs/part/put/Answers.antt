@@ -1,5 +1,4 @@
 -- `codec::part::put` meets its contract.
-use borrow.Author.Rules.{rules}
 use mathlib.Core.Path.{◌≡◌}
 use Prim.Native.Nat.{◌+◌, ◌-◌}
 use lib.ListN.{length}
@@ -11,4 +10,4 @@ pub returns : goal.returns
 returns c =
     let a = c.args in
     let e : length a.src.now ≡ a.at + length a.src.now - a.at = omega arith in
-    rw c.copy.ensures (put-splice a.dst-1.now a.at _ a.src.now e)
+    rw c.copy.ensures (put-splice a.dst.now a.at _ a.src.now e)

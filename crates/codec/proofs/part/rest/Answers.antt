@@ -1,9 +1,6 @@
 -- `codec::part::rest` meets its contract. The loop keeps: the test of what is left is that of all from the place on.
-use mathlib.Core.Path.{◌≡◌, sym, ◌∙◌}
-use Prim.Native.Nat.{◌-◌, ◌≤◌}
-use lib.ListN.{length, drop}
+use mathlib.Core.Path.{sym, ◌∙◌}
 use borrow.Author.Rules.{rules}
-use Rattle.model.specs.Bytes.{all_zero}
 use Rattle.codec.proofs.Runs.{zero-on, zero-not, zero-end}
 use Rattle.codec.proofs.part.rest.Goals as goal
 

@@ -1,10 +1,8 @@
 -- `codec::part::rest` meets its contract. The loop keeps: the test of what is left is that of all from the place on.
-use mathlib.Core.Path.{◌≡◌, sym, ◌∙◌}
+use mathlib.Core.Path.{◌≡◌}
 use Prim.Native.Nat.{◌-◌, ◌≤◌}
 use lib.ListN.{length, drop}
-use borrow.Author.Rules.{rules}
 use Rattle.model.specs.Bytes.{all_zero}
-use Rattle.codec.proofs.Runs.{zero-on, zero-not, zero-end}
 use Rattle.codec.proofs.part.rest.Given as goal
 
 abbrev pub invariant-loop-i : goal.invariant-loop-i

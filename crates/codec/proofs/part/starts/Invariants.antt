@@ -1,13 +1,10 @@
 -- `codec::part::starts` meets its contract. The loop keeps: what was the same so far and the test of what is left come to the test of the
 -- whole.
-use mathlib.Core.Path.{◌≡◌, sym, ◌∙◌}
+use mathlib.Core.Path.{◌≡◌}
 use mathlib.Core.Bool.{◌&&◌}
 use Prim.Native.Nat.{◌-◌, ◌≤◌}
-use native.Mathlib.Omega.{arith}
 use lib.ListN.{length, drop}
-use borrow.Author.Rules.{rules}
 use Rattle.model.specs.Bytes.{starts_with}
-use Rattle.codec.proofs.Runs.{starts-short, starts-next, starts-end}
 use Rattle.codec.proofs.part.starts.Given as goal
 
 abbrev pub invariant-loop-i : goal.invariant-loop-i
