@@ -1,6 +1,6 @@
 -- Laws of words with weights: n words with the weights k + n to k + 1 make up the checksum's second sum and k times its
 -- first.
-use mathlib.Core.Path.{◌≡◌, refl, ◌∙◌}
+use mathlib.Core.Path.{◌≡◌, refl, ap, ◌∙◌}
 use mathlib.Core.List.{List}
 use Prim.Native.Nat.{ℕ, zero, suc, ◌+◌, ◌*◌, ◌-◌, ◌%◌, ◌≤◌}
 use native.Mathlib.Nat.{mul-le-mul_right}
@@ -44,9 +44,10 @@ weighed-split k s zero = omega arith
 weighed-split k s (suc n) =
     let w = field 2 (2 * n) s in
     let e : k + suc n ≡ suc k + n = omega arith in
-    let f : suc k + n - n ≡ suc k = omega arith in
+    let f : k + suc n - n ≡ suc k = omega arith in
     let g : w * suc k ≡ w + k * w = omega arith in
-    rw (e, f) (omega (arith, weighed-split (suc k) s n))
+    let h : weighed (k + suc n) s n ≡ high s n + suc k * low s n = ap (λ (x : ℕ). weighed x s n) e ∙ weighed-split (suc k) s n in
+    rw f (omega (arith, h))
 
 -- ---- the checksum
 
