@@ -82,7 +82,7 @@ demo-check: scan-program
 	    && ./target/bin/scan < target/visit.vol 2>&1 | diff - <(echo REFUSED 23)
 
 # make library            the store for C: target/libpagestore.a, the proved functions and the plain C of lib/
-# make c-test             the C functions: K6 to K12, every refusal, full and random volumes, the stack, what is const
+# make c-test             the C functions: K6 to K12, every refusal, full, smallest and random volumes, the stack they take
 # make example-check      the program that docs/C.md quotes, on the sample volume, against what it must print
 # make guide-check        the program of docs/C.md, compiled and run as it stands there
 .PHONY: library c-test c-sanitized example-check guide-check
@@ -108,32 +108,13 @@ c-test: library
 	@$(call C_TEST,store,tests/c/box.c tests/c/volume.c)
 	@$(call C_TEST,cases,tests/c/box.c tests/c/volume.c)
 	@$(call C_TEST,upkeep,tests/c/box.c tests/c/volume.c)
-	@$(call C_TEST,mend,tests/c/box.c tests/c/volume.c)
 	@$(call C_TEST,stack,tests/c/painted.c tests/c/box.c tests/c/volume.c)
-	@$(MAKE) --no-print-directory const-test c-sanitized
-
-# Every function with what is const on pages that cannot be written, on scripts of calls; a call that writes must fault.
-.PHONY: const-program const-test try-check
-CC_CONST = $(CC_TEST) -Itarget/c tests/c/const_test.c
-const-program: library
-	@python3 tools/replay.py table target/c/calls.h
-	@$(CC_CONST) $(LIBRARY) -o target/c/const_test
-
-const-test: const-program
-	@python3 tools/replay.py scripts target/c/scripts
-	@./target/c/const_test target/c/scripts/*.script
-	@$(CC_CONST) tests/c/const_planted.c -Wl,--wrap=pagestore_room $(LIBRARY) -o target/c/const_planted
-	@! ./target/c/const_planted target/c/scripts/*.script 2> target/c/const_planted.txt
-	@grep -q '^FAILED pagestore_room: wrote to what is const' target/c/const_planted.txt
-
-# make try-check          the functions for C on the interpreter and compiled three ways (rt try), and by the library
-try-check: const-program
-	@python3 tools/replay.py try target/c/const_test target/try
+	@$(MAKE) --no-print-directory c-sanitized
 
 # The header as C++, and the store's tests with the caller's side sanitized.
 c-sanitized: library
 	@echo '#include "pagestore.h"' | g++ -Wall -Wextra -Wpedantic -Werror -std=c++11 -Iinclude -x c++ -fsyntax-only -
-	@for test in store cases upkeep mend; do \
+	@for test in store cases upkeep; do \
 	    $(CC_TEST) -g -fsanitize=address,undefined -fno-sanitize-recover=all tests/c/$${test}_test.c tests/c/box.c \
 	        tests/c/volume.c $(LIBRARY) -o target/c/$${test}_sanitized && ./target/c/$${test}_sanitized | tail -1 \
 	        || exit 1; \
@@ -154,20 +135,18 @@ guide-check: library
 	@sed -n '/^    gcc .*guide/,/^$$/p' docs/C.md | sed '1d;$$d;s/^    //' | diff target/c/guide.txt -
 
 # make torture            the store in a file, killed, cut and damaged, against an abstract log; ROUNDS=300, SEED=1,
-#                         MODE=upkeep: small rings, and no call may be refused for room; MODE=mend: mended and
-#                         scrubbed, one image damaged in two changes, and no page may be lost
+#                         MODE=upkeep: small rings, and no call may be refused for room
 # make torture-check      300 rounds of it, failing calls of the system, both sanitized too, faults planted in the layer
 # make ward-check         docs/C.md's story of examples/ward.c, word by word
 .PHONY: torture torture-check torture-program ward-check
 ROUNDS ?= 300
 SEED ?= 1
-CC_FILE = $(CC_TEST) -pthread -Ilib -Wl,--wrap=pwrite,--wrap=fdatasync,--wrap=fsync,--wrap=posix_fadvise \
-    -Wl,--wrap=flock,--wrap=fstatvfs
+CC_FILE = $(CC_TEST) -pthread -Ilib -Wl,--wrap=pwrite,--wrap=fdatasync,--wrap=fsync,--wrap=posix_fadvise
 SANITIZED = -g -fsanitize=address,undefined -fno-sanitize-recover=all
 # a file system without a disk, where syncs cost nothing
 ROOM = $(if $(wildcard /dev/shm),/dev/shm,/tmp)
-TORTURE = $(wildcard tests/c/torture*.c) $(patsubst %,tests/c/%.c,caller abstract_log harm disk volume)
-FILE_TEST = $(wildcard tests/c/file_*.c) tests/c/disk.c tests/c/volume.c
+TORTURE = $(patsubst %,tests/c/%.c,torture caller abstract_log harm disk volume)
+FILE_TEST = $(patsubst %,tests/c/%.c,file_test file_faults file_upkeep disk volume)
 
 torture-program: library
 	@$(CC_FILE) $(TORTURE) $(LIBRARY) -o target/c/torture
@@ -178,19 +157,15 @@ torture: torture-program
 torture-check: torture-program
 	@$(CC_FILE) $(FILE_TEST) $(LIBRARY) -o target/c/file_test
 	@./target/c/file_test
-	@$(CC_FILE) $(SANITIZED) $(FILE_TEST) lib/*.c $(LIBRARY) -o target/c/file_test_sanitized
+	@$(CC_FILE) $(SANITIZED) $(FILE_TEST) lib/pagestore_file.c $(LIBRARY) -o target/c/file_test_sanitized
 	@./target/c/file_test_sanitized $(ROOM)
-	@$(CC_FILE) $(SANITIZED) $(TORTURE) lib/*.c $(LIBRARY) -o target/c/torture_sanitized
+	@$(CC_FILE) $(SANITIZED) $(TORTURE) lib/pagestore_file.c $(LIBRARY) -o target/c/torture_sanitized
 	@./target/c/torture_sanitized 300 2 $(ROOM) | tail -1
-	@./target/c/torture_sanitized 300 2 $(ROOM) mend | tail -1
 	@echo '#include "pagestore_file.h"' | g++ -Wall -Wextra -Werror -std=c++11 -Iinclude -Ilib -fsyntax-only -x c++ -
 	@python3 tests/planted_faults.py $(ROOM) $(CC_FILE) $(LIBRARY)
 	@./target/c/torture 300 1 $(ROOM)
 	@./target/c/torture 2000 1 $(ROOM) upkeep
-	@./target/c/torture 1000 1 $(ROOM) mend
 
-WARD_LOCKED = (the file is locked at page 1, which is not lost: copy all pages to a new file)
-WARD_LOST = (page 1 is lost: copy the other pages to a new file)
 ward-check: library
 	@python3 tests/ward.py
 	@$(MAKE) --no-print-directory install PREFIX=target/c/installed
@@ -199,9 +174,6 @@ ward-check: library
 	@rm -f target/c/ward.vol && ./target/c/ward target/c/ward.vol new && ./target/c/ward target/c/ward.vol say 1 line \
 	    && ./target/c/ward target/c/ward.vol read 1 | diff - <(echo line)
 	@! ./target/c/ward target/c/ward.vol new 2> /dev/null && ! ./target/c/ward target/c/none.vol read 1 2> /dev/null
-	@$(CC_TEST) -Ilib tests/c/ward_files.c $(LIBRARY) -o target/c/ward_files && ./target/c/ward_files target/c
-	@./target/c/ward target/c/locked.vol read 1 2>&1 | diff - <(echo "$(WARD_LOCKED)" && echo line)
-	@{ ./target/c/ward target/c/lost.vol read 1 2>&1 || true; } | sed 1q | diff - <(echo "$(WARD_LOST)")
 
 # make tool               the field engineer's tool: target/bin/pagestore, static
 # make tool-check         every command, status, sentence, JSON name; 10,000 mutated files, sanitized; the pictures
@@ -210,8 +182,6 @@ TOOL = target/bin/pagestore
 TOOL_PARTS = $(filter-out tool/main.c,$(wildcard tool/*.c))
 # the sanitized tool has what is C of the library compiled along with it
 CC_SANITIZED = $(CC_TEST) -Ilib $(SANITIZED) $(TOOL_PARTS) lib/*.c
-# .. and faults that its tests ask for
-TOOL_FAULTS = -Wl,--wrap=read,--wrap=fsync,--wrap=flock tests/tool/faults.c
 MUTANTS ?= 10000
 tool: library
 	@mkdir -p target/bin
@@ -220,7 +190,7 @@ tool: library
 tool-check: tool
 	@python3 tests/tool/tool_test.py $(TOOL)
 	@for name in demo turned; do $(TOOL) map samples/$$name.vol -o - | diff -q - samples/$$name.svg || exit 1; done
-	@$(CC_SANITIZED) $(TOOL_FAULTS) tool/main.c $(LIBRARY) -o target/c/pagestore_sanitized
+	@$(CC_SANITIZED) tool/main.c $(LIBRARY) -o target/c/pagestore_sanitized
 	@python3 tests/tool/tool_test.py target/c/pagestore_sanitized
 	@$(CC_SANITIZED) tests/tool/mutants.c $(LIBRARY) -o target/c/mutants
 	@./target/c/mutants $(MUTANTS) 1 $(ROOM) samples/*.vol
@@ -250,14 +220,12 @@ dist: tool
 	@echo $(BUNDLE)
 
 dist-check: lesson-check
+	@command -v pkg-config > /dev/null || { echo "dist-check wants the Debian package pkg-config"; exit 2; }
 	@$(MAKE) --no-print-directory dist > /dev/null && mv $(BUNDLE) target/first.tar.gz && rm -f $(TOOL) $(LIBRARY)
 	@$(MAKE) --no-print-directory dist > /dev/null && cmp $(BUNDLE) target/first.tar.gz
 	@python3 tests/tool/dist_test.py $(BUNDLE)
-	@PKG_CONFIG=pkg-config-that-is-missing python3 tests/tool/dist_test.py $(BUNDLE) > target/c/skipped.txt
-	@grep -q '^skipped: ' target/c/skipped.txt
 	@rm -rf target/installed && $(MAKE) --no-print-directory install DESTDIR=target/installed PREFIX=/usr
 	@./target/installed/usr/bin/pagestore show samples/demo.vol 4 | grep -q "06:10 bed 4 moved"
-	@cmp docs/UPKEEP.md target/installed/usr/share/doc/pagestore/UPKEEP.md
 	@$(MAKE) --no-print-directory uninstall DESTDIR=target/installed PREFIX=/usr
 	@test -z "$$(find target/installed -type f -o -path '*pagestore*')"
 
@@ -323,13 +291,6 @@ AGAINST = cd reference/against && cargo run --release --offline --quiet --target
 against: library
 	@$(AGAINST) against_inspect
 	@$(AGAINST) against_store
-
-# make scan-against       the program `scan` against the second implementation's, on samples and generated volumes
-.PHONY: scan-against
-RELEASED = reference/target/release
-scan-against: scan-program
-	@cd reference && cargo build -q --release --offline
-	@python3 tools/scan_against.py target/bin/scan $(RELEASED)/scan $(RELEASED)/volumes
 
 bench-program: library
 	@$(STATICLIB) bench_calls

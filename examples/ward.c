@@ -1,7 +1,7 @@
 /* A ward's handover, a thread on each of eight pages, in one file:
  *
  *     ward FILE new               makes the file
- *     ward FILE say PAGE "text"   puts a line after the last one; says kept once it is on the disk
+ *     ward FILE say PAGE "text"   puts a line behind the last one; says kept once it is on the disk
  *     ward FILE read PAGE         the whole thread, oldest line first
  *
  * A line ends with a newline, which is stored with its last bytes: a line that a cut left half is not shown, and the
@@ -15,35 +15,27 @@
 #include <unistd.h>
 
 enum { PAGES = 8, SLOTS = 9, RECORDS = 1024, NOTES = 1024 };
-/* the page that is read or written is in the first frame, the second one is left to upkeep and mending */
-enum { OWN = 1, SPARE = 2, FRAMES = 2 };
-enum { NEXT = 0, ALL = 1 };
+enum { OWN = 1, SPARE = 2, FRAMES = 2 }; /* the page that is read or written is in the first, the second is upkeep's */
 
 /* Tells what an answer means; gives the exit status. */
 static int failed(const char *what, int answer) {
-    fprintf(stderr, "%s: %s\n", what, pagestore_file_strerror(answer));
+    fprintf(stderr, "%s: %s\n", what, answer < 0 ? strerror(-answer) : pagestore_text((uint32_t)answer));
     return 1;
 }
 
-/* Mending, and upkeep with it: of all pages after the open, of the next one in turn before every other call of ours.
- * Where a page is lost, or upkeep is stuck at one, the file will take no more lines in the end; until then we go on. */
-static int mend(struct pagestore_file *file, int all) {
-    int answer = all ? pagestore_file_mend(file, SPARE, 0) : pagestore_file_mend_next(file, SPARE);
-    unsigned page = (unsigned)pagestore_file_report(file)[PAGESTORE_REPORT_PAGE];
-    if (answer == (int)PAGESTORE_PAGE_LOST) {
-        fprintf(stderr, "(page %u is lost: copy the other pages to a new file)\n", page);
-        return 0;
-    }
-    if (answer == (int)PAGESTORE_LOCKED) {
-        fprintf(stderr, "(the file is locked at page %u, which is not lost: copy all pages to a new file)\n", page);
-        return 0;
-    }
-    return answer == (int)PAGESTORE_SINGLE || answer == (int)PAGESTORE_NO_ROOM ? 0 : answer;
+/* Upkeep, before every call of ours: then none is refused for room, however long the file is used. A page that it is
+ * stuck at is lost, and in the end the file with it; until then the others go on. */
+static int upkeep(struct pagestore_file *file) {
+    int answer = pagestore_file_upkeep(file, SPARE);
+    if (answer != (int)PAGESTORE_PAGE_LOST) return answer;
+    fprintf(stderr, "(page %u is lost: copy the other pages to a new file)\n",
+            (unsigned)pagestore_file_report(file)[PAGESTORE_REPORT_PAGE]);
+    return 0;
 }
 
-/* Brings the page into its frame; upkeep or mending may have it in the other. */
+/* Brings the page into its frame; upkeep may have it in the other. */
 static int bring_in(struct pagestore_file *file, uint32_t page) {
-    int answer = mend(file, ALL);
+    int answer = upkeep(file);
     if (answer == 0 && pagestore_file_text(file, page) != NULL) answer = pagestore_file_release(file, page);
     return answer == 0 ? pagestore_file_load(file, page, OWN) : answer;
 }
@@ -61,7 +53,7 @@ static int put_line(struct pagestore_file *file, uint32_t page, uint32_t offset,
     for (uint32_t done = 0, n; done < length; done += n) {
         if (done > 0 && pause != NULL) sleep((unsigned)atoi(pause));
         n = length - done < PAGESTORE_PAYLOAD_MAX ? length - done : PAGESTORE_PAYLOAD_MAX;
-        int answer = mend(file, NEXT);
+        int answer = upkeep(file);
         if (answer == 0)
             answer = pagestore_file_change(file, page, PAGESTORE_PUT, offset + done, n, 0, (const uint8_t *)line + done,
                                            n);
@@ -71,10 +63,10 @@ static int put_line(struct pagestore_file *file, uint32_t page, uint32_t offset,
     return 0;
 }
 
-/* Stores the page's image, so that the next load is short; upkeep and mending make the backups. The line is kept
- * already: where this fails nothing is lost. */
+/* Stores the page's image, so that the next load is short; backups are upkeep's. The line is kept already: where this
+ * fails nothing is lost. */
 static void tidy(struct pagestore_file *file, uint32_t page) {
-    if (mend(file, NEXT) == 0 && pagestore_file_write(file, page) == 0) pagestore_file_note(file);
+    if (upkeep(file) == 0 && pagestore_file_write(file, page) == 0) pagestore_file_note(file);
 }
 
 static int say(struct pagestore_file *file, uint32_t page, const char *text) {

@@ -2,8 +2,7 @@
  *
  * Link with target/libpagestore.a, which `make library` writes (for x86-64). All functions but pagestore_text,
  * pagestore_version and the two inline ones are proved, for every input: each ends, touches no byte outside the buffers
- * that it is lent, leaves those that are const here as they were, and answers exactly as docs/FORMAT.md says. Tested,
- * not proved: no call writes to a const one even in between (tests/c/const_test.c, on pages that cannot be written).
+ * that it is lent, never writes to one that is const here, and answers exactly as docs/FORMAT.md says.
  *
  * The caller guarantees what C cannot check: `volume` points to `volume_len` bytes, readable and, where it is not
  * const, writable, and likewise the others (lengths of uint32_t arrays count numbers, not bytes); no two overlap;
@@ -160,9 +159,8 @@ uint32_t pagestore_counts(const uint8_t *volume, size_t volume_len, uint32_t *co
 #define PAGESTORE_FROM_BACKUP 2u           /* from its noted backup */
 #define PAGESTORE_FROM_FORMAT 3u           /* from its newest format in the log */
 
-/* The body of the page in a frame, 1 to F: PAGESTORE_BODY_SIZE bytes. NULL for frame 0 and above 16. */
+/* The body of the page in a frame, 1 to F: PAGESTORE_BODY_SIZE bytes. */
 static inline const uint8_t *pagestore_body(const uint8_t *memory, uint32_t frame) {
-    if (frame == 0 || frame > PAGESTORE_FRAMES_MAX) return NULL;
     return memory + PAGESTORE_MEMORY_SIZE((size_t)frame - 1) + PAGESTORE_IMAGE_BODY;
 }
 
@@ -270,25 +268,6 @@ uint32_t pagestore_upkeep(const uint8_t *volume, size_t volume_len, const uint8_
                           const uint32_t *state, size_t state_len, uint32_t frame, uint32_t *report,
                           size_t report_len);
 
-/* ---- mending: which call gives a page both of its starts again ---- */
-
-/* What mending says of a page (docs/UPKEEP.md, Mending), by upkeep's places, asked where upkeep has nothing to do:
- * which of the six it is, and the call to make. A page has two starts: its noted backup, and its own image or a format
- * in the log. Make the call, follow upkeep until it has nothing to do, and ask again. Where the volume is no ring, and
- * so no record ever leaves the log, every page is whole. */
-#define PAGESTORE_MEND_WHOLE 0u            /* both starts, the second for L/4 more records; or no durable change */
-#define PAGESTORE_MEND_CALL 1u             /* make that call */
-#define PAGESTORE_MEND_FULL 2u             /* no slot, note or record is left for it */
-#define PAGESTORE_MEND_SINGLE 3u           /* one start, and too few notes or records to keep a second one */
-#define PAGESTORE_MEND_LOST 4u             /* its load is refused PAGE_LOST, and no frame holds it */
-#define PAGESTORE_MEND_AHEAD 5u            /* its image is newer than the log: the log has lost a confirmed change */
-
-/* Writes it, PAGESTORE_UPKEEP_SIZE numbers; `frame` is the one that is left to upkeep. BAD_VOLUME, BAD_BUFFER,
- * NO_SUCH_PAGE, NO_SUCH_FRAME. */
-uint32_t pagestore_mend(const uint8_t *volume, size_t volume_len, const uint8_t *memory, size_t memory_len,
-                        const uint32_t *state, size_t state_len, uint32_t frame, uint32_t page, uint32_t *report,
-                        size_t report_len);
-
 /* ---- what only reads ---- */
 
 /* Rebuilds page `page` of the volume from its durable log records into the buffer, PAGESTORE_IMAGE_SIZE bytes, checksum
@@ -367,11 +346,8 @@ uint32_t pagestore_note_at(const uint8_t *volume, size_t volume_len, uint32_t sl
 uint32_t pagestore_slot(const uint8_t *volume, size_t volume_len, uint32_t slot, uint32_t *fields, size_t fields_len);
 
 /* How many images of pages and backups fail in their place, under each sum that the heading allows, by the state that a
- * restart or a call gave: one number, in the report. BAD_VOLUME, BAD_BUFFER. No memory is lent: a state is sound here
- * if it is so with 16 frames, the most that a memory has. */
-#define PAGESTORE_FAILING_SIZE 1u
-uint32_t pagestore_failing(const uint8_t *volume, size_t volume_len, const uint32_t *state, size_t state_len,
-                           uint32_t *report, size_t report_len);
+ * restart or a call gave; 0 where the volume or the state's length is wrong. */
+uint32_t pagestore_failing(const uint8_t *volume, size_t volume_len, const uint32_t *state, size_t state_len);
 
 #ifdef __cplusplus
 }

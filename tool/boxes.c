@@ -37,22 +37,20 @@ static void put_first_line(struct picture *m, const uint8_t *body, int x, int y)
     put(m, "</text></svg>");
 }
 
-static const char *page_look(const struct subject *x, uint32_t page) {
-    enum need need = x->v->need[page];
-    if (need == IS_LOST || need == IS_AHEAD) {
-        return "lost";
+static const char *page_look(const struct page *p) {
+    if (p->answer == PAGESTORE_BLANK_PAGE) {
+        return "blank";
     }
-    return x->v->page[page].answer == PAGESTORE_BLANK_PAGE ? "blank" : need == NEEDS_NOTHING ? "good" : "mended";
+    return p->answer != PAGESTORE_OK ? "lost" : is_good(p) ? "good" : "mended";
 }
 
-static void draw_page(struct picture *m, const struct subject *s, uint32_t page, int x, int y) {
-    const struct page *p = &s->v->page[page];
+static void draw_page(struct picture *m, const struct page *p, uint32_t page, int x, int y) {
     char title[160];
     snprintf(title, sizeof title, "page %u: %s", page,
-             p->answer == PAGESTORE_OK ? page_word(s, page) : pagestore_text(p->answer));
-    struct box b = {x, y, PAGE_WIDTH, PAGE_HEIGHT, page_look(s, page), title};
+             p->answer == PAGESTORE_OK ? page_word(p) : pagestore_text(p->answer));
+    struct box b = {x, y, PAGE_WIDTH, PAGE_HEIGHT, page_look(p), title};
     open_box(m, &b);
-    put(m, "<text x=\"%d\" y=\"%d\" class=\"word\">%u  %s</text>", x + 6, y + 17, page, page_word(s, page));
+    put(m, "<text x=\"%d\" y=\"%d\" class=\"word\">%u  %s</text>", x + 6, y + 17, page, page_word(p));
     if (p->answer == PAGESTORE_OK) {
         put(m, "<text x=\"%d\" y=\"%d\">from %s + %u</text>", x + 6, y + 34, start_word(p->start), p->count);
         put_first_line(m, p->image + PAGESTORE_IMAGE_BODY, x, y + 42);
@@ -63,7 +61,8 @@ static void draw_page(struct picture *m, const struct subject *s, uint32_t page,
 void draw_pages(struct picture *m, const struct subject *x) {
     put_head(m, "Pages");
     for (uint32_t i = 0; i < x->g->pages; i++) {
-        draw_page(m, x, i + 1, column(i, PAGE_COLUMNS, PAGE_WIDTH), m->y + row(i, PAGE_COLUMNS, PAGE_HEIGHT));
+        struct page p = examine(x->in, i + 1);
+        draw_page(m, &p, i + 1, column(i, PAGE_COLUMNS, PAGE_WIDTH), m->y + row(i, PAGE_COLUMNS, PAGE_HEIGHT));
     }
     m->y += rows(x->g->pages, PAGE_COLUMNS, PAGE_HEIGHT);
 }
@@ -77,18 +76,12 @@ static uint32_t owner(const struct subject *x, uint32_t slot) {
     return page <= x->g->pages ? page : 0;
 }
 
-/* Whether the slot holds that page's image with that number. */
-static bool slot_passes(const struct subject *x, uint32_t slot, uint32_t page, uint32_t lsn) {
-    uint32_t f[PAGESTORE_FIELDS_SIZE] = {0};
-    pagestore_slot(VOLUME(x->in), slot, f, PAGESTORE_FIELDS_SIZE);
-    return f[0] == WHOLE_SLOT && f[1] == page && f[2] == lsn;
-}
-
 static void draw_slot(struct picture *m, const struct subject *x, uint32_t slot, int left, int top) {
-    uint32_t page = owner(x, slot);
+    uint32_t fields[PAGESTORE_FIELDS_SIZE] = {0}, page = owner(x, slot);
     uint32_t lsn = page != 0 ? index_entry(x->s, page).backup : 0;
     char title[120] = "free", words[60] = "free";
-    bool passes = page != 0 && slot_passes(x, slot, page, lsn);
+    pagestore_slot(VOLUME(x->in), slot, fields, PAGESTORE_FIELDS_SIZE);
+    bool passes = fields[0] == WHOLE_SLOT && fields[1] == page && fields[2] == lsn;
     if (page != 0) {
         snprintf(words, sizeof words, "page %u at %u", page, lsn);
         snprintf(title, sizeof title, "backup of page %u as of record %u: %s", page, lsn, passes ? "passes" : "fails");
@@ -96,10 +89,7 @@ static void draw_slot(struct picture *m, const struct subject *x, uint32_t slot,
     struct box b = {left, top, SLOT_WIDTH, SLOT_HEIGHT, page == 0 ? "empty" : passes ? "good" : "lost", title};
     open_box(m, &b);
     put(m, "<text x=\"%d\" y=\"%d\">slot %u%s</text><text x=\"%d\" y=\"%d\">%s</text>", left + 6, top + 15, slot,
-        page == 0 ? ""
-        : passes  ? ": PASSES"
-                  : ": FAILS",
-        left + 6, top + 31, words);
+        page == 0 ? "" : passes ? ": PASSES" : ": FAILS", left + 6, top + 31, words);
     close_box(m);
 }
 

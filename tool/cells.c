@@ -28,6 +28,11 @@ static void end_cells(struct picture *m, uint32_t count) {
     m->y += (int)((count + COLUMNS - 1) / COLUMNS) * CELL_HEIGHT;
 }
 
+/* Log and notes are rings: what is not needed may be overwritten. Else nothing ever is. */
+static bool is_ring(const struct geometry *g) {
+    return g->heading == PAGESTORE_HEADING_SECOND && g->records >= 2;
+}
+
 /* A slot that holds nothing whole. */
 static struct cell bare_cell(const char *what, uint32_t slot, uint32_t is) {
     struct cell c = {"", "", is == TORN_SLOT ? "torn" : "empty"};

@@ -15,7 +15,7 @@ static void print_pages(const uint32_t *report, bool json) {
 static int whole_history(const struct input *in) {
     uint8_t none[1];
     uint32_t answer = pagestore_archive_write(VOLUME(in), none, 0);
-    return answer == PAGESTORE_BAD_LENGTH ? ALL_WELL : say_refused_of(in, answer);
+    return answer == PAGESTORE_BAD_LENGTH ? ALL_WELL : say_refused(in->name, answer);
 }
 
 static int open_history(struct input *in, const char *name) {
@@ -35,7 +35,7 @@ int run_compare(const struct request *r) {
     }
     uint32_t answer = pagestore_compare(VOLUME(&first), VOLUME(&second), report, PAGESTORE_COMPARE_SIZE);
     if (answer != PAGESTORE_OK) {
-        return say_refused_of(&first, answer);
+        return say_refused(first.name, answer);
     }
     uint32_t kind = report[PAGESTORE_COMPARE_KIND], number = report[PAGESTORE_COMPARE_NUMBER];
     const char *word = words[kind <= PAGESTORE_LOGS_DIFFER ? kind : 0];

@@ -9,9 +9,6 @@
 #include <sys/stat.h>
 #include <unistd.h>
 
-/* How many readings --live takes before it gives up. */
-enum { LIVE_READINGS = 200 };
-
 /* Reads until the end or until the buffer is full. */
 static int fill(struct input *in, int from) {
     in->length = 0;
@@ -28,92 +25,23 @@ static int fill(struct input *in, int from) {
     return say(in->name, "longer than the largest volume (131,092 bytes)");
 }
 
-/* Reads until two readings in a row are the same. The second follows at once: a server at full speed leaves no longer
- * pauses; where they differ it is let go on for a moment. */
-static int fill_settled(struct input *in, int from) {
-    static uint8_t before[sizeof in->bytes];
-    size_t length = 0;
-    for (int i = 0; i < LIVE_READINGS; i++) {
-        int status = fill(in, from);
-        if (status != ALL_WELL) {
-            return status;
-        }
-        if (in->length == length && memcmp(before, in->bytes, length) == 0) {
-            return ALL_WELL;
-        }
-        memcpy(before, in->bytes, in->length);
-        length = in->length;
-        if (lseek(from, 0, SEEK_SET) != 0) {
-            return say_error(in->name);
-        }
-        if (i % 2 == 1) {
-            wait_milliseconds(1 + i % 5);
-        }
-    }
-    say(in->name, "no two readings in a row agree: its server writes too fast; stop it, or try again");
-    return SYSTEM_FAILED;
-}
-
-/* What is made from the file belongs to the same people; what came by a pipe, to whoever runs the tool. */
-static void note_access(struct input *in, const struct stat *about) {
-    bool plain = S_ISREG(about->st_mode);
-    in->mode = plain ? about->st_mode & 0666 : 0600;
-    in->owner = plain ? about->st_uid : (uid_t)-1;
-    in->group = plain ? about->st_gid : (gid_t)-1;
-}
-
-/* What is done with a volume that a server holds, in the command that runs. */
-static enum in_use if_in_use = PICTURE;
-
-void set_in_use(enum in_use what) {
-    if_in_use = what;
-}
-
-/* Whether the command takes the file as it is; ALL_WELL, or the status with the cause said. What is held is to be
- * replaced by what is made from it: only by commands that give a volume for a volume. */
-static int may_read(const struct input *in, bool standard, bool held) {
-    if (held && if_in_use != STOPPED_ONLY) {
-        return say(in->name, "the output would replace it: give -o another name");
-    }
-    if (in->in_use && if_in_use == AGREED_ONLY) {
-        return say(in->name, "in use by a running server: stop it, or say --live");
-    }
-    if (in->in_use && if_in_use == STOPPED_ONLY) {
-        return say(in->name, "in use by a running server: stop it first");
-    }
-    return standard && if_in_use == AGREED ? say(in->name, "--live reads a file twice: give its name") : ALL_WELL;
-}
-
-static int read_open(struct input *in, int from, bool standard) {
-    struct stat about;
-    if (fstat(from, &about) < 0) {
-        return say_error(in->name);
-    }
-    if (S_ISDIR(about.st_mode)) {
-        say(in->name, "a directory, and not a file");
-        return SYSTEM_FAILED;
-    }
-    note_access(in, &about);
-    bool held = is_held(from);
-    in->in_use = !standard && !held && is_in_use(from);
-    int status = may_read(in, standard, held);
-    if (status != ALL_WELL) {
-        return status;
-    }
-    if (in->in_use && if_in_use == PICTURE) {
-        say(in->name, "in use by a running server: this is a moment's picture; --live reads until two readings agree");
-    }
-    return if_in_use == AGREED ? fill_settled(in, from) : fill(in, from);
-}
-
 int read_input(struct input *in, const char *name) {
     bool standard = strcmp(name, "-") == 0;
+    struct stat about;
     in->name = standard ? "standard input" : name;
     int from = standard ? STDIN_FILENO : open(name, O_RDONLY | O_CLOEXEC);
     if (from < 0) {
         return say_error(name);
     }
-    int status = read_open(in, from, standard);
+    int status = SYSTEM_FAILED;
+    if (fstat(from, &about) < 0) {
+        say_error(in->name);
+    } else if (S_ISDIR(about.st_mode)) {
+        say(in->name, "a directory, and not a file");
+    } else {
+        in->mode = about.st_mode & 0666;
+        status = fill(in, from);
+    }
     if (!standard) {
         close(from); /* it was only read: nothing can be lost here */
     }
@@ -128,7 +56,7 @@ int open_volume(struct input *in, struct geometry *g, const char *name) {
     }
     uint32_t answer = pagestore_counts(VOLUME(in), c, PAGESTORE_COUNTS_SIZE);
     if (answer != PAGESTORE_OK) {
-        return say_refused_of(in, answer);
+        return say_refused(in->name, answer);
     }
     *g = (struct geometry){c[PAGESTORE_COUNTS_HEADING], c[PAGESTORE_COUNTS_PAGES], c[PAGESTORE_COUNTS_SLOTS],
                            c[PAGESTORE_COUNTS_RECORDS], c[PAGESTORE_COUNTS_NOTES]};
@@ -138,7 +66,7 @@ int open_volume(struct input *in, struct geometry *g, const char *name) {
 int restart(struct store *s, const struct input *in) {
     memset(s, 0, sizeof *s);
     uint32_t answer = pagestore_restart(VOLUME(in), MEMORY(s), STATE(s));
-    return answer == PAGESTORE_OK ? ALL_WELL : say_refused_of(in, answer);
+    return answer == PAGESTORE_OK ? ALL_WELL : say_refused(in->name, answer);
 }
 
 int open_store(struct input *in, struct geometry *g, struct store *s, const char *name) {
@@ -166,6 +94,11 @@ struct page examine(const struct input *in, uint32_t page) {
     p.start = report[PAGESTORE_REPORT_START];
     p.count = report[PAGESTORE_REPORT_COUNT];
     return p;
+}
+
+/* Nothing is to be mended: the page's image is Good, or the page is blank. */
+bool is_good(const struct page *p) {
+    return p->answer == PAGESTORE_BLANK_PAGE || (p->answer == PAGESTORE_OK && p->class == PAGESTORE_GOOD);
 }
 
 struct record record_in(const struct input *in, uint32_t slot) {

@@ -5,7 +5,6 @@
 
 int main(int argc, char **argv) {
     guard_descriptors();
-    guard_signals();
     signal(SIGPIPE, SIG_IGN); /* a reader that went away is a failed write, and told as one */
     int status = run_command(argc - 1, argv + 1);
     int closed = close_output();

@@ -54,13 +54,8 @@ void close_box(struct picture *m) {
     put(m, "</g>\n");
 }
 
-/* The class; one that fails because nothing was ever stored there has its own word. */
-const char *page_word(const struct subject *x, uint32_t page) {
-    const struct page *p = &x->v->page[page];
-    if (p->answer != PAGESTORE_OK) {
-        return p->answer == PAGESTORE_BLANK_PAGE ? "BLANK" : "LOST";
-    }
-    return p->class == PAGESTORE_FAILED && !x->v->written[page] ? "UNWRITTEN" : class_word(p->class);
+const char *page_word(const struct page *p) {
+    return p->answer == PAGESTORE_OK ? class_word(p->class) : p->answer == PAGESTORE_BLANK_PAGE ? "BLANK" : "LOST";
 }
 
 /* The file's name without its directories. */
@@ -79,14 +74,10 @@ static void put_description(struct picture *m, const struct subject *x) {
     put_name(m, x);
     put(m, "</title>\n<desc id=\"desc\">");
     for (uint32_t page = 1; page <= x->g->pages; page++) {
-        put(m, "Page %u %s. ", page, page_word(x, page));
+        struct page p = examine(x->in, page);
+        put(m, "Page %u %s. ", page, page_word(&p));
     }
-    put(m, "State: %s. ", state_word(x->v->state));
-    struct room_lines room = room_lines(x->v, x->in, x->g, x->s);
-    for (int i = 0; i < room.count; i++) {
-        put(m, "%s: %s. ", room.line[i].label, room.line[i].words);
-    }
-    put(m, "</desc>\n");
+    put(m, "%s. %s.</desc>\n", x->room[0], x->room[1]);
 }
 
 static void put_style(struct picture *m) {
@@ -102,14 +93,6 @@ static void put_style(struct picture *m) {
            "stroke=\"#777\"/></pattern></defs>\n");
 }
 
-static void put_room(struct picture *m, const struct subject *x) {
-    struct room_lines room = room_lines(x->v, x->in, x->g, x->s);
-    for (int i = 0; i < room.count; i++) {
-        m->y += 18;
-        put(m, "<text x=\"%d\" y=\"%d\">%s: %s.</text>\n", MARGIN, m->y, room.line[i].label, room.line[i].words);
-    }
-}
-
 static void put_top(struct picture *m, const struct subject *x) {
     const struct geometry *g = x->g;
     put(m, "<rect width=\"100%%\" height=\"100%%\" style=\"stroke:none\"/>\n<text x=\"%d\" y=\"36\" class=\"name\">",
@@ -120,25 +103,23 @@ static void put_top(struct picture *m, const struct subject *x) {
         "heading%s.</text>\n",
         MARGIN, g->pages, g->slots, g->records, g->notes, heading_word(g->heading),
         g->heading == PAGESTORE_HEADING_SECOND ? ", that of today's volumes" : ", that of an older box: convert it");
-    char text[WORDS_SIZE];
-    say_text(text, x->v, g);
-    put(m, "<text x=\"%d\" y=\"76\" class=\"word\">state: %s</text>\n<text x=\"%d\" y=\"94\">text: %s.</text>\n",
-        MARGIN, state_word(x->v->state), MARGIN, text);
-    m->y = 94;
-    put_room(m, x);
+    put(m, "<text x=\"%d\" y=\"76\">%s.</text>\n<text x=\"%d\" y=\"94\">%s.</text>\n", MARGIN, x->room[0], MARGIN,
+        x->room[1]);
+    m->y = 96;
 }
 
 static void put_legend(struct picture *m) {
     static const char *const lines[] = {
         "Pages: the number and the class; what a reading starts from + how many log records it replays; the first line "
-        "of the text.",
-        "Thin frame: nothing is to be mended. Thick frame: it needs repair, or one copy is left. Heaviest frame: LOST, "
-        "or AHEAD of the log. Dashed: BLANK.",
-        "UNWRITTEN: FAILED, since no image was ever stored there; that is no damage.",
+        "of the text. Thin frame: GOOD.",
+        "Thick frame: BEHIND, STALE, FAILED or AHEAD: the text is safe, the image on disk is not up to date or is "
+        "damaged. "
+        "Heaviest frame: LOST. Dashed: BLANK.",
         "Backup slots: whose backup, as of which log record. PASSES or FAILS is its check. Dashed: free.",
         "Log and notes: a box a slot, row by row, with its page (W: page written, B: page backed up). Thick frame, "
-        "bold: needed. Thin: spare, may be overwritten.",
-        "Hatched, x: it fails its check. Dashed: empty. Black corner: the next record or note goes here.",
+        "bold: "
+        "needed. Thin: spare, may be overwritten.",
+        "Hatched, x: torn. Dashed: empty. Black corner: the next record or note goes here.",
     };
     put_head(m, "Legend");
     for (size_t i = 0; i < sizeof lines / sizeof lines[0]; i++) {
@@ -187,8 +168,7 @@ int run_map(const struct request *r) {
     static struct input in;
     struct geometry g;
     struct store s;
-    static struct verdict v;
-    struct subject x = {&in, &g, &s, &v};
+    struct subject x = {&in, &g, &s, {"", ""}};
     char *svg = NULL;
     size_t length = 0;
     int status = out_is_free(r);
@@ -196,9 +176,9 @@ int run_map(const struct request *r) {
     if (status != ALL_WELL) {
         return status;
     }
-    judge(&v, &in, &g, &s);
+    room_words(x.room, &in, &g);
     status = draw(&x, &svg, &length);
-    status = status == ALL_WELL ? write_like(r, &in, (const uint8_t *)svg, length) : status;
+    status = status == ALL_WELL ? write_out(r, in.mode, (const uint8_t *)svg, length) : status;
     free(svg);
     if (status == ALL_WELL && r->json) {
         fprintf(told_on(r), "{\"bytes\": %zu}\n", length);

@@ -11,7 +11,7 @@ struct subject {
     const struct input *in;
     const struct geometry *g;
     const struct store *s;
-    const struct verdict *v;
+    char room[2][ROOM_WORDS_SIZE];
 };
 
 /* Where the picture goes, and how far down it has come. */
@@ -30,7 +30,7 @@ void put_escaped(struct picture *m, const uint8_t *text, size_t length);
 void put_head(struct picture *m, const char *format, ...) __attribute__((format(printf, 2, 3)));
 void open_box(struct picture *m, const struct box *b);
 void close_box(struct picture *m);
-const char *page_word(const struct subject *x, uint32_t page);
+const char *page_word(const struct page *p);
 
 /* boxes.c */
 void draw_pages(struct picture *m, const struct subject *x);

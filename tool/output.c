@@ -1,6 +1,6 @@
 /* What the tool writes. A file is made beside its place, synced, and gets its name only when it is whole, so that a
  * failure or a kill leaves what was there. */
-#define _GNU_SOURCE /* fchown */
+#define _GNU_SOURCE
 #include "tool.h"
 
 #include <errno.h>
@@ -9,6 +9,8 @@
 #include <string.h>
 #include <sys/stat.h>
 #include <unistd.h>
+
+#define PATH_SIZE 4096
 
 /* A descriptor 0 to 2 that is closed would be given to the next file opened, and results would go there. */
 void guard_descriptors(void) {
@@ -31,8 +33,7 @@ FILE *told_on(const struct request *r) {
     return to_standard(r) ? stderr : stdout;
 }
 
-/* Asked before any work: an existing file is not replaced unless that was said; what is no plain file, or is in use,
- * never is. One that is to be replaced is locked from here on until it is. */
+/* Asked before any work: an existing file is not replaced unless that was said; what is no plain file never is. */
 int out_is_free(const struct request *r) {
     struct stat about;
     if (to_standard(r) || lstat(r->out, &about) < 0) {
@@ -41,7 +42,7 @@ int out_is_free(const struct request *r) {
     if (!S_ISREG(about.st_mode)) {
         return say(r->out, S_ISDIR(about.st_mode) ? "a directory" : "no plain file; -o - writes to standard output");
     }
-    return r->force ? hold(r->out) : say(r->out, "exists already; --force replaces it");
+    return r->force ? ALL_WELL : say(r->out, "exists already; --force replaces it");
 }
 
 static bool write_all(int to, const uint8_t *bytes, size_t length) {
@@ -58,98 +59,73 @@ static bool write_all(int to, const uint8_t *bytes, size_t length) {
     return true;
 }
 
-/* Whom a file belongs to. */
-struct access {
-    mode_t mode;
-    uid_t owner;
-    gid_t group;
-};
-
-/* What a user may not do, or a file system cannot. */
-static bool not_permitted(void) {
-    return errno == EPERM || errno == EINVAL || errno == ENOSYS || errno == EOPNOTSUPP;
+/* The new file takes its name; without --force, not that of one which came meanwhile. */
+static bool take_name(const char *from, const struct request *r) {
+    struct stat about;
+    if (r->force) {
+        return rename(from, r->out) == 0;
+    }
+    if (renameat2(AT_FDCWD, from, AT_FDCWD, r->out, RENAME_NOREPLACE) == 0) {
+        return true;
+    }
+    if (errno != EINVAL && errno != ENOSYS) {
+        return false;
+    }
+    if (lstat(r->out, &about) == 0) { /* a file system that cannot promise it: looked at once more */
+        errno = EEXIST;
+        return false;
+    }
+    return rename(from, r->out) == 0;
 }
 
-/* Owner, group and mode, as far as they are permitted; the group's rights only with the group. False where the system
- * fails. */
-static bool give_access(int to, const struct access *a) {
-    mode_t mode = a->mode | 0600;
-    if (fchown(to, (uid_t)-1, a->group) != 0) {
-        if (!not_permitted()) {
-            return false;
+/* The rename itself is on disk once the directory is. */
+static bool sync_directory(const char *directory) {
+    int dir = open(directory, O_RDONLY | O_DIRECTORY | O_CLOEXEC);
+    bool done = dir >= 0 && (fsync(dir) == 0 || errno == EINVAL);
+    return dir >= 0 && close(dir) == 0 && done;
+}
+
+/* A new file in the directory, with a name of its own; its descriptor, or -1. */
+static int open_beside(char name[PATH_SIZE], const char *directory, mode_t mode) {
+    int to = -1;
+    for (int i = 0; i < 100 && to < 0 && (i == 0 || errno == EEXIST); i++) {
+        if (snprintf(name, PATH_SIZE, "%s/.pagestore-%ld-%d", directory, (long)getpid(), i) >= PATH_SIZE) {
+            errno = ENAMETOOLONG;
+            return -1;
         }
-        mode &= ~(mode_t)0070;
+        to = open(name, O_WRONLY | O_CREAT | O_EXCL | O_CLOEXEC, mode);
     }
-    if (fchown(to, a->owner, (gid_t)-1) != 0 && !not_permitted()) {
-        return false;
-    }
-    return fchmod(to, mode) == 0 || not_permitted();
+    return to;
 }
 
-/* The rename is on disk once the directory is. */
-static int sync_directory(int directory, const char *name) {
-    if (fsync(directory) == 0 || errno == EINVAL) {
-        return ALL_WELL;
-    }
-    char words[200];
-    snprintf(words, sizeof words,
-             "its directory could not be synced (%s): the file is there under its name; whether it survives a power "
-             "cut now is not known",
-             strerror(errno));
-    say(name, words);
-    return SYSTEM_FAILED;
-}
-
-static bool fill_beside(int to, const struct access *a, const uint8_t *bytes, size_t length) {
-    bool whole = write_all(to, bytes, length) && give_access(to, a) && fsync(to) == 0;
-    int why = errno;
-    if (close(to) != 0 && whole) {
-        return false;
-    }
-    errno = why;
-    return whole;
-}
-
-/* The directory is opened first: a file that could not be synced under its name is not made. */
-static int write_file(const char *name, const struct access *a, const uint8_t *bytes, size_t length) {
-    char copy[PATH_SIZE];
-    if (snprintf(copy, sizeof copy, "%s", name) >= (int)sizeof copy) {
+static int write_file(const struct request *r, mode_t mode, const uint8_t *bytes, size_t length) {
+    char copy[PATH_SIZE], beside[PATH_SIZE];
+    if (snprintf(copy, sizeof copy, "%s", r->out) >= (int)sizeof copy) {
         errno = ENAMETOOLONG;
-        return say_error(name);
+        return say_error(r->out);
     }
     const char *directory = dirname(copy);
-    int dir = open(directory, O_RDONLY | O_DIRECTORY | O_CLOEXEC);
-    if (dir < 0) {
-        return say_error(directory);
+    int to = open_beside(beside, directory, mode);
+    if (to < 0) {
+        return say_error(r->out);
     }
-    int to = open_beside(directory);
-    bool whole = to >= 0 && fill_beside(to, a, bytes, length);
-    if (to >= 0 && !whole) {
-        remove_beside();
+    bool whole = write_all(to, bytes, length) && fsync(to) == 0;
+    int why = errno;
+    whole = close(to) == 0 && whole;
+    if (whole && take_name(beside, r)) {
+        return sync_directory(directory) ? ALL_WELL : say_error(r->out);
     }
-    int status = whole && name_beside(name) ? sync_directory(dir, name) : say_error(name);
-    close(dir);
+    errno = whole ? errno : why;
+    int status = say_error(r->out);
+    unlink(beside);
     return status;
 }
 
-static int write_as(const struct request *r, const struct access *a, const uint8_t *bytes, size_t length) {
+int write_out(const struct request *r, mode_t mode, const uint8_t *bytes, size_t length) {
     if (!to_standard(r)) {
-        return write_file(r->out, a, bytes, length);
+        return write_file(r, mode, bytes, length);
     }
     return fwrite(bytes, 1, length, stdout) == length ? ALL_WELL : SYSTEM_FAILED; /* close_output says why */
-}
-
-/* A file of so many rights, of whoever runs the tool or of those whose file it replaces. */
-int write_out(const struct request *r, mode_t mode, const uint8_t *bytes, size_t length) {
-    struct access a = {mode, (uid_t)-1, (gid_t)-1};
-    held_owner(&a.owner, &a.group);
-    return write_as(r, &a, bytes, length);
-}
-
-/* A file of those whose its source is; its owner may write it even if the source is read-only. */
-int write_like(const struct request *r, const struct input *source, const uint8_t *bytes, size_t length) {
-    struct access a = {source->mode, source->owner, source->group};
-    return write_as(r, &a, bytes, length);
 }
 
 /* The last word on standard output: what was buffered is out, and the close went well. */

@@ -1,5 +1,17 @@
-/* scan, forecast: state, text and action; what each page is worth; what was found. */
+/* scan, forecast: what each page is worth, and how much room there is. */
 #include "tool.h"
+
+/* How many pages are not as they should be. */
+struct tally {
+    uint32_t mendable, lost;
+};
+
+static void count_page(struct tally *t, const struct page *p) {
+    if (!is_good(p)) {
+        t->mendable += p->answer == PAGESTORE_OK;
+        t->lost += p->answer != PAGESTORE_OK;
+    }
+}
 
 static void print_page(uint32_t page, const struct page *p) {
     if (p->answer == PAGESTORE_OK) {
@@ -11,20 +23,11 @@ static void print_page(uint32_t page, const struct page *p) {
     }
 }
 
-static const char *need_word(enum need need) {
-    static const char *const words[] = {"nothing",         "backup", "write", "a larger volume",
-                                        "a larger volume", "lost",   "ahead"};
-    return words[need];
-}
-
-static void print_page_json(uint32_t page, const struct verdict *v) {
-    const struct page *p = &v->page[page];
+static void print_page_json(uint32_t page, const struct page *p) {
     printf("%s{\"page\": %u, ", page > 1 ? ", " : "", page);
     if (p->answer == PAGESTORE_OK) {
-        printf("\"class\": \"%s\", \"start\": \"%s\", \"count\": %u, ", class_word(p->class), start_word(p->start),
+        printf("\"class\": \"%s\", \"start\": \"%s\", \"count\": %u}", class_word(p->class), start_word(p->start),
                p->count);
-        printf("\"needs\": \"%s\", \"written\": %s, \"alone\": %s}", need_word(v->need[page]),
-               v->written[page] ? "true" : "false", v->alone[page] ? "true" : "false");
     } else if (p->answer == PAGESTORE_BLANK_PAGE) {
         printf("\"class\": \"BLANK\"}");
     } else {
@@ -32,69 +35,112 @@ static void print_page_json(uint32_t page, const struct verdict *v) {
     }
 }
 
-static void print_named(const char *name, const char *words) {
-    printf("\"%s\": ", name);
-    print_json_name(stdout, words);
-    printf(", ");
+/* What the classes mean for whoever reads the pages. */
+static void print_tally(const struct tally *t) {
+    const char *pages = t->mendable == 1 ? "page is" : "pages are";
+    if (t->lost > 0) {
+        printf("text: lost on %u %s; safe on the others (refused %u: %s)\n", t->lost, t->lost == 1 ? "page" : "pages",
+               PAGESTORE_PAGE_LOST, pagestore_text(PAGESTORE_PAGE_LOST));
+    } else {
+        printf("text: safe on every page\n");
+    }
+    if (t->mendable > 0) {
+        printf("disk: %u %s not GOOD there, and rebuilt at each reading; repair mends that\n", t->mendable, pages);
+    } else {
+        printf("disk: nothing to mend\n");
+    }
 }
 
-static uint32_t count_needs(const struct verdict *v, const struct geometry *g, enum need first, enum need last) {
-    uint32_t count = 0;
-    for (uint32_t page = 1; page <= g->pages; page++) {
-        count += v->need[page] >= first && v->need[page] <= last;
+/* What stands in the way where no page does, with `count` more of `slots` to come. */
+static const char *way_on(const struct geometry *g, uint32_t count, uint32_t slots) {
+    if (slots == 0) {
+        return "none: the volume has no slots for them";
     }
-    return count;
+    if (g->records < 2) {
+        return "none: with one slot for the log, each is used once";
+    }
+    if (g->heading != PAGESTORE_HEADING_SECOND) {
+        return "none until the volume is converted";
+    }
+    /* a ring: a whole turn is free, or its numbers have run out */
+    return count == slots ? NULL : "none: its numbers have run out";
 }
 
-static void print_scan_json(const struct verdict *v, const struct input *in, const struct geometry *g,
-                            const struct store *s) {
-    char text[WORDS_SIZE], action[WORDS_SIZE], advice[ADVICE_SIZE] = "";
-    say_text(text, v, g);
-    say_action(action, v, g);
-    advise(advice, in, s);
-    printf("{");
-    print_named("file", in->name);
-    print_named("state", state_word(v->state));
-    print_named("text", text);
-    print_named("action", action);
-    print_named("heading", heading_word(g->heading));
-    printf("\"pages\": [");
-    for (uint32_t page = 1; page <= g->pages; page++) {
-        print_page_json(page, v);
+/* How many more; then what has to be done first, to the page in the way or to those of a whole turn. */
+static void say_room(char *words, const char *what, const uint32_t room[2], uint32_t slots, const char *first,
+                     const struct geometry *g) {
+    int n = snprintf(words, ROOM_WORDS_SIZE, "%s: room for %u more; then ", what, room[0]);
+    size_t left = ROOM_WORDS_SIZE - (size_t)n;
+    const char *way = way_on(g, room[0], slots);
+    if (room[1] != 0) {
+        snprintf(words + n, left, "page %u has to be %s first", room[1], first);
+    } else if (way != NULL) {
+        snprintf(words + n, left, "%s", way);
+    } else {
+        snprintf(words + n, left, "pages have to be %s first", first);
     }
-    printf("], \"mendable\": %u, \"lost\": %u, \"torn\": %u, ", count_needs(v, g, NEEDS_BACKUP, NEEDS_WRITE),
-           count_needs(v, g, IS_LOST, IS_LOST), v->torn);
-    printf("\"room\": {\"records\": %u, \"recordPage\": %u, \"notes\": %u, \"notePage\": %u}, ", v->room[0], v->room[1],
-           v->room[2], v->room[3]);
-    printf("\"upkeep\": ");
-    print_json_name(stdout, advice);
-    printf("}\n");
 }
 
-static void print_scan(const struct verdict *v, const struct input *in, const struct geometry *g,
-                       const struct store *s) {
-    char text[WORDS_SIZE], action[WORDS_SIZE];
-    say_text(text, v, g);
-    say_action(action, v, g);
-    printf("state: %s\ntext: %s\naction: %s\n", state_word(v->state), text, action);
-    for (uint32_t page = 1; page <= g->pages; page++) {
-        print_page(page, &v->page[page]);
+static void find_room(uint32_t room[PAGESTORE_ROOM_SIZE], const struct input *in) {
+    pagestore_room(VOLUME(in), room, PAGESTORE_ROOM_SIZE); /* never refused where a restart was not */
+}
+
+int room_words(char words[2][ROOM_WORDS_SIZE], const struct input *in, const struct geometry *g) {
+    uint32_t room[PAGESTORE_ROOM_SIZE] = {0};
+    find_room(room, in);
+    say_room(words[0], "log", room, g->records, "backed up", g);
+    say_room(words[1], "notes", room + 2, g->notes, "written or backed up again", g);
+    return room[0] == 0 || (room[2] == 0 && g->notes > 0) ? FOUND : ALL_WELL;
+}
+
+static void print_room_json(const struct input *in) {
+    uint32_t room[PAGESTORE_ROOM_SIZE] = {0};
+    find_room(room, in);
+    printf("\"room\": {\"records\": %u, \"recordPage\": %u, \"notes\": %u, \"notePage\": %u}", room[0], room[1],
+           room[2], room[3]);
+}
+
+/* The room that is left; FOUND where there is none. */
+static int print_outlook(const struct input *in, const struct geometry *g, const struct store *s, bool json) {
+    char room[2][ROOM_WORDS_SIZE], advice[ADVICE_SIZE] = "";
+    int status = room_words(room, in, g), upkeep = advise(advice, in, s);
+    if (json) {
+        print_room_json(in);
+        printf(", \"upkeep\": ");
+        print_json_name(stdout, advice);
+        printf("}\n");
+    } else {
+        printf("%s\n%s\nupkeep: %s\n", room[0], room[1], advice);
     }
-    print_findings(v, in, g, s);
+    return upkeep > status ? upkeep : status;
 }
 
 int run_scan(const struct request *r) {
     static struct input in;
-    static struct verdict v;
     struct geometry g;
     struct store s;
+    struct tally t = {0, 0};
     int status = open_store(&in, &g, &s, r->words[0]);
     if (status != ALL_WELL) {
         return status;
     }
-    judge(&v, &in, &g, &s);
-    (r->json ? print_scan_json : print_scan)(&v, &in, &g, &s);
-    return state_status(v.state);
+    if (r->json) {
+        printf("{\"file\": ");
+        print_json_name(stdout, in.name);
+        printf(", \"heading\": \"%s\", \"pages\": [", heading_word(g.heading));
+    }
+    for (uint32_t page = 1; page <= g.pages; page++) {
+        struct page p = examine(&in, page);
+        count_page(&t, &p);
+        (r->json ? print_page_json : print_page)(page, &p);
+    }
+    if (r->json) {
+        printf("], \"mendable\": %u, \"lost\": %u, ", t.mendable, t.lost);
+    } else {
+        print_tally(&t);
+    }
+    int outlook = print_outlook(&in, &g, &s, r->json);
+    return outlook != ALL_WELL ? outlook : t.mendable + t.lost > 0 ? FOUND : ALL_WELL;
 }
 
 static void print_figure(uint32_t page, uint32_t refusal, uint32_t count, bool blank) {
@@ -128,7 +174,7 @@ int run_forecast(const struct request *r) {
     }
     uint32_t answer = pagestore_forecast(VOLUME(&in), figures, PAGESTORE_FORECAST_SIZE);
     if (answer != PAGESTORE_OK) {
-        return say_refused_of(&in, answer);
+        return say_refused(in.name, answer);
     }
     printf(r->json ? "{\"pages\": [" : "");
     for (uint32_t page = 1; page <= g.pages; page++) {
@@ -141,5 +187,5 @@ int run_forecast(const struct request *r) {
     if (lost > 0 && !r->json) {
         printf("refused %u: %s\n", PAGESTORE_PAGE_LOST, pagestore_text(PAGESTORE_PAGE_LOST));
     }
-    return lost > 0 ? NOT_DONE : ALL_WELL;
+    return lost > 0 ? FOUND : ALL_WELL;
 }

@@ -1,19 +1,10 @@
 /* log, notes: what stands in each slot, also where the volume is refused 17 or 18. */
 #include "tool.h"
 
-/* What a restart says of the volume, after the slots: a refusal is told, in the object or as a sentence. */
-static int judged(const struct input *in, bool json) {
-    struct store s = {0};
-    uint32_t answer = pagestore_restart(VOLUME(in), MEMORY(&s), STATE(&s));
-    if (json && answer != PAGESTORE_OK) {
-        printf(", ");
-        print_refusal_json(stdout, in, answer);
-    }
-    printf(json ? "}\n" : "");
-    if (json) {
-        refusals_to(NULL); /* it is in the object */
-    }
-    return answer == PAGESTORE_OK ? ALL_WELL : say_refused_of(in, answer);
+/* What a restart says of the volume, behind the slots: a refusal is FOUND, and told. */
+static int judged(const struct input *in) {
+    struct store s;
+    return restart(&s, in) == ALL_WELL ? ALL_WELL : FOUND;
 }
 
 static void print_record(const struct input *in, const struct geometry *g, uint32_t slot) {
@@ -52,8 +43,8 @@ int run_log(const struct request *r) {
             print_record(&in, &g, slot);
         }
     }
-    printf(r->json ? "]" : "");
-    return judged(&in, r->json);
+    printf(r->json ? "]}\n" : "");
+    return judged(&in);
 }
 
 static const char *note_word(uint32_t kind) {
@@ -94,6 +85,6 @@ int run_notes(const struct request *r) {
     for (uint32_t slot = 1; slot <= g.notes; slot++) {
         (r->json ? print_note_json : print_note)(&in, slot);
     }
-    printf(r->json ? "]" : "");
-    return judged(&in, r->json);
+    printf(r->json ? "]}\n" : "");
+    return judged(&in);
 }

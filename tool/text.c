@@ -7,7 +7,7 @@ static void print_hex(const uint8_t *body) {
     }
 }
 
-void print_body(const struct request *r, uint32_t page, const uint8_t *body) {
+static void print_body(const struct request *r, uint32_t page, const uint8_t *body) {
     size_t length = text_length(body, PAGESTORE_BODY_SIZE);
     if (r->json) {
         printf("{\"page\": %u, \"text\": ", page);
@@ -23,64 +23,27 @@ void print_body(const struct request *r, uint32_t page, const uint8_t *body) {
     }
 }
 
-/* A page among all: under its number its text, or why there is none. */
-static void show_one(const struct request *r, uint32_t page, const struct page *p) {
-    bool text = p->answer == PAGESTORE_OK, blank = p->answer == PAGESTORE_BLANK_PAGE;
-    printf(r->json ? "" : "page %u:%s", page, text ? "\n" : blank ? " BLANK\n" : "");
-    if (text) {
-        print_body(r, page, p->image + PAGESTORE_IMAGE_BODY);
-    } else if (r->json) {
-        printf(blank ? "{\"page\": %u, \"blank\": true}\n" : "{\"page\": %u, \"refused\": %u}\n", page, p->answer);
-    } else if (!blank) {
-        printf(" REFUSED %u\n", p->answer);
-    }
-}
-
-/* All pages, one after the other; NOT_DONE where one is lost. */
-static int show_all(const struct request *r) {
-    static struct input in;
-    struct geometry g;
-    struct store s;
-    int status = r->raw || r->image ? say("show", "--raw and --image are of one page: say which")
-                                    : open_store(&in, &g, &s, r->words[0]);
-    if (status != ALL_WELL) {
-        return status;
-    }
-    for (uint32_t page = 1; page <= g.pages; page++) {
-        struct page p = examine(&in, page);
-        int warned = warn_of_image(&in, page, &p);
-        show_one(r, page, &p);
-        bool known = p.answer == PAGESTORE_OK || p.answer == PAGESTORE_BLANK_PAGE;
-        status = !known ? NOT_DONE : warned != ALL_WELL ? warned : status;
-    }
-    return status;
-}
-
 int run_show(const struct request *r) {
     static struct input in;
     struct geometry g;
-    struct store s;
     uint32_t page;
-    if (r->raw + r->hex + r->json > 1) {
-        return say("show", "--raw, --hex and --json: one at a time");
-    }
-    if (r->words[1] == NULL) {
-        return show_all(r);
-    }
+    uint8_t image[PAGESTORE_IMAGE_SIZE];
     if (!to_number(r->words[1], &page)) {
         return say(r->words[1], "not a page number");
     }
-    int status = r->image ? open_volume(&in, &g, r->words[0]) : open_store(&in, &g, &s, r->words[0]);
-    if (status != ALL_WELL || r->image) {
-        return status != ALL_WELL ? status : show_image(r, &in, &g, page);
+    if (r->raw + r->hex + r->json > 1) {
+        return say("show", "--raw, --hex and --json: one at a time");
     }
-    struct page p = examine(&in, page);
-    int warned = warn_of_image(&in, page, &p);
-    if (p.answer != PAGESTORE_OK) {
-        return warned != ALL_WELL ? warned : say_refused_of(&in, p.answer);
+    int status = open_volume(&in, &g, r->words[0]);
+    if (status != ALL_WELL) {
+        return status;
     }
-    print_body(r, page, p.image + PAGESTORE_IMAGE_BODY);
-    return warned;
+    uint32_t answer = pagestore_inspect(VOLUME(&in), page, image, sizeof image);
+    if (answer != PAGESTORE_OK) {
+        return say_refused(in.name, answer);
+    }
+    print_body(r, page, image + PAGESTORE_IMAGE_BODY);
+    return ALL_WELL;
 }
 
 /* A change in words: FORMAT and its fill; PUT or SLIDE with the places of its first and last byte, and its text. */
@@ -106,7 +69,7 @@ static void print_change_json(const struct record *x, const uint8_t *payload) {
     printf("}");
 }
 
-/* The slots from the one after the last record on, once around: records in the order of their numbers. */
+/* The slots from the one behind the last record on, once around: records in the order of their numbers. */
 static void print_changes(const struct input *in, const struct geometry *g, uint32_t durable, uint32_t page,
                           bool json) {
     const char *before = "";
@@ -137,7 +100,7 @@ int run_history(const struct request *r) {
     }
     int status = open_store(&in, &g, &s, r->words[0]);
     if (status == ALL_WELL && (page < 1 || page > g.pages)) {
-        status = say_refused_of(&in, PAGESTORE_NO_SUCH_PAGE);
+        status = say_refused(in.name, PAGESTORE_NO_SUCH_PAGE);
     }
     if (status != ALL_WELL) {
         return status;

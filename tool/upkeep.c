@@ -1,4 +1,4 @@
-/* upkeep: which call to make next, so that log and notes keep room; --do makes the calls on the file itself. */
+/* upkeep: which call to make next so that a box never locks; --do makes the calls on the file itself. */
 #include "pagestore_file.h"
 #include "tool.h"
 
@@ -18,111 +18,90 @@ static void say_call(char words[ADVICE_SIZE], const uint32_t *u) {
     if (number == PAGESTORE_CALL_BACKUP) {
         n += snprintf(words + n, ADVICE_SIZE - (size_t)n, " in slot %u", u[PAGESTORE_UPKEEP_PLACE]);
     }
-    snprintf(words + n, ADVICE_SIZE - (size_t)n, " next");
+    snprintf(words + n, ADVICE_SIZE - (size_t)n, " next; upkeep --do makes the calls");
 }
 
-void say_rest(char words[ADVICE_SIZE], const struct rest *rest) {
-    if (rest->end == STUCK_AT_LOST) {
-        snprintf(words, ADVICE_SIZE, "page %u is lost: its notes cannot be renewed, and nothing frees their places",
-                 rest->page);
-    } else if (rest->end == STUCK_LOCKED) {
-        snprintf(words, ADVICE_SIZE, "locked at page %u: the page reads, but there is no room to renew its notes",
-                 rest->page);
-    } else {
-        snprintf(words, ADVICE_SIZE, "not at rest after %u calls: the volume has too little room", rest->calls);
-    }
-}
-
-void advise(char words[ADVICE_SIZE], const struct input *in, const struct store *s) {
+/* What upkeep says of a restarted volume; FOUND where there is something to do. */
+static int ask(char words[ADVICE_SIZE], const struct input *in, const struct store *s, uint32_t *kind) {
     uint32_t u[PAGESTORE_UPKEEP_SIZE] = {0};
-    pagestore_upkeep(VOLUME(in), MEMORY(s), STATE(s), 1, u, PAGESTORE_UPKEEP_SIZE); /* not refused after a restart */
-    if (u[PAGESTORE_UPKEEP_KIND] == PAGESTORE_UPKEEP_IDLE) {
+    uint32_t answer = pagestore_upkeep(VOLUME(in), MEMORY(s), STATE(s), 1, u, PAGESTORE_UPKEEP_SIZE);
+    if (answer != PAGESTORE_OK) {
+        return say_refused(in->name, answer);
+    }
+    *kind = u[PAGESTORE_UPKEEP_KIND];
+    if (*kind == PAGESTORE_UPKEEP_IDLE) {
         snprintf(words, ADVICE_SIZE, "nothing to do");
-    } else if (u[PAGESTORE_UPKEEP_KIND] == PAGESTORE_UPKEEP_STUCK) {
-        uint32_t page = u[PAGESTORE_UPKEEP_PAGE];
-        bool lost = examine(in, page).answer == PAGESTORE_PAGE_LOST;
-        struct rest rest = {lost ? STUCK_AT_LOST : STUCK_LOCKED, page, 0};
-        say_rest(words, &rest);
+    } else if (*kind == PAGESTORE_UPKEEP_STUCK) {
+        snprintf(words, ADVICE_SIZE, "stuck at page %u: it is lost, or the box is locked", u[PAGESTORE_UPKEEP_PAGE]);
     } else {
         say_call(words, u);
     }
+    return *kind == PAGESTORE_UPKEEP_IDLE ? ALL_WELL : FOUND;
 }
 
-/* What is to be done, or was; FOUND while there is something, NOT_DONE where upkeep does not come to rest. */
-static int tell(const struct request *r, const char *advice, const struct rest *rest, uint32_t made) {
+int advise(char words[ADVICE_SIZE], const struct input *in, const struct store *s) {
+    uint32_t kind = PAGESTORE_UPKEEP_IDLE;
+    int status = ask(words, in, s, &kind);
+    return status == FOUND && kind != PAGESTORE_UPKEEP_STUCK ? ALL_WELL : status;
+}
+
+static void tell(const struct request *r, const char *advice, uint32_t calls) {
     if (r->json) {
         printf("{\"advice\": ");
         print_json_name(stdout, advice);
-        printf(", \"calls\": %u}\n", made);
+        printf(", \"calls\": %u}\n", calls);
     } else if (r->perform) {
-        printf("%s; %u calls were made\n", advice, made);
-    } else if (rest->end == AT_REST && rest->calls > 0) {
-        printf("%s, %u call%s in all; upkeep --do makes them\n", advice, rest->calls, plural(rest->calls));
+        printf("%s; %u calls were made\n", advice, calls);
     } else {
-        printf(rest->end == AT_REST ? "%s\n" : "%s. Next: " COPY_ACTION "\n", advice);
+        printf("%s\n", advice);
     }
-    return rest->end != AT_REST ? NOT_DONE : rest->calls > made ? FOUND : ALL_WELL;
 }
 
 /* A result of the layer for files: a refusal, or a negative errno. */
 static int file_failed(const char *name, int result) {
     errno = result < 0 ? -result : 0;
-    if (result == -EWOULDBLOCK) {
-        return say(name, "in use by a running server: stop it first");
-    }
     return result < 0 ? say_error(name) : say_refused(name, (uint32_t)result);
 }
 
-/* What the layer's answer says of upkeep: it came to rest, is stuck at a lost page or a locked one, or had too few
- * calls. False where it says something else. */
-static bool came_to(struct rest *rest, int result) {
-    switch (result) {
-    case 0: rest->end = AT_REST; return true;
-    case PAGESTORE_PAGE_LOST: rest->end = STUCK_AT_LOST; return true;
-    case PAGESTORE_LOCKED: rest->end = STUCK_LOCKED; return true;
-    case PAGESTORE_UNFINISHED: rest->end = NO_REST; return true;
-    default: return false;
-    }
-}
-
-/* The calls, on the file itself; a trial on the copy in memory has come to rest. */
+/* The calls, on the file itself. */
 static int perform(const struct request *r) {
     struct pagestore_file *file = NULL;
+    const char *name = r->words[0];
     char words[ADVICE_SIZE] = "nothing more to do";
-    int result = pagestore_file_open(&file, r->words[0], TOOL_FRAMES);
+    int result = pagestore_file_open(&file, name, TOOL_FRAMES);
     if (result != 0) {
-        return file_failed(r->words[0], result);
+        return file_failed(name, result);
     }
     result = pagestore_file_upkeep(file, 1);
     const uint32_t *report = pagestore_file_report(file);
-    struct rest rest = {AT_REST, report[PAGESTORE_REPORT_PAGE], report[PAGESTORE_REPORT_COUNT]};
-    bool understood = came_to(&rest, result);
+    uint32_t calls = report[PAGESTORE_REPORT_COUNT], page = report[PAGESTORE_REPORT_PAGE];
     int closed = pagestore_file_close(file);
-    if (!understood || closed != 0) {
-        return file_failed(r->words[0], !understood ? result : closed);
+    bool stuck = result == (int)PAGESTORE_PAGE_LOST;
+    if ((result != 0 && !stuck && result != -EAGAIN) || closed != 0) {
+        return file_failed(name, result != 0 ? result : closed);
     }
-    if (rest.end != AT_REST) {
-        say_rest(words, &rest);
+    if (stuck) {
+        snprintf(words, sizeof words, "stuck at page %u: it is lost, or the box is locked", page);
+    } else if (result == -EAGAIN) {
+        snprintf(words, sizeof words, "not at rest: the volume has too little room");
     }
-    return tell(r, words, &rest, rest.calls);
+    tell(r, words, calls);
+    return result == 0 ? ALL_WELL : FOUND;
 }
 
 int run_upkeep(const struct request *r) {
     static struct input in;
     struct geometry g;
     struct store s;
+    uint32_t kind;
     char words[ADVICE_SIZE] = "";
-    int status = open_store(&in, &g, &s, r->words[0]);
-    if (status != ALL_WELL) {
-        return status;
-    }
-    struct rest rest = try_upkeep(&in, &g, &s);
-    if (r->perform && rest.end == AT_REST) {
+    if (r->perform) {
         return perform(r);
     }
-    advise(words, &in, &s);
-    if (rest.end != AT_REST) {
-        say_rest(words, &rest);
+    int status = open_store(&in, &g, &s, r->words[0]);
+    status = status == ALL_WELL ? ask(words, &in, &s, &kind) : status;
+    if (status <= FOUND) {
+        tell(r, words, 0);
     }
-    return tell(r, words, &rest, 0);
+    return status;
 }

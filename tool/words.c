@@ -1,4 +1,4 @@
-/* What the tool says: names of classes, starts and kinds, complaints of its own, text that is fit for a terminal. */
+/* What the tool says: names of classes, starts and kinds, refusals with their sentence, text that is safe to show. */
 #include "tool.h"
 
 #include <errno.h>
@@ -25,8 +25,10 @@ int say_error(const char *name) {
     return SYSTEM_FAILED;
 }
 
-const char *plural(uint32_t count) {
-    return count == 1 ? "" : "s";
+int say_refused(const char *name, uint32_t answer) {
+    print_file(name);
+    fprintf(stderr, "refused %u: %s\n", (unsigned)answer, pagestore_text(answer));
+    return NOT_DONE;
 }
 
 const char *class_word(uint32_t number) {

@@ -5,7 +5,7 @@ ROOT = Path(__file__).resolve().parent.parent
 
 
 # the crates of definitions, whose files have names of their own
-DEFINITIONS = ("model", "reports", "planning", "upkeep_policy", "mend_policy")
+DEFINITIONS = ("model", "reports", "planning", "upkeep_policy")
 
 
 def definitions(root=ROOT):

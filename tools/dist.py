@@ -19,9 +19,7 @@ from crates import ROOT
 
 VERSION = (ROOT / "VERSION").read_text().strip()
 NAME = f"pagestore-{VERSION}-x86_64-linux"
-DOCS = "FIELD.md UPKEEP.md C.md FORMAT.md CHANGES.md lesson.html".split()
-# the volume of README's first commands: in the bundle it is at hand under the name that they have
-FIRST_SAMPLE, FIRST_NAME = "samples/demo.vol", "samples/ward.vol"
+DOCS = "FIELD.md C.md FORMAT.md CHANGES.md lesson.html".split()
 
 
 def read(name):
@@ -46,8 +44,8 @@ def files():
 
 
 def bundled():
-    """What the bundle holds beside the installed tree: its version, a volume to try, and a sum for every file."""
-    tree = files() | {"VERSION": (VERSION.encode() + b"\n", 0o644), FIRST_NAME: (read(FIRST_SAMPLE), 0o644)}
+    """What the bundle holds beside the installed tree: its version, and a sum for every file."""
+    tree = files() | {"VERSION": (VERSION.encode() + b"\n", 0o644)}
     sums = "".join(f"{hashlib.sha256(data).hexdigest()}  {name}\n" for name, (data, _) in sorted(tree.items()))
     return tree | {"SHA256SUMS": (sums.encode(), 0o644)}
 

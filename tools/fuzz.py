@@ -88,7 +88,6 @@ def decode(cell):
         28: f"poke the second buffer, {poke}",
         29: "pages of the archive in the second buffer",
         31: f"advise, frame {other} left to upkeep",
-        33: f"mend page {page}, frame {other} left to upkeep",
         30: f"rehearse with {page} frames, a backup after {a}, victims {['written', 'let go'][kind] if kind < 2 else kind}",
     }
     return words.get(op, f"unknown op {op}")

@@ -83,8 +83,8 @@ def main():
     page = (
         f'<!DOCTYPE html>\n<html lang="en"><head><meta charset="utf-8"><title>Four checks of a page store</title>\n'
         f"<style>{STYLE}</style></head><body>\n<h1>Four checks of a page store</h1>\n"
-        "<p>Each check is played with the store's own calls; the damage is done in place of the disk. In these four the "
-        "reader still sees every line that was confirmed. Not all damage ends so well: the card says what to do then.</p>\n"
+        "<p>Each check is played with the store's own calls; the damage is done in place of the disk. Whatever the disk "
+        "does, the reader sees every line that was told as kept.</p>\n"
         f"{body}{card()}</body></html>\n"
     )
     pathlib.Path(out).write_text(page)

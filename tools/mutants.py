@@ -1,15 +1,14 @@
 #!/usr/bin/env python3
 """Tries wrong edits of the definitions (tools/mutants.txt): each must make a computed case or a proof fail.
 
-An edit is applied to a copy of the crates that it needs, in a temporary folder. For `cases`, `upkeep_cases`,
-`mend_cases` and `cases_c` the theorems about all rows are replaced by one declaration for each row or history that the edit names, so
-that a failure says which caught it; the check must fail there, by a computed test that is now false, and nowhere else.
-For `history`, `reports_theory` and `planning_theory` the check must fail in a proof of theirs or of the laws below, for
-`instances`, `bounds`, `cases_neighbours`, `cases_edges` and `upkeep_bounds` (a claim that says less, which its proofs
-still give) also in one of their own, and not for a name that is missing or a text that is not read. The definitions for
-C (`file face/NAME`, `file called/NAME`) are tried against the rows of `cases_c`, or against `face_laws`, `numbers`,
-`face_numbers`, `face_step`, `capi` or `called`, whose proofs must fail. What target/ has proved of the crates below an
-edit is not proved again.
+An edit is applied to a copy of the crates that it needs, in a temporary folder. For `cases` the one theorem about all
+rows is replaced by one declaration for each row or history that the edit names, so that a failure says which caught it;
+the check must fail there, by a computed test that is now false, and nowhere else. For `history`, `reports_theory` and
+`planning_theory` the check must fail in a proof of theirs or of the laws below, for `instances`, `bounds` and
+`cases_neighbours` (a claim that says less, which its proofs still give) also in one of their own, and not for a name
+that is missing or a text that is not read. The definitions for C (`file face/NAME`, `file called/NAME`) are tried
+against `numbers`, `face_numbers`, `face_step`, `capi` or `called`, whose proofs must fail. What target/ has proved of
+the crates below an edit is not proved again.
 
     python3 tools/mutants.py [--only WORD] [--file NAME] [--part WORD] [--search] [--jobs N] [--texts]
                              [--crate NAME]
@@ -35,45 +34,40 @@ from pathlib import Path
 from crates import ROOT, definitions, needed
 from probes import write_probe
 
-ROW_CRATES = ("cases", "upkeep_cases", "mend_cases", "cases_c")
-PROOF_CRATES = ("history", "reports_theory", "planning_theory", "instances", "bounds", "cases_neighbours", "cases_edges", "upkeep_bounds")
+ROW_CRATES = ("cases", "upkeep_cases")
+PROOF_CRATES = ("history", "reports_theory", "planning_theory", "instances", "bounds", "cases_neighbours")
 # what a wrong definition for C is tried against
-C_CRATES = ("face_laws", "numbers", "face_numbers", "face_step", "capi", "called")
+C_CRATES = ("numbers", "face_numbers", "face_step", "capi", "called")
 # the error of a test that computes to false; a long name puts the types on a line of their own
 FALSE = r"`caught-(\d+)`: (?:expected type|.*type mismatch|.*the two types are `Prim\.⊥` \(expected\))"
 # the proofs that an edit may break
-BROKEN = re.compile(rf"/crates/(laws|reports_laws|upkeep_theory|{'|'.join(PROOF_CRATES + C_CRATES)})/proofs/")
+BROKEN = re.compile(rf"/crates/(laws|reports_laws|{'|'.join(PROOF_CRATES + C_CRATES)})/proofs/")
 # errors that say that an edit is no definition, and nothing of what it means
 NOT_READ = re.compile(
     r"Parse|cannot be named|not in scope|unknown name|was not admitted|cannot be unfolded|has no `|components"
     r"|needs a type"
 )
 
-# what an edit of the list has any number of
-LISTS = ("caught", "use", "old", "new")
 # a name of a definition's text, and the names that it binds itself: a binding's, a record's field, a field that is read
 NAME = re.compile(r"[^\s(){}\[\],;.]+")
 LOCAL = re.compile(r"[^\s(){}\[\],;.]+(?= =)|(?<= \.)[^\s(){}\[\],;.]+")
 
 
 def read_edits(text):
-    """The edits of the list: blocks of '== name', 'file F', 'crates C..', 'caught NAME', 'use ..' (a line that the new text
-    needs), '- old' and '+ new' lines under '# ---- part'."""
+    """The edits of the list: blocks of '== name', 'file F', 'crates C..', 'caught NAME', '- old' and '+ new' lines under '# ---- part'."""
     edits, part = [], ""
     for line in text.splitlines():
         word, _, rest = line.partition(" ")
         if rest.startswith("---- ") and word == "#":
             part = rest[5:]
         elif word == "==":
-            edits.append({"name": rest, "part": part, "file": "", "crates": ["cases"]} | {k: [] for k in LISTS})
+            edits.append({"name": rest, "part": part, "file": "", "crates": ["cases"], "caught": [], "old": [], "new": []})
         elif word == "file":
             edits[-1]["file"] = rest + ".antt"
         elif word == "crates":
             edits[-1]["crates"] = rest.split()
         elif word == "caught":
             edits[-1]["caught"].append(rest)
-        elif word == "use":
-            edits[-1]["use"].append(line)
         elif word == "-":
             edits[-1]["old"].append(rest)
         elif word == "+":
@@ -114,8 +108,8 @@ def copy(crate, to):
     # to the letter as in the original, which `rt` compares
     (to / "crates.txt").write_text("".join(f"{name}: {' '.join(deps)}".rstrip() + "\n" for name, deps in lines.items()))
     if crate in ROW_CRATES:
-        for name in set(ROW_CRATES) & set(lines):
-            shutil.rmtree(to / "crates" / name / "proofs", ignore_errors=True)
+        shutil.rmtree(to / "crates/cases/proofs")
+        shutil.rmtree(to / "crates" / crate / "proofs", ignore_errors=True)
         (to / "crates" / crate / "proofs").mkdir()
         (to / "crates" / crate / "proofs/Lib.antt").write_text("pub mod Probe\n")
 
@@ -174,7 +168,7 @@ def apply(to, edit):
     if times(to, edit) != 1:
         sys.exit(f"mutants.txt: {edit['name']}: the old text stands {times(to, edit)} times in {edit['file']}")
     before = path.read_text()
-    path.write_text("".join(f"{line}\n" for line in edit["use"]) + before.replace("\n".join(edit["old"]), "\n".join(edit["new"])))
+    path.write_text(before.replace("\n".join(edit["old"]), "\n".join(edit["new"])))
     return lambda: path.write_text(before)
 
 
@@ -215,8 +209,7 @@ def names(edits):
 
 def unknown(edit):
     """The names in the edit's new text that its file neither imports nor defines, and the edit does not bind itself."""
-    known = set(NAME.findall(definition(ROOT, edit).read_text() + " ".join(edit["use"])))
-    known |= set(LOCAL.findall("\n".join(edit["new"])))
+    known = set(NAME.findall(definition(ROOT, edit).read_text())) | set(LOCAL.findall("\n".join(edit["new"])))
     known |= {part for name in known for part in name.split("_")}
     words = [word for line in edit["new"] for word in NAME.findall(line)]
     return sorted({word for word in words if word not in known and not re.fullmatch(r"0x[0-9a-f]+|[0-9]+", word)})

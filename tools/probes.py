@@ -43,55 +43,13 @@ use Rattle·cases.specs.Opened.{opened}
 use Rattle·cases.specs.Rows.{Row, same}
 use Rattle·upkeep_cases·specs.specs.Upkeeps.{upkeepRows}
 use Rattle·upkeep_cases·specs.specs.Turns.{turnRows, laterTurns, lockRows}
-use Rattle·upkeep_cases·specs.specs.Discipline.{disciplineRows}
 
 row : String → List Row → Bool
 row n [] = true
 row n (r ∷ rs) = let rest = row n rs in let here = cond (same (r .found) (r .says)) rest false in cond (eqt (r .name) n) here rest
 
 unfoldable rows : List Row
-rows = upkeepRows ++ (turnRows ++ (laterTurns ++ (lockRows ++ disciplineRows)))
-"""
-# and for those of mending
-MEND_PROBE = """-- One declaration for each row asked for: made by tools/mutants.py.
-use Prim.Native.String.{String}
-use mathlib.Core.Bool.{Bool, true, false, cond}
-use mathlib.Core.List.{List, [], _∷_, _++_}
-use lib.Dec.{T}
-use lib.Text.{eqt}
-use Rattle·cases.specs.Opened.{opened}
-use Rattle·cases.specs.Rows.{Row, same}
-use Rattle·mend_cases·specs.specs.Mendings.{mendRows, failureRows}
-use Rattle·mend_cases·specs.specs.Rules.{ruleRows}
-
-row : String → List Row → Bool
-row n [] = true
-row n (r ∷ rs) = let rest = row n rs in let here = cond (same (r .found) (r .says)) rest false in cond (eqt (r .name) n) here rest
-
-unfoldable rows : List Row
-rows = mendRows ++ (failureRows ++ ruleRows)
-"""
-# and for those of the functions for C
-FACE_PROBE = """-- One declaration for each row asked for: made by tools/mutants.py.
-use Prim.Native.String.{String}
-use mathlib.Core.Bool.{Bool, true, false, cond}
-use mathlib.Core.List.{List, [], _∷_, _++_}
-use lib.Dec.{T}
-use lib.Text.{eqt}
-use Rattle·cases.specs.Rows.{Row, same}
-use Rattle·cases_c·specs.specs.OpenedForC.{openedForC}
-use Rattle·cases_c·specs.specs.Reported.{reportRows}
-use Rattle·cases_c·specs.specs.Given.{givenRows}
-use Rattle·cases_c·specs.specs.Listing.{slotRows, listedRows}
-use Rattle·cases_c·specs.specs.Stated.{statedRows}
-use Rattle·cases_c·specs.specs.Failing.{failingRows}
-
-row : String → List Row → Bool
-row n [] = true
-row n (r ∷ rs) = let rest = row n rs in let here = cond (same (r .found) (r .says)) rest false in cond (eqt (r .name) n) here rest
-
-unfoldable rows : List Row
-rows = reportRows ++ (givenRows ++ (slotRows ++ (listedRows ++ (statedRows ++ failingRows))))
+rows = upkeepRows ++ (turnRows ++ (laterTurns ++ lockRows))
 """
 # what a row's test unfolds: the table's parts, and all that they compute with
 OPENED = (
@@ -99,20 +57,11 @@ OPENED = (
     "archiveRows mirrorRows neighbourRows planningRows rehearsalCases rehearsalRuns carryRows carriedRows carriedEvents "
     "histories allHistories"
 )
-UPKEEP_OPENED = "opened rows upkeepRows turnRows laterTurns lockRows disciplineRows"
-MEND_OPENED = "opened rows mendRows failureRows ruleRows"
-FACE_OPENED = "openedForC rows reportRows givenRows slotRows listedRows statedRows failingRows"
-# of each crate of rows the module's text, and what its tests unfold
-PROBES = {
-    "cases": (PROBE, OPENED),
-    "upkeep_cases": (UPKEEP_PROBE, UPKEEP_OPENED),
-    "mend_cases": (MEND_PROBE, MEND_OPENED),
-    "cases_c": (FACE_PROBE, FACE_OPENED),
-}
+UPKEEP_OPENED = "opened rows upkeepRows turnRows laterTurns lockRows"
 
 
 def write_probe(crate, to, rows, names):
-    text, opened = PROBES[crate]
+    text, opened = (PROBE, OPENED) if crate == "cases" else (UPKEEP_PROBE, UPKEEP_OPENED)
     for i, name in enumerate(names):
         kind, of = ("row", "rows") if name in rows else ("history", "allHistories")
         text += f'\ncaught-{i} : T ({kind} "{name}" {of})\nunfolding {opened} {kind}\ncaught-{i} = tt\n'

@@ -110,14 +110,14 @@ def demo(heading):
         torn(image(heading, 5, 10, body(line[2]))),       # failed, no backup
         b"\0" * 256,                             # blank
     ]
-    slots = [image(heading, 4, 9, body(line[1])), *[b"\0" * 256] * 6]
+    slots = [image(heading, 4, 9, body(line[1])), b"\0" * 256]
     notes = [
         note(1, 1, WRITTEN, 0, 6),
         note(2, 2, WRITTEN, 0, 7),
         note(3, 3, WRITTEN, 0, 8),
         note(4, 4, BACKED_UP, 1, 9),
     ]
-    return volume(heading, pages, slots, log, notes, 48, 24)  # as docs/UPKEEP.md asks of six pages
+    return volume(heading, pages, slots, log, notes, 16, 8)
 
 
 def demo_archive():

@@ -46,10 +46,10 @@ fn scripts_give_only_answers_that_the_table_knows() {
     assert!(unknown.is_empty(), "{unknown:?}");
 }
 
-/// What so many scripts of a kind miss of what they are for.
-fn left_out(kind: &str, scripts: u64, script: fn(&mut Rng, usize) -> Vec<Cell>) {
+/// What eight scripts of a kind miss of what they are for.
+fn left_out(kind: &str, script: fn(&mut Rng, usize) -> Vec<Cell>) {
     let mut missing = sought(kind).unwrap();
-    for seed in 0..scripts {
+    for seed in 0..8 {
         let reached = hits(&script(&mut Rng::new(seed), 2_000));
         missing = missing.difference(&reached).cloned().collect();
     }
@@ -58,27 +58,27 @@ fn left_out(kind: &str, scripts: u64, script: fn(&mut Rng, usize) -> Vec<Cell>) 
 
 #[test]
 fn upkeep_scripts_reach_all_that_they_are_for() {
-    left_out("upkeep", 16, upkeep_script);
+    left_out("upkeep", upkeep_script);
 }
 
 #[test]
 fn reading_scripts_reach_all_that_they_are_for() {
-    left_out("reading", 8, reading_script);
+    left_out("reading", reading_script);
 }
 
 #[test]
 fn mirror_scripts_reach_all_that_they_are_for() {
-    left_out("mirror", 8, mirror_script);
+    left_out("mirror", mirror_script);
 }
 
 #[test]
 fn rehearse_scripts_reach_all_that_they_are_for() {
-    left_out("rehearse", 8, rehearse_script);
+    left_out("rehearse", rehearse_script);
 }
 
 #[test]
 fn carrying_scripts_reach_all_that_they_are_for() {
-    left_out("carrying", 8, carrying_script);
+    left_out("carrying", carrying_script);
 }
 
 #[test]

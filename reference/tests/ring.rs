@@ -282,7 +282,7 @@ fn below_the_run() {
     let geometry = store.geometry();
     store.0.volume[geometry.slot(1).start + 9] ^= 1;
     assert_eq!(store.inspect(1), "REFUSED 23");
-    assert_eq!(scan(store.0.volume()), "REFUSED 23\n", "a refusal is the only line");
+    assert_eq!(scan(store.0.volume()), "1 REFUSED 23\n2 FAILED FORMAT 2\n");
     assert_eq!(store.restart(), "OK");
     assert_eq!(store.call(Call::Load { page: 1, frame: 1 }), "REFUSED 23");
     let own = image(Heading::Second, 1, 1);

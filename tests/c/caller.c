@@ -1,10 +1,8 @@
-#define _GNU_SOURCE
 #include "caller.h"
-#include "harm.h"
+#include "disk.h"
 #include "pagestore_file.h"
 
 #include <errno.h>
-#include <fcntl.h>
 #include <stdlib.h>
 #include <string.h>
 #include <unistd.h>
@@ -40,15 +38,12 @@ static void check_dead(int error) {
         pagestore_file_load(file, 1, 1), pagestore_file_begin(file, 1, 1, 0),
         pagestore_file_change(file, 1, 1, 0, 0, 0, NULL, 0), pagestore_file_inspect(file, 1, image, sizeof image),
         pagestore_file_start_carry(file), pagestore_file_restamp(file), pagestore_file_finish_carry(file),
-        pagestore_file_upkeep(file, 1), pagestore_file_mend(file, 1, 0), pagestore_file_mend_next(file, 1),
-        pagestore_file_scrub(file)
+        pagestore_file_upkeep(file, 1)
     };
     uint32_t writes = disk->writes;
     for (size_t i = 0; i < sizeof answers / sizeof *answers; i++)
         if (answers[i] != -EIO) end(MISTAKE, 100 + (int)i);
-    size_t length = 1;
-    if (pagestore_file_text(file, 1) != NULL || !pagestore_file_dead(file)) end(MISTAKE, 150);
-    if (pagestore_file_volume(file, &length) != NULL || length != 0) end(MISTAKE, 153);
+    if (pagestore_file_text(file, 1) != NULL) end(MISTAKE, 150);
     if (disk->writes != writes) end(MISTAKE, 151);
     if (pagestore_file_close(file) != 0) end(MISTAKE, 152);
     end(DEAD, error);
@@ -57,27 +52,12 @@ static void check_dead(int error) {
 /* Every answer comes by here. */
 static int answered(int answer) {
     if (answer < 0) check_dead(answer);
-    if (pagestore_file_dead(file)) end(MISTAKE, 154);
     return answer;
-}
-
-/* A pass over all pages, at once or one after the other: each is whole. */
-static void mend(void) {
-    uint32_t turns = random_below(2) == 0 ? 0 : task.counts.pages;
-    int answer = turns == 0 ? answered(pagestore_file_mend(file, 1, 0)) : 0;
-    uint32_t calls = turns == 0 ? pagestore_file_report(file)[PAGESTORE_REPORT_COUNT] : 0;
-    for (uint32_t i = 0; answer == 0 && i < turns; i++) {
-        answer = answered(pagestore_file_mend_next(file, 1));
-        calls += pagestore_file_report(file)[PAGESTORE_REPORT_COUNT];
-    }
-    if (answer != 0) end(MISTAKE, 600 + answer);
-    say(MENDED, (int)calls);
 }
 
 /* Where upkeep is followed: it comes to rest in frame 1, and whatever was pending is stored. */
 static void upkeep(void) {
-    if (task.mend) mend();
-    if (!task.upkeep || task.mend) return;
+    if (!task.upkeep) return;
     int answer = answered(pagestore_file_upkeep(file, 1));
     if (answer != 0) end(MISTAKE, 300 + answer);
     say(UPKEPT, (int)pagestore_file_report(file)[PAGESTORE_REPORT_COUNT]);
@@ -216,58 +196,6 @@ static void nonsense(void) {
         if (answered(answers[i]) < 1 || answers[i] > 25) end(MISTAKE, 200 + (int)i);
 }
 
-/* The volume in memory is what the file holds, to the byte. */
-static void compare_volume(void) {
-    static uint8_t bytes[DISK_MAX];
-    size_t length = 0;
-    const uint8_t *volume = pagestore_file_volume(file, &length);
-    int fd = open(task.path, O_RDONLY | O_CLOEXEC);
-    if (fd < 0 || pread(fd, bytes, sizeof bytes, 0) != (ssize_t)length || close(fd) != 0) end(MISTAKE, 500);
-    if (length != size_of(task.counts) || memcmp(volume, bytes, length) != 0) end(MISTAKE, 501);
-}
-
-/* ---- damage on the disk, under a running server */
-
-static void open_again(void) {
-    int answer = pagestore_file_open(&file, task.path, task.frames);
-    if (answer < 0 && disk->happened > 0) end(DEAD, answer);
-    if (answer != 0) end(MISTAKE, answer);
-}
-
-static void scrub(void) {
-    size_t length = 0;
-    if (answered(pagestore_file_scrub(file)) != 0) end(MISTAKE, 502);
-    const uint8_t *volume = pagestore_file_volume(file, &length);
-    if (memcmp(volume, disk->bytes, length) != 0) end(MISTAKE, 503);
-    say(SCRUBBED, (int)pagestore_file_report(file)[PAGESTORE_REPORT_COUNT]);
-}
-
-/* One image is damaged, and seen: by a scrub, which a cut may end, or at the next open, by the pass after it. */
-static void one_failure(void) {
-    commit();
-    mend();
-    say(DAMAGED, 0);
-    damage_one();
-    if (random_below(4) == 0) scrub();
-    else {
-        if (pagestore_file_close(file) != 0) end(MISTAKE, 2);
-        open_again();
-        mend();
-    }
-}
-
-/* Whatever items are damaged, log and notes too, and scrubbed; no call of the system fails meanwhile. */
-static void spoil(void) {
-    struct plan plan = disk->plan;
-    disk->plan.call = NO_CALL;
-    uint32_t others = 0, spans = 1 + random_below(3);
-    say(SPOILING, (int)spans);
-    for (; spans > 0; spans--) others += damage_span();
-    scrub();
-    if ((others > 0) != (pagestore_file_report(file)[PAGESTORE_REPORT_COUNT] > 0)) end(MISTAKE, 504);
-    disk->plan = plan;
-}
-
 static void step(void) {
     uint32_t page = any_page(), kind = random_below(100);
     uint8_t image[256];
@@ -279,17 +207,15 @@ static void step(void) {
     else if (kind < 93) store_note();
     else if (kind < 95) CALL(pagestore_file_release(file, page));
     else if (kind < 98) CALL(pagestore_file_inspect(file, page, image, sizeof image));
-    else if (kind < 99) nonsense();
-    else compare_volume();
+    else nonsense();
     if (task.carry && random_below(16) == 0) carry();
-    if (task.mend && random_below(6) == 0) one_failure();
-    if (task.mend && random_below(20) == 0) spoil();
 }
 
 void caller(struct task given) {
     task = given;
-    open_again();
-    if (task.mend) mend();
+    int answer = pagestore_file_open(&file, task.path, task.frames);
+    if (answer < 0 && disk->happened > 0) end(DEAD, answer);
+    if (answer != 0) end(MISTAKE, answer);
     int room = !task.upkeep && task.counts.notes > 4 * task.counts.pages + 4;
     if (room && random_below(4) == 0) renew(1);
     for (uint32_t i = 0; i < task.steps; i++) {

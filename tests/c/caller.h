@@ -12,10 +12,6 @@ enum tell {
     COMMITTED,  /* behind a commit */
     UPKEPT,     /* upkeep is at rest, behind so many calls; what was pending is durable */
     DEAD,       /* a call failed with this errno, and the handle was found dead */
-    MENDED,     /* every page is whole; upkeep is at rest, behind so many calls */
-    DAMAGED,    /* an image is about to be damaged on the disk */
-    SPOILING,   /* so many spans of any items are: until they are scrubbed nothing is promised of the file */
-    SCRUBBED,   /* the disk has what the volume in memory has; so many items differed */
     LOCKED,     /* there is no more room for this change: a new file, please */
     MISTAKE     /* a call gave what it must not; the answer tells which check */
 };
@@ -32,7 +28,6 @@ struct task {
     uint32_t frames, steps;
     int carry;  /* the volume is to be carried over */
     int upkeep; /* upkeep is followed before every call, in frame 1 */
-    int mend;   /* so is mending; and images are damaged, one between two passes */
     int out;    /* the pipe */
 };
 

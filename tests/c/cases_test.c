@@ -1,11 +1,9 @@
-/* The cases K3 to K12 by the calls on the state, what Make takes, what stands in a volume, that the heading is compared
- * first, and the texts. Prints a line a check; exits with 1 if one fails. */
-#define _DEFAULT_SOURCE
+/* The cases K3 to K12 by the calls on the state, what Make takes, what stands in a volume, and the texts. Prints a line
+ * a check; exits with 1 if one fails. */
 #include "box.h"
 #include "check.h"
 
 #include <string.h>
-#include <sys/mman.h>
 
 static struct box b;
 
@@ -132,33 +130,12 @@ static void backups(void) {
     check("slot 1, page 1 at 4", tells(pagestore_slot(v, size, 1, f, 8), f, (uint32_t[]){1, 1, 4, 0, 0, 0, 0, 0}, 8));
     slot[100] ^= 1;
     check("slot 1, fails", tells(pagestore_slot(v, size, 1, f, 8), f, (uint32_t[]){2, 1, 4, 0, 0, 0, 0, 0}, 8));
-}
-
-/* Pages 1 and 2 and slot 1: how many of the three fail. The report is left by a refusal. */
-static int fail(uint32_t wanted, uint32_t number, size_t volume_len, size_t state_len, size_t report_len) {
-    uint32_t n[2] = {9, 9};
-    return pagestore_failing(b.volume, volume_len, b.state, state_len, n, report_len) == wanted && n[0] == number;
-}
-
-static void failings(void) {
-    laid(1);
-    size_t size = b.volume_len, state = PAGESTORE_STATE_SIZE;
-    uint8_t *slot = b.volume + slot_at(CASES, 1);
-    chain_image(slot, CASES, 1);
-    check("failing, none", fail(PAGESTORE_OK, 0, size, state, 1));
+    uint32_t with = pagestore_failing(v, size, b.state, PAGESTORE_STATE_SIZE);
     slot[100] ^= 1;
-    check("failing, the slot", fail(PAGESTORE_OK, 1, size, state, 1));
-    memset(b.volume + page_at(1), 0, PAGESTORE_IMAGE_SIZE);
-    check("failing, and a page", fail(PAGESTORE_OK, 2, size, state, 1));
-    check("failing, no volume: 1", fail(PAGESTORE_BAD_VOLUME, 9, size - 1, state - 1, 2));
-    check("failing, a shorter state: 2", fail(PAGESTORE_BAD_BUFFER, 9, size, state - 1, 1));
-    check("failing, no report: 2", fail(PAGESTORE_BAD_BUFFER, 9, size, state, 0));
-    check("failing, a longer report: 2", fail(PAGESTORE_BAD_BUFFER, 9, size, state, 2));
-    b.state[PAGESTORE_STATE_PENDING] = 17;
-    check("failing, 17 pending: 2", fail(PAGESTORE_BAD_BUFFER, 9, size, state, 1));
-    b.state[PAGESTORE_STATE_PENDING] = 0;
-    b.state[PAGESTORE_STATE_FRAMES + 1] = 2;
-    check("failing, a frame's mark is 2: 2", fail(PAGESTORE_BAD_BUFFER, 9, size, state, 1));
+    uint32_t without = pagestore_failing(v, size, b.state, PAGESTORE_STATE_SIZE);
+    check("failing, one more", with == without + 1 && without <= 2);
+    check("failing, a wrong length", pagestore_failing(v, size, b.state, PAGESTORE_STATE_SIZE - 1) == 0);
+    check("failing, no volume", pagestore_failing(v, size - 1, b.state, PAGESTORE_STATE_SIZE) == 0);
 }
 
 /* The room left, by place. */
@@ -192,59 +169,6 @@ static void rooms(void) {
     check("room, it is backed up", left(2, 0, 3, 1));
 }
 
-/* ---- the heading is compared first ---- */
-
-/* Four bytes that are no heading, and behind them a page that kills whoever reads it: it stands for memory, state and
- * every buffer. */
-static uint8_t *bytes;
-static uint32_t *numbers;
-
-#define FIRST(call, ...) check("first: " #call, pagestore_##call(bytes - 4, 1108, __VA_ARGS__) == PAGESTORE_BAD_VOLUME)
-#define ON_STATE bytes, 1280, numbers, PAGESTORE_STATE_SIZE
-#define REPORT numbers, PAGESTORE_CALL_REPORT_SIZE
-
-static void first_on_the_state(void) {
-    FIRST(begin, ON_STATE, 1, 1, 0, REPORT);
-    FIRST(begin, ON_STATE, 1, 1, 256, REPORT);
-    FIRST(load, ON_STATE, 1, 1, REPORT);
-    FIRST(change, ON_STATE, 1, PAGESTORE_PUT, 0, 1, 0, (const uint8_t *)"A", 1, REPORT);
-    FIRST(force, ON_STATE, REPORT);
-    FIRST(write, ON_STATE, 1, REPORT);
-    FIRST(backup, ON_STATE, 1, 1, REPORT);
-    FIRST(release, ON_STATE, 1, REPORT);
-    FIRST(note, ON_STATE, REPORT);
-    FIRST(start_carry, ON_STATE, REPORT);
-    FIRST(restamp, ON_STATE, REPORT);
-    FIRST(finish_carry, ON_STATE, REPORT);
-    FIRST(upkeep, ON_STATE, 1, numbers, PAGESTORE_UPKEEP_SIZE);
-    FIRST(restart, bytes, 1280, numbers, PAGESTORE_STATE_SIZE - 1);
-}
-
-static void first_of_readers(void) {
-    FIRST(inspect, 1, bytes, PAGESTORE_IMAGE_SIZE);
-    for (size_t n = 2; n <= PAGESTORE_REPORT_SIZE; n++) FIRST(examine, 1, bytes, PAGESTORE_IMAGE_SIZE, numbers, n);
-    for (size_t n = 127; n <= PAGESTORE_FORECAST_SIZE; n++) FIRST(forecast, numbers, n);
-    for (size_t n = 3; n <= PAGESTORE_ROOM_SIZE; n++) FIRST(room, numbers, n);
-    for (size_t n = 65; n <= PAGESTORE_COMPARE_SIZE; n++) FIRST(compare, bytes - 4, 1108, numbers, n);
-    FIRST(archive_write, bytes, 9);
-    check("first: archive_length", pagestore_archive_length(bytes - 4, 1108) == 0);
-    FIRST(counts, numbers, 5);
-    FIRST(record, 1, numbers, PAGESTORE_FIELDS_SIZE);
-    FIRST(note_at, 1, numbers, PAGESTORE_FIELDS_SIZE);
-    FIRST(slot, 1, numbers, PAGESTORE_FIELDS_SIZE);
-    FIRST(failing, numbers, PAGESTORE_STATE_SIZE, numbers, PAGESTORE_FAILING_SIZE);
-}
-
-static void heading_first(void) {
-    uint8_t *two = mmap(NULL, 8192, PROT_READ | PROT_WRITE, MAP_PRIVATE | MAP_ANONYMOUS, -1, 0);
-    check("two pages, one of them shut", two != MAP_FAILED && mprotect(two + 4096, 4096, PROT_NONE) == 0);
-    bytes = two + 4096;
-    numbers = (uint32_t *)(void *)bytes;
-    first_on_the_state();
-    first_of_readers();
-    munmap(two, 8192);
-}
-
 static void texts(void) {
     check("version", pagestore_version() == PAGESTORE_VERSION);
     for (uint32_t n = 0; n <= 25; n++)
@@ -257,14 +181,12 @@ int main(void) {
     const char *headings[] = {"CHPV", "CHP2"};
     made();
     rooms();
-    heading_first();
     texts();
     for (int i = 0; i < 2; i++) {
         heading = headings[i];
         cases();
         slots();
         backups();
-        failings();
     }
     return verdict();
 }

@@ -9,23 +9,17 @@
 #include <string.h>
 #include <sys/mman.h>
 #include <sys/stat.h>
-#include <sys/statvfs.h>
 #include <unistd.h>
 
 struct disk *disk;
-void (*disk_do)(void);
 
 ssize_t __real_pwrite(int fd, const void *bytes, size_t count, off_t offset);
 int __real_fdatasync(int fd);
 int __real_fsync(int fd);
-int __real_flock(int fd, int operation);
-int __real_fstatvfs(int fd, struct statvfs *system);
 int __real_posix_fadvise(int fd, off_t offset, off_t length, int advice);
 ssize_t __wrap_pwrite(int fd, const void *bytes, size_t count, off_t offset);
 int __wrap_fdatasync(int fd);
 int __wrap_fsync(int fd);
-int __wrap_flock(int fd, int operation);
-int __wrap_fstatvfs(int fd, struct statvfs *system);
 int __wrap_posix_fadvise(int fd, off_t offset, off_t length, int advice);
 
 static void must(int holds, const char *what) {
@@ -69,7 +63,6 @@ ssize_t __wrap_pwrite(int fd, const void *bytes, size_t count, off_t offset) {
     if (now.call == NO_CALL) return write_dirty(fd, bytes, count, offset);
     if (now.action == FAIL) return failed(now.error);
     if (now.action == DIE_BEFORE) die();
-    if (now.action == DO) disk_do();
     int part = now.action == SHORT || now.action == SHORT_FAIL;
     ssize_t n = write_dirty(fd, bytes, part ? (count + 1) / 2 : count, offset);
     if (now.action == DIE_AFTER) die();
@@ -96,8 +89,6 @@ static int sync_dirty(int fd) {
         disk->dirty_count = 0;
         return failed(now.error);
     }
-    if (now.call != NO_CALL && now.action == DO) disk_do();
-    if (now.call != NO_CALL && now.action == DO && now.error != 0) return failed(now.error);
     store_dirty(fd);
     if (now.call != NO_CALL && now.action == DIE_AFTER) die();
     return 0;
@@ -109,17 +100,6 @@ int __wrap_fdatasync(int fd) {
 
 int __wrap_fsync(int fd) {
     return disk != NULL && sync_dirty(fd) != 0 ? -1 : __real_fsync(fd);
-}
-
-int __wrap_flock(int fd, int operation) {
-    if (disk != NULL && due(LOCK_CALL).call != NO_CALL) disk_do();
-    return __real_flock(fd, operation);
-}
-
-int __wrap_fstatvfs(int fd, struct statvfs *system) {
-    int answer = __real_fstatvfs(fd, system);
-    if (answer == 0 && disk != NULL && disk->readonly) system->f_flag |= ST_RDONLY;
-    return answer;
 }
 
 /* Whether the byte is dirty. */

@@ -2,22 +2,21 @@
  * write goes to the file and is dirty; a sync stores what is dirty; a power cut leaves a dirty item old, new or torn,
  * and the cache is gone. It lies in memory that the processes of a test share, so that a kill loses nothing of it.
  *
- * The library under test is plain: the linker lets its pwrite, fdatasync, fsync, flock, fstatvfs and posix_fadvise come
- * by here (--wrap). */
+ * The library under test is plain: the linker lets its pwrite, fdatasync, fsync and
+ * posix_fadvise come by here (--wrap). */
 #ifndef DISK_H
 #define DISK_H
 
 #include "volume.h"
 
 /* At the nth such call of the system from now on this happens, once. */
-enum call { NO_CALL, WRITE_CALL, SYNC_CALL, LOCK_CALL };
+enum call { NO_CALL, WRITE_CALL, SYNC_CALL };
 enum action {
     DIE_BEFORE,  /* the process is killed before it */
     DIE_AFTER,   /* and right behind it */
     FAIL,        /* it fails with `error`; a sync that fails stores nothing, and nothing is dirty any more */
     SHORT,       /* half of the bytes are written */
-    SHORT_FAIL,  /* and the next write fails with `error` */
-    DO           /* the test does something of its own before it (disk_do); a sync fails then, if `error` is one */
+    SHORT_FAIL   /* and the next write fails with `error` */
 };
 struct plan {
     uint32_t call, countdown, action;
@@ -29,7 +28,6 @@ struct disk {
     struct plan plan;
     uint32_t happened;     /* plans that came about */
     uint32_t writes, syncs;
-    uint32_t readonly;     /* the file system says that it is */
     struct counts counts;  /* of the volume */
     uint32_t dirty_count;
     struct {
@@ -40,9 +38,6 @@ struct disk {
 
 /* The disk of the volume in use, or NULL: then all calls go on to the system as they are. */
 extern struct disk *disk;
-
-/* What DO does. */
-extern void (*disk_do)(void);
 
 /* Room for one, shared with the processes that are forked later. */
 struct disk *new_disk(void);

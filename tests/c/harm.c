@@ -10,18 +10,16 @@
 enum { EARLIER = 4, PLACES = 32 };  /* images remembered for each place, and the most places */
 
 struct harmed harmed;
-uint32_t failures;
 static const char *path;
-static enum guard guard;
+static int guarded;
 static struct {
     uint32_t count;
     uint8_t image[EARLIER][256];
 } earlier[PLACES];
 
-void harm_begin(const char *volume, enum guard what) {
+void harm_begin(const char *volume, int ring) {
     path = volume;
-    guard = what;
-    failures = 0;
+    guarded = ring;
     memset(earlier, 0, sizeof earlier);
 }
 
@@ -105,12 +103,6 @@ static void count_cut(struct item item) {
     harmed.cut[item.kind][left]++;
 }
 
-/* Whether the cut would leave more than is provided for. */
-static int too_much(struct item item, int torn) {
-    if (guard == ONE_FAILURE) return torn && item.kind == PAGE_IMAGE && failures > 0;
-    return guard == GUARDED && !repairable(candidate);
-}
-
 /* The power is cut, or only the process is dead: then what it wrote lies in the cache. What a cut may leave is old, new
  * or failing its check, and no image that a ring counts on is torn while its other one is damaged. */
 void cut_off(int power) {
@@ -124,12 +116,10 @@ void cut_off(int power) {
         else memcpy(candidate + item.offset, cache + item.offset, item.length);
         int new = memcmp(candidate + item.offset, cache + item.offset, item.length) == 0;
         int old = memcmp(candidate + item.offset, disk->bytes + item.offset, item.length) == 0;
-        int torn = !old && !passes(candidate, item); /* also where the cache has it half, after a write that failed */
-        int chance = !new && !old && !torn, spared = too_much(item, torn);
+        int chance = !new && !old && passes(candidate, item), spared = guarded && !repairable(candidate);
         harmed.by_chance += (unsigned long)chance;
         harmed.spared += (unsigned long)spared;
         if (chance || spared) memcpy(candidate, disk->bytes, size), power = 1;
-        else failures += item.kind == PAGE_IMAGE && torn;
         count_cut(item);
     }
     if (!power) return;
@@ -173,33 +163,9 @@ void damage(void) {
         harm(n, how);
         if (memcmp(candidate, disk->bytes, size) == 0) continue;
         if (how != EARLIER_IMAGE && passes_either(candidate, place(n))) continue;
-        if (guard != UNGUARDED && !repairable(candidate)) continue;
+        if (guarded && !repairable(candidate)) continue;
         memcpy(disk->bytes, candidate, size);
         harmed.damaged[how]++;
     }
     drop_cache(path);
-}
-
-void damage_one(void) {
-    uint32_t places = disk->counts.pages + disk->counts.slots, n = 1 + random_below(places);
-    enum damage how = random_below(DAMAGES);
-    size_t at = place(n).offset;
-    for (uint32_t i = 1; i <= places; i++) remember(i);
-    memcpy(candidate, disk->bytes, size_of(disk->counts));
-    harm(n, how);
-    if (memcmp(candidate + at, disk->bytes + at, 256) == 0) return;
-    if (how != EARLIER_IMAGE && passes_either(candidate, place(n))) return;
-    memcpy(disk->bytes + at, candidate + at, 256);
-    harmed.damaged[how]++;
-    failures++;
-}
-
-uint32_t damage_span(void) {
-    uint32_t size = (uint32_t)size_of(disk->counts), at = random_below(size), length = 1 + random_below(600);
-    if (length > size - at) length = size - at;
-    memcpy(candidate, disk->bytes, size);
-    fill_random(disk->bytes + at, length);
-    uint32_t others = 0;
-    for (uint32_t i = at; i < at + length; i++) others += disk->bytes[i] != candidate[i];
-    return others;
 }

@@ -7,13 +7,6 @@
 enum left { OLD, NEW, TORN, LEFTS };
 enum damage { EARLIER_IMAGE, RANDOM_BYTES, ONE_BYTE, ERASED, DAMAGES };
 
-/* What is spared, beside what document 01 does not allow. */
-enum guard {
-    UNGUARDED,   /* nothing: no ring */
-    GUARDED,     /* the last image that a ring counts on */
-    ONE_FAILURE  /* a second failure before the first one is mended */
-};
-
 /* How often each was done. */
 extern struct harmed {
     unsigned long cut[KINDS][LEFTS];
@@ -22,11 +15,8 @@ extern struct harmed {
     unsigned long damaged[DAMAGES];
 } harmed;
 
-/* Images damaged, and own images left torn, since all pages were last mended. */
-extern uint32_t failures;
-
-/* A new volume. A ring, and one that becomes a ring, counts on a noted backup or an own image as new. */
-void harm_begin(const char *path, enum guard guard);
+/* A new volume. Guarded: it is or becomes a ring, which counts on a noted backup or an own image as new. */
+void harm_begin(const char *path, int guarded);
 
 /* The power is cut, or only the process is dead: then what it wrote lies in the cache. What was being stored is left
  * old, new or failing its check. */
@@ -34,11 +24,5 @@ void cut_off(int power);
 
 /* Images are left failing their check, or as they were stored there earlier. */
 void damage(void);
-
-/* One image, whichever it is, and a failure counted; the cache keeps what it has. */
-void damage_one(void);
-
-/* A span of random bytes, in whatever items: the number of bytes that are others now. */
-uint32_t damage_span(void);
 
 #endif

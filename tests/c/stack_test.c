@@ -173,15 +173,14 @@ static int check_state(const char *name, const struct asked *a, uint32_t wanted)
 
 static __attribute__((noinline)) void on_images(void *given) {
     const struct box *x = given;
-    answer = pagestore_failing(x->volume, x->volume_len, x->state, x->state_len, numbers, PAGESTORE_FAILING_SIZE);
+    answer = pagestore_failing(x->volume, x->volume_len, x->state, x->state_len);
 }
 
 /* No image of a volume that was just made passes: a line as above. */
 static int check_failing(void) {
     size_t bytes = touched(on_images, &box);
-    uint32_t all = PAGESTORE_PAGES_MAX + PAGESTORE_SLOTS_MAX;
-    int well = answer == PAGESTORE_OK && numbers[0] == all && bytes <= PAGESTORE_STATE_STACK;
-    printf("%s failing: %u; %zu bytes of stack, at most %u\n", well ? "ok    " : "FAILED", (unsigned)numbers[0], bytes,
+    int well = answer == PAGESTORE_PAGES_MAX + PAGESTORE_SLOTS_MAX && bytes <= PAGESTORE_STATE_STACK;
+    printf("%s failing: %u; %zu bytes of stack, at most %u\n", well ? "ok    " : "FAILED", (unsigned)answer, bytes,
            PAGESTORE_STATE_STACK);
     return well;
 }
@@ -245,42 +244,8 @@ static int check_upkeep(void) {
     return failures;
 }
 
-/* Mending on a small ring: a whole page, one whose backup fails, one that is to be loaded, whose repair it tries. */
-static __attribute__((noinline)) void looked_at(void *given) {
-    (void)given;
-    answer = pagestore_mend(box.volume, box.volume_len, box.memory, box.memory_len, box.state, box.state_len, 2, 1,
-                            advice, PAGESTORE_UPKEEP_SIZE);
-}
-
-static int check_look(uint32_t kind, uint32_t number) {
-    size_t bytes = touched(looked_at, NULL);
-    int right = answer == PAGESTORE_OK && advice[PAGESTORE_UPKEEP_KIND] == kind &&
-                advice[PAGESTORE_UPKEEP_NUMBER] == number;
-    int well = right && bytes <= PAGESTORE_STATE_STACK;
-    printf("%s mend, call %u: %zu bytes of stack, at most %u\n", well ? "ok    " : "FAILED", (unsigned)number, bytes,
-           PAGESTORE_STATE_STACK);
-    return well;
-}
-
-static int check_mend(void) {
-    static const struct counts small = {1, 2, 4, 4};
-    static const struct asked calls[] = {
-        {.call = BEGIN, .page = 1, .frame = 1}, {.call = FORCE}, {.call = BACKUP, .page = 1, .slot = 1},
-        {.call = STORE_NOTE},
-    };
-    int failures = 0;
-    box_made(&box, small, 16, 0);
-    for (size_t i = 0; i < sizeof calls / sizeof calls[0]; i++) failures += box_called(&box, calls[i]) != 0;
-    failures += !check_look(PAGESTORE_MEND_WHOLE, 0);
-    box_poke(&box, slot_at(small, 1) + 9, 1);
-    failures += !check_look(PAGESTORE_MEND_CALL, PAGESTORE_CALL_BACKUP);
-    failures += box_called(&box, (struct asked){.call = RELEASE, .page = 1}) != 0;
-    failures += !check_look(PAGESTORE_MEND_CALL, PAGESTORE_CALL_LOAD);
-    return failures;
-}
-
 int main(void) {
-    int failures = check_calls(1) + check_calls(0) + check_upkeep() + check_mend();
+    int failures = check_calls(1) + check_calls(0) + check_upkeep();
     for (size_t i = 0; i < sizeof SIZES / sizeof SIZES[0]; i++)
         for (int kind = 0; kind < KINDS; kind++) failures += !check(SIZES[i], (enum kind)kind);
     for (int f = EXAMINE; f < FUNCTIONS; f++) failures += !check_other((enum function)f);

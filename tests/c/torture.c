@@ -1,21 +1,18 @@
-/* torture ROUNDS SEED DIRECTORY [upkeep|mend]: a store in a file is killed at random moments, its power is cut in the
- * middle of a store, its images are damaged, its calls of the system fail; after each round every page is held against
- * an abstract log.
+/* torture ROUNDS SEED DIRECTORY [upkeep]: a store in a file is killed at random moments, its power is cut in the middle
+ * of a store, its images are damaged, its calls of the system fail; after each round every page is held against an
+ * abstract log.
  *
  * A child makes random calls and tells each change before it is made and each stored force behind it; the parent has
  * the abstract log. A change whose force was told must be there, in order and once; of the pending ones a beginning may
  * be there. The last line tells how many were lost, and how many pages were wrong otherwise.
  *
  * With the word upkeep the child follows it before every call, on rings as small as docs/UPKEEP.md allows: no call may
- * be refused for room. Its refreshing puts have numbers of their own: there a page is held against its text alone.
- *
- * With the word mend it makes a pass of mending before every call, too. Any image is damaged, under the running server
- * or between two of them, one between two passes; and any items are, and scrubbed: no page may be lost. */
+ * be refused for room. Its refreshing puts have numbers of their own: there a page is held against its text alone. */
 #define _GNU_SOURCE
+#include "caller.h"
 #include "disk.h"
 #include "harm.h"
 #include "pagestore_file.h"
-#include "torture.h"
 
 #include <errno.h>
 #include <fcntl.h>
@@ -27,14 +24,38 @@
 #include <unistd.h>
 
 static char path[4096];
+static struct abstract_log expected;
+static struct task task;
 static struct disk *shared;
 static int ring;         /* the volume is or becomes a ring, which counts on its backups */
+static int wanted = 1;   /* a new file is wanted */
+static unsigned long round_number;
 static uint32_t cuts;    /* since upkeep was last at rest */
-static int spoiled;      /* items were damaged that are not scrubbed yet */
+static uint32_t stored;  /* log records, when the volume was last looked at */
+enum { CUTS = 8 };       /* that many are provided for */
 
-struct abstract_log expected;
-struct task task;
-uint32_t stored;
+/* ---- figures */
+
+static struct {
+    unsigned long files, turned, locked, durable, undecided, undecided_durable;
+    unsigned long killed, planned, failed, interrupted, ended, second_cuts;
+    unsigned long repaired[6][4], lost, wrong;
+    unsigned long rests, calls, most_calls, restless;
+} figures;
+
+static void lost(unsigned long many, const char *what) {
+    printf("round %lu: LOST %lu: %s (P %u, B %u, L %u, N %u, durable %u)\n", round_number, many, what,
+           task.counts.pages, task.counts.slots, task.counts.records, task.counts.notes, expected.durable);
+    figures.lost += many;
+    wanted = 1;
+}
+
+static void wrong(const char *what, long number) {
+    printf("round %lu: WRONG: %s, %ld (P %u, B %u, L %u, N %u, durable %u)\n", round_number, what, number,
+           task.counts.pages, task.counts.slots, task.counts.records, task.counts.notes, expected.durable);
+    figures.wrong++;
+    wanted = 1;
+}
 
 static void must(int holds, const char *what) {
     if (holds) return;
@@ -87,8 +108,7 @@ static void new_file(void) {
     ring = first != 0 || task.carry;
     memset(&expected, 0, sizeof expected);
     cuts = stored = 0;
-    spoiled = 0;
-    harm_begin(path, task.mend ? ONE_FAILURE : ring ? GUARDED : UNGUARDED);
+    harm_begin(path, ring);
     figures.files++;
     wanted = 0;
 }
@@ -113,15 +133,6 @@ static void on_rest(unsigned long calls) {
     cuts = 0;
 }
 
-/* The child damages nothing before its first pass: after a scrub, as after a pass, no failure waits. */
-static void on_damage(enum tell tell, unsigned long number) {
-    if (tell == MENDED) on_rest(number);
-    if (tell == DAMAGED) failures++, figures.failures++;
-    else failures = 0;
-    if (tell == SPOILING) spoiled = 1, figures.spans += number;
-    if (tell == SCRUBBED) spoiled = 0, figures.scrubs++, figures.scrubbed += number;
-}
-
 static void on_message(const struct message *message) {
     int answer = message->answer;
     if (message->tell == ASKED) asked = message->change;
@@ -134,7 +145,6 @@ static void on_message(const struct message *message) {
         while (expected.pending > 0) log_force(&expected);
     }
     else if (message->tell == UPKEPT) on_rest((unsigned long)answer);
-    else if (message->tell >= MENDED && message->tell <= SCRUBBED) on_damage(message->tell, (unsigned long)answer);
     else if (message->tell == LOCKED) figures.locked++, wanted = 1;
     else if (message->tell == MISTAKE) wrong("the child's check", answer);
     else if (message->tell == DEAD && shared->happened == 0) wrong("a call failed without a cause", answer);
@@ -202,6 +212,91 @@ static void run_child(void) {
     shared->plan.call = NO_CALL;
 }
 
+/* ---- every page against the abstract log */
+
+static int same_page(uint32_t page, const uint8_t *body, uint32_t number) {
+    return (task.upkeep || number == expected.number[page]) && memcmp(body, expected.body[page], BODY) == 0;
+}
+
+/* How many changes of the volume are durable: the number of the last one. */
+static uint32_t last_number(struct pagestore_file *file) {
+    uint8_t image[256];
+    uint32_t last = 0;
+    for (uint32_t page = 1; page <= task.counts.pages; page++) {
+        int answer = pagestore_file_inspect(file, page, image, sizeof image);
+        if (answer == 0 && number_at(image + 4, 4) > last) last = number_at(image + 4, 4);
+    }
+    return last;
+}
+
+static void check_page(struct pagestore_file *file, uint32_t page) {
+    uint8_t image[256];
+    int blank = expected.number[page] == 0, answer = pagestore_file_inspect(file, page, image, sizeof image);
+    if (answer != (blank ? 7 : 0)) wrong("inspect answered", answer);
+    else if (!blank && !same_page(page, image + 8, number_at(image + 4, 4))) {
+        if (number_at(image + 4, 4) < expected.number[page]) lost(1, "the page is old");
+        else wrong("the text of page", page);
+    }
+    answer = pagestore_file_load(file, page, 1);
+    if (answer != (blank ? 7 : 0)) wrong("load answered", answer);
+    if (answer != 0) return;
+    const uint32_t *report = pagestore_file_report(file);
+    const uint8_t *text = pagestore_file_text(file, page);
+    if (text == NULL || memcmp(text, expected.body[page], BODY) != 0) wrong("the frame's text of page", page);
+    figures.repaired[report[0] % 6][report[1] % 4]++;
+}
+
+/* How many of the pending changes were stored. Under upkeep at most one is pending, and its page tells: one that
+ * changed nothing counts as stored. */
+static uint32_t decided(struct pagestore_file *file) {
+    struct abstract_log was = expected;
+    uint8_t image[256];
+    if (!task.upkeep) return stored - expected.durable;
+    if (expected.pending != 1) return 0;
+    uint32_t page = expected.queue[0].page;
+    log_force(&expected);
+    int there = pagestore_file_inspect(file, page, image, sizeof image) == 0
+                && memcmp(image + 8, expected.body[page], BODY) == 0;
+    expected = was;
+    return there ? 1 : 0;
+}
+
+/* Settles what was undecided, then looks at every page. */
+static void check_pages(struct pagestore_file *file) {
+    uint32_t pending = expected.pending, least = task.upkeep ? stored : expected.durable;
+    stored = last_number(file);
+    if (stored < least) {
+        lost(least - stored, "acknowledged changes");
+        return;
+    }
+    if (task.upkeep ? pending > 1 : stored > expected.durable + pending) {
+        wrong("changes that nobody asked for", (long)stored);
+        return;
+    }
+    uint32_t durable = decided(file);
+    figures.undecided += pending;
+    figures.undecided_durable += durable;
+    while (durable-- > 0) log_force(&expected);
+    log_cut(&expected);
+    for (uint32_t page = 1; page <= task.counts.pages; page++) check_page(file, page);
+}
+
+static void verify(void) {
+    struct pagestore_file *file, *second;
+    int answer = pagestore_file_open(&file, path, 1 + random_below(16));
+    if (answer != 0) {
+        wrong("open answered", answer);
+        return;
+    }
+    check_pages(file);
+    if (random_below(8) == 0) {
+        answer = pagestore_file_open(&second, path, 1);
+        if (answer != -EWOULDBLOCK || second != NULL) wrong("a second open", answer);
+        if (second != NULL) pagestore_file_close(second);
+    }
+    if (pagestore_file_close(file) != 0) wrong("close", errno);
+}
+
 /* ---- the rounds */
 
 /* A cut, and the open and close that look at what it left: as many cuts as are provided for may come in a row. */
@@ -212,26 +307,9 @@ static void count_cuts(void) {
     figures.restless++;
 }
 
-/* Between two servers: any image, if no failure waits for a pass; or as many as leave each page a start. */
-static void damage_some(void) {
-    if (task.mend && failures > 0) return;
-    if (!task.mend) damage();
-    else {
-        damage_one();
-        drop_cache(path);
-        verify();
-        count_cuts();
-    }
-}
-
 static void one_round(void) {
     uint32_t before = stored / task.counts.records;
     run_child();
-    if (spoiled) {
-        figures.unscrubbed++;
-        wanted = 1;
-        return;
-    }
     cut_off(random_below(5) < 3);
     verify();
     count_cuts();
@@ -242,18 +320,46 @@ static void one_round(void) {
         count_cuts();
     }
     if (ring) figures.turned += stored / task.counts.records - before;
-    if (!wanted && random_below(2) == 0) damage_some();
+    if (!wanted && random_below(2) == 0) damage();
+}
+
+static void print_figures(unsigned long seed) {
+    static const char *kinds[] = {"heading", "page image", "backup image", "log record", "note"};
+    static const char *classes[] = {"", "good", "behind", "stale", "failed", "ahead"};
+    static const char *starts[] = {"", "own image", "backup", "format"};
+    printf("files %lu, turns of a log %lu, files without room in the end %lu\n", figures.files, figures.turned,
+           figures.locked);
+    if (task.upkeep)
+        printf("upkeep came to rest %lu times by %lu calls, at most %lu at once; files left after %d cuts without rest "
+               "%lu\n", figures.rests, figures.calls, figures.most_calls, CUTS, figures.restless);
+    printf("rounds that ended by SIGKILL at any moment %lu, at a chosen call %lu, by a failed call %lu, "
+           "with one interrupted or short %lu, by themselves %lu; cut once more %lu\n", figures.killed,
+           figures.planned, figures.failed, figures.interrupted, figures.ended, figures.second_cuts);
+    printf("changes acknowledged %lu; undecided %lu, of them durable %lu\n", figures.durable, figures.undecided,
+           figures.undecided_durable);
+    for (int k = 0; k < KINDS; k++)
+        printf("cuts within a store, %s: left old %lu, new %lu, torn %lu\n", kinds[k], harmed.cut[k][OLD],
+               harmed.cut[k][NEW], harmed.cut[k][TORN]);
+    printf("torn items that passed their check %lu; cuts left old to spare a ring's last image %lu\n",
+           harmed.by_chance, harmed.spared);
+    printf("images damaged: an earlier one %lu, random %lu, one byte %lu, erased %lu\n",
+           harmed.damaged[EARLIER_IMAGE], harmed.damaged[RANDOM_BYTES], harmed.damaged[ONE_BYTE],
+           harmed.damaged[ERASED]);
+    for (int i = 4; i < 24; i++) {
+        unsigned long many = figures.repaired[i / 4][i % 4];
+        if (many > 0) printf("pages loaded: %s, from %s %lu\n", classes[i / 4], starts[i % 4], many);
+    }
+    printf("torture: %lu rounds, seed %lu: %lu lost, %lu wrong\n", round_number, seed, figures.lost, figures.wrong);
 }
 
 int main(int argc, char **argv) {
-    task.mend = argc == 5 && strcmp(argv[4], "mend") == 0;
-    task.upkeep = task.mend || (argc == 5 && strcmp(argv[4], "upkeep") == 0);
+    task.upkeep = argc == 5 && strcmp(argv[4], "upkeep") == 0;
     int right = argc == 4 || task.upkeep;
     unsigned long rounds = right ? strtoul(argv[1], NULL, 10) : 0;
     unsigned long seed = right ? strtoul(argv[2], NULL, 10) : 0;
     char directory[256];
     if (rounds == 0) {
-        fprintf(stderr, "usage: torture ROUNDS SEED DIRECTORY [upkeep|mend]\n");
+        fprintf(stderr, "usage: torture ROUNDS SEED DIRECTORY [upkeep]\n");
         return 2;
     }
     snprintf(directory, sizeof directory, "%s/torture.XXXXXX", argv[3]);

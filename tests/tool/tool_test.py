@@ -5,16 +5,10 @@
 """
 import sys
 
-import copy_test
 import habits_test
 import reading_test
-import refusal_test
-import repair_test
 import trial
-import verdict_test
 import writing_test
 
-PARTS = (reading_test, verdict_test, refusal_test, repair_test, copy_test, writing_test, habits_test)
-
 if __name__ == "__main__":
-    sys.exit(trial.main(*(case for part in PARTS for case in part.CASES)))
+    sys.exit(trial.main(*reading_test.CASES, *writing_test.CASES, *habits_test.CASES))

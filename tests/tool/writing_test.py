@@ -1,25 +1,60 @@
 """The commands that write a file: what they make, what they tell, what they leave alone."""
-import contextlib
-import fcntl
 import json
 import os
-import re
 import resource
 import signal
-import socket
 import struct
 import subprocess
-import threading
-import time
-import unittest
 import xml.etree.ElementTree as ElementTree
 
-from trial import (COUNTS, DEMO, FIRST, HAS_FAULTS, ROOT, SAMPLES, TOOL, TURNED, Trial, fault, hurt, lines, locked, part_of, run,
-                   sample)
+from trial import COUNTS, DEMO, FIRST, SAMPLES, TOOL, TURNED, Trial, hurt, lines, run, sample
 
 
 def archive_of(*sections):
     return b"".join(struct.pack("<I", len(s)) + b"".join(s) for s in sections)
+
+
+class Repair(Trial):
+    def mended(self, path, pages, left=()):
+        """Repairs; every page but those left is then Good or blank, and says what it said."""
+        out = self.dir / "mended.vol"
+        status, told, err = run("repair", path, "-o", out, "--force")
+        self.assertEqual((status, err), (1 if left else 0, ""))
+        words = {int(line.split()[0]): line.split()[1] for line in lines("scan", out) if line[0].isdigit()}
+        self.assertEqual({page for page, word in words.items() if word not in ("GOOD", "BLANK")}, set(left))
+        for page in range(1, pages + 1):
+            self.assertEqual(run("show", out, page, "--raw")[:2], run("show", path, page, "--raw")[:2])
+        return told.decode()
+
+    def test_every_page_is_good(self):
+        told = self.mended(DEMO, 6).splitlines()
+        self.assertEqual(told, [f"page {p} was {w}, is GOOD" for p, w in ((2, "BEHIND"), (3, "STALE"), (4, "FAILED"), (5, "FAILED"))])
+        self.mended(FIRST, 6)
+        self.assertEqual(self.mended(TURNED, 2), "page 2 was FAILED, is GOOD\n")
+        mended = self.file((self.dir / "mended.vol").read_bytes())
+        self.assertEqual(self.mended(mended, 2), "every page was GOOD: the copy is the same\n")
+        self.assertEqual((self.dir / "mended.vol").read_bytes(), mended.read_bytes())
+
+    def test_what_it_could_not_mend(self):
+        told = self.mended(self.file(sample.visit()), 5, left=[4, 5])
+        self.assertIn("page 4 is BEHIND still, refused 14: The notes are full, ", told)
+        self.assertIn("page 5 is LOST still, refused 23: The page is lost", told)
+        self.assertIn("page 7 was FAILED, is GOOD", self.mended(self.file(sample.full()), 64, left=[33]))
+
+    def test_no_room_for_a_note(self):
+        data = sample.volume(sample.FIRST, [b"\0" * 256], [], [sample.record(1, 0, 1, 1)], [], 4, 0)
+        status, out, _ = run("repair", self.file(data), "-o", self.dir / "out.vol")
+        self.assertEqual(status, 1)
+        self.assertRegex(out.decode(), r"^page 1 is FAILED still, refused 14: The notes are full, .*\.\n$")
+        self.assertEqual((self.dir / "out.vol").read_bytes(), data)
+
+    def test_json(self):
+        out = self.dir / "out.vol"
+        found = json.loads(run("repair", self.file(sample.visit()), "-o", out, "--json")[1])
+        self.assertEqual(found["pages"][0], {"page": 2, "was": "FAILED", "refused": 0})
+        self.assertEqual(found["pages"][-1], {"page": 5, "was": "LOST", "refused": 23})
+        status, data, err = run("repair", DEMO, "-o", "-", "--json")
+        self.assertEqual((status, len(data), len(json.loads(err)["pages"])), (0, DEMO.stat().st_size, 4))
 
 
 class Archive(Trial):
@@ -52,7 +87,7 @@ class Archive(Trial):
         self.refused(22, "restore", self.file(data + bytes(100000)), "-o", out)
         self.refused(22, "restore", DEMO, "-o", out)
         self.refused(12, "restore", self.file(data), "-o", out, "--log", 10)
-        self.told("129: --slots takes 0 to 128", "restore", self.file(data), "-o", out, "--slots", 129)
+        self.refused(1, "restore", self.file(data), "-o", out, "--slots", 129)
         one, two = sample.record(1, 0, 1, 1), sample.record(1, 0, 2, 1)
         for sections in (([one], [two]), ([sample.record(2, 0, 1, 1)],), ([one, sample.record(2000, 1, 1, 1)],)):
             self.told("no single volume's history: ", "restore", self.file(archive_of(*sections)), "-o", out)
@@ -69,11 +104,11 @@ class Convert(Trial):
     def test_convert(self):
         out = self.dir / "second.vol"
         status, told, _ = run("convert", FIRST, "-o", out)
-        self.assertEqual((status, told.decode().splitlines()[:2]), (0, ["RESTAMPED 4", "FAILING 9"]))
-        self.assertIn("scan says which", told.decode())
+        self.assertEqual((status, told.decode().splitlines()[:2]), (0, ["RESTAMPED 4", "FAILING 4"]))
+        self.assertIn("scan names them", told.decode())
         self.assertEqual(out.read_bytes(), DEMO.read_bytes())
         found = json.loads(run("convert", FIRST, "-o", out, "--force", "--json")[1])
-        self.assertEqual(found, {"restamped": 4, "failing": 9})
+        self.assertEqual(found, {"restamped": 4, "failing": 4})
 
     def test_one_that_was_cut_short_is_carried_on(self):
         begun = self.file(b"CHPC" + FIRST.read_bytes()[4:])
@@ -81,52 +116,26 @@ class Convert(Trial):
         self.assertEqual(run("convert", begun, "-o", "-")[1], DEMO.read_bytes())
 
     def test_not_done(self):
-        self.assertIn("It has today's heading already", self.refused(1, "convert", DEMO, "-o", self.dir / "x.vol"))
+        self.assertIn("it has today's heading already", self.refused(1, "convert", DEMO, "-o", self.dir / "x.vol"))
         self.assertEqual(list(self.dir.iterdir()), [])
 
 
 class New(Trial):
     def test_new(self):
         out = self.dir / "n.vol"
-        words = b"6 pages, 4 backup slots, 16 log records, 8 notes: 3732 bytes\n"
-        self.assertEqual(run("new", out, *COUNTS)[:2], (0, words))
+        self.assertEqual(run("new", out, *COUNTS), (0, b"", ""))
         self.assertEqual((out.stat().st_size, out.stat().st_mode & 0o777), (20 + 256 * 10 + 64 * 16 + 16 * 8, 0o600))
-        status, data, err = run("new", "-", *COUNTS)
-        self.assertEqual((status, data), (0, out.read_bytes()))
-        self.assertIn(words.decode(), err)
-        self.assertEqual(json.loads(run("new", out, *COUNTS, "--force", "--json")[1]),
-                         {"pages": 6, "slots": 4, "log": 16, "notes": 8, "bytes": out.stat().st_size})
+        self.assertEqual(run("new", "-", *COUNTS)[1], out.read_bytes())
+        self.assertEqual(json.loads(run("new", out, *COUNTS, "--force", "--json")[1]), {"bytes": out.stat().st_size})
         self.told("exists already; --force replaces it", "new", out, *COUNTS)
-
-    def test_what_is_not_given_is_chosen(self):
-        """docs/UPKEEP.md, "How to choose B, L and N": the better ones of its table, and none of them below the least."""
-        row = re.findall(r"^\| [BNL], [\w ]+ \| .* \| (?:.* better )?([\dP +]+) \|$", (ROOT / "docs/UPKEEP.md").read_text(), re.M)
-        self.assertEqual(row, ["P + 1", "8 P", "16 P"])
-        for pages in (1, 2, 8, 64):
-            b, n, l = (eval(re.sub(r"(\d+) P", r"\1 * P", words), {"P": pages}) for words in row)
-            out = self.dir / f"{pages}.vol"
-            told = f"{pages} pages, {b} backup slots, {l} log records, {n} notes: {20 + 256 * (pages + b) + 64 * l + 16 * n} bytes\n"
-            self.assertEqual(run("new", out, f"--pages={pages}"), (0, told.encode(), ""))
-            self.assertEqual(part_of(out.read_bytes(), "note", n + 1), out.stat().st_size)
-        self.assertIn("8 pages, 9 backup slots, 20 log records, 64 notes", lines("new", self.dir / "l", "--pages", 8, "--log=20")[0])
-
-    def test_counts_below_the_least_are_named(self):
-        least = {"--slots": (9, "backup slots"), "--log": (18, "log records"), "--notes": (18, "notes")}
-        for flag, (n, what) in least.items():
-            for count, told in ((n, ""), (n - 1, f"{n - 1} {what}: upkeep needs {n} or more, or the volume may lock")):
-                status, _, err = run("new", self.dir / "n.vol", "--pages", 8, flag, count, "--force")
-                self.assertEqual((status, err.count("\n")), (0, 1 if told else 0), err)
-                self.assertIn(told, err)
-        arc = self.file(archive_of([sample.record(1, 0, 1, 1)]), "a.arc")
-        self.assertIn("3 notes: upkeep needs 4 or more", run("restore", arc, "-o", self.dir / "r.vol", "--notes", 3)[2])
 
     def test_not_done(self):
         out = self.dir / "n.vol"
-        for flag, count, words in (("--pages", 0, "1 to 64"), ("--pages", 65, "1 to 64"), ("--pages", 4294967297, "1 to 64"),
-                                   ("--slots", 129, "0 to 128"), ("--log", 0, "1 to 1024"), ("--notes", 1025, "0 to 1024")):
-            self.told(f"{count}: {flag} takes {words}", "new", out, *COUNTS, flag, count)
-        self.told("--pages P is missing: how many pages, 1 to 64", "new", out, *COUNTS[2:])
+        self.refused(1, "new", out, *COUNTS[2:], "--pages", 65)
+        self.refused(1, "new", out, *COUNTS[2:], "--pages", 4294967295)
+        self.told("needs --pages, --slots, --log and --notes", "new", out, "--pages", 2)
         self.told("many: not a number", "new", out, "--pages", "many")
+        self.told("4294967296: not a number", "new", out, "--pages", 4294967296)
         self.assertFalse(out.exists())
 
 
@@ -148,7 +157,7 @@ class Map(Trial):
         space = "{http://www.w3.org/2000/svg}"
         self.assertEqual((tree.get("role"), tree.find(space + "title").text), ("img", "Volume demo.vol"))
         self.assertIn("Page 4 FAILED. ", tree.find(space + "desc").text)
-        self.assertIn("State: needs repair. room: ", tree.find(space + "desc").text)
+        self.assertIn("page 1 has to be backed up first", tree.find(space + "desc").text)
         said = [t.text for t in tree.iter(space + "text")]
         for words in ("2  BEHIND", "from BACKUP + 0", "06:10 bed 4 moved", "slot 1: PASSES", "page 4 at 9", "Legend"):
             self.assertTrue(any(words in (s or "") for s in said), words)
@@ -207,74 +216,14 @@ class Safe(Trial):
 
     def test_the_source_may_be_the_place(self):
         path = self.file(DEMO.read_bytes())
-        self.assertEqual(run("repair", path, "-o", path, "--force")[::2], (0, ""))
-        self.assertEqual(path.read_bytes(), run("repair", DEMO, "-o", "-")[1])
-        self.assertNotEqual(path.read_bytes(), DEMO.read_bytes())
+        self.assertEqual(run("repair", path, "-o", path, "--force")[0], 0)
+        self.assertEqual(lines("scan", path)[7], "disk: nothing to mend")
 
-    def test_a_volume_is_not_replaced_by_what_is_none(self):
-        path, arc = self.file(DEMO.read_bytes()), self.file(sample.demo_archive(), "a.arc")
-        for command, place in (("archive", path), ("copy", path), ("map", path), ("restore", arc)):
-            before = place.read_bytes()
-            self.told("the output would replace it: give -o another name", command, place, "-o", place, "--force")
-            self.assertEqual(place.read_bytes(), before)
-
-    def access(self, path):
-        about = path.stat()
-        return about.st_uid, about.st_gid, about.st_mode & 0o777
-
-    def test_the_copy_belongs_to_those_whom_the_source_belongs_to(self):
-        path, out = self.file(DEMO.read_bytes()), self.dir / "out"
-        old, arc = self.file(FIRST.read_bytes(), "first.vol"), self.file(sample.demo_archive(), "a.arc")
-        for source in (path, old, arc):
-            if os.geteuid() == 0:
-                os.chown(source, 1234, 2345)
-        for mode, made in ((0o640, 0o640), (0o666, 0o666), (0o444, 0o644), (0o400, 0o600)):
-            for command, source in (("repair", path), ("copy", path), ("archive", path), ("map", path), ("convert", old), ("restore", arc)):
-                source.chmod(mode)
-                out.unlink(missing_ok=True)
-                self.assertIn(run(command, source, "-o", out, umask=0o027)[0], (0, 1), command)
-                self.assertEqual(self.access(out), (*self.access(source)[:2], made), command)
-
-    def test_what_came_by_a_pipe_is_its_maker_s_alone(self):
-        out = self.dir / "out"
-        ours, theirs = socket.socketpair()  # all may read and write a socket
-        with ours, theirs:
-            if os.geteuid() == 0:
-                os.fchown(theirs.fileno(), 1234, 2345)
-            ours.sendall(DEMO.read_bytes())
-            ours.shutdown(socket.SHUT_WR)
-            done = subprocess.run([TOOL, "repair", "-", "-o", out], stdin=theirs, capture_output=True, check=False)
-        self.assertEqual((done.returncode, self.access(out)), (0, (os.geteuid(), os.getegid(), 0o600)), done.stderr)
-
-    def test_new_keeps_the_owner_of_what_it_replaces(self):
-        path = self.file(b"old")
-        if os.geteuid() == 0:
-            os.chown(path, 1234, 2345)
-        before = self.access(path)[:2]
-        self.assertEqual(run("new", path, "--pages", 2, "--force")[0], 0)
-        self.assertEqual(self.access(path), (*before, 0o600))
-
-    def test_without_the_group_no_rights_for_a_group(self):
+    def test_who_may_read_the_source_may_read_the_copy(self):
         path = self.file(DEMO.read_bytes())
-        self.dir.chmod(0o777)
-        os.chown(path, os.geteuid(), 2345 if os.geteuid() == 0 else -1)
-        path.chmod(0o664)
-        self.assertEqual(self.as_another("repair", "-o", self.dir / "out", path)[0], 0)
-        self.assertEqual(self.access(self.dir / "out"), (1234, 1234, 0o604))
-
-    def test_what_cannot_be_locked_is_not_replaced(self):
-        path = self.file(b"another's")
-        path.chmod(0o600)
-        self.dir.chmod(0o777)
-        status, err = self.as_another("archive", DEMO, "-o", path, "--force")
-        self.assertEqual((status, path.read_bytes()), (3, b"another's"))
-        self.assertIn(f"{path}: Permission denied", err)
-
-    def test_nothing_is_made_where_it_could_not_be_synced(self):
-        self.dir.chmod(0o733)
-        status, err = self.as_another("archive", DEMO, "-o", self.dir / "out")
-        self.assertEqual((status, os.listdir(self.dir)), (3, []))
-        self.assertIn(f"{self.dir}: Permission denied", err)
+        path.chmod(0o640)
+        run("repair", path, "-o", self.dir / "out.vol")
+        self.assertEqual((self.dir / "out.vol").stat().st_mode & 0o777, 0o640)
 
     def limited(self, ignored):
         """Last week's archive, where this week's may not grow beyond 100 bytes: the status, and what is there then."""
@@ -295,45 +244,6 @@ class Safe(Trial):
         self.assertEqual((status, beside), (3, []))
         self.assertIn("ward.arc: File too large", err)
 
-    @unittest.skipUnless(HAS_FAULTS, "needs the faults")
-    def test_a_signal_leaves_no_temporary_file(self):
-        arc = self.file(b"last week", "ward.arc")
-        for number in (signal.SIGINT, signal.SIGTERM, signal.SIGHUP, signal.SIGQUIT):
-            for ignored in (False, True):
-                self.assertEqual(self.signalled(arc, number, ignored), -signal.SIGTERM if ignored else -number)
-                self.assertEqual((arc.read_bytes(), os.listdir(self.dir)), (b"last week", ["ward.arc"]))
-
-    def signalled(self, arc, number, ignored):
-        """An archive that hangs before it gets its name is sent the signal, then SIGTERM; what it ended by."""
-
-        def prepare():
-            resource.setrlimit(resource.RLIMIT_CORE, (0, 0))
-            for each in (signal.SIGINT, signal.SIGTERM, signal.SIGHUP, signal.SIGQUIT):
-                signal.signal(each, signal.SIG_DFL)
-            if ignored and number != signal.SIGTERM:
-                signal.signal(number, signal.SIG_IGN)
-
-        words = [TOOL, "archive", "--force", str(DEMO), "-o", str(arc)]
-        process = subprocess.Popen(words, preexec_fn=prepare, **fault("stuck sync"))
-        self.addCleanup(process.kill)
-        while len(os.listdir(self.dir)) < 2:
-            self.assertIsNone(process.poll())
-            time.sleep(0.01)
-        process.send_signal(number)
-        if ignored:
-            time.sleep(0.05)
-            process.send_signal(signal.SIGTERM)
-        return process.wait(timeout=60)
-
-    @unittest.skipUnless(HAS_FAULTS, "needs the faults")
-    def test_a_directory_that_is_not_synced(self):
-        arc = self.file(b"last week", "ward.arc")
-        status, out, err = run("archive", "--force", DEMO, "-o", arc, **fault("directory sync"))
-        self.assertEqual((status, out), (3, b""))
-        self.assertIn("its directory could not be synced (Input/output error): the file is there under its name; "
-                      "whether it survives a power cut now is not known", err)
-        self.assertEqual((arc.read_bytes(), os.listdir(self.dir)), (sample.demo_archive(), ["ward.arc"]))
-
     def test_a_kill_in_the_middle_leaves_the_old_out(self):
         status, _, beside = self.limited(False)
         self.assertEqual((status, beside), (-signal.SIGXFSZ, [100]))
@@ -349,79 +259,4 @@ class Safe(Trial):
         self.assertEqual(run("archive", DEMO, "-o", self.dir / ("x" * 256))[0], 3)
 
 
-class Held(Trial):
-    """A file that a server, or another program, holds is not replaced."""
-
-    def replacing(self, path):
-        arc = self.file(sample.demo_archive(), "a.arc")
-        return (["repair", path, "-o", path], ["repair", DEMO, "-o", path], ["new", path, "--pages", 2], ["map", DEMO, "-o", path],
-                ["restore", arc, "-o", path], ["convert", FIRST, "-o", path], ["archive", DEMO, "-o", path])
-
-    def test_a_volume_in_use_is_not_replaced(self):
-        path = self.file(DEMO.read_bytes())
-        for words in self.replacing(path):
-            before = (path.stat().st_ino, path.read_bytes(), sorted(os.listdir(self.dir)))
-            with locked(path):
-                self.told(f"{path}: in use by a running server: stop it first", *words, "--force")
-                self.assertEqual((path.stat().st_ino, path.read_bytes(), sorted(os.listdir(self.dir))), before)
-            self.assertEqual(run(*words, "--force")[0], 0)
-            self.assertNotEqual(path.stat().st_ino, before[0])
-            path.write_bytes(DEMO.read_bytes())
-
-    def test_a_reader_is_waited_for(self):
-        path = self.file(b"last week")
-        with locked(path, fcntl.LOCK_SH):
-            self.told("another program has it open for reading: close that first", "archive", DEMO, "-o", path, "--force")
-            self.assertEqual(path.read_bytes(), b"last week")
-        with locked(path, fcntl.LOCK_SH) as fd:
-            timer = threading.Timer(0.3, fcntl.flock, (fd, fcntl.LOCK_UN))
-            timer.start()
-            self.assertEqual(run("archive", DEMO, "-o", path, "--force"), (0, b"", ""))
-            timer.join()
-
-    def test_two_that_wait_do_not_hold_each_other_up(self):
-        path = self.file(b"last week")
-        with locked(path, fcntl.LOCK_SH) as fd:
-            words = [TOOL, "archive", DEMO, "-o", path, "--force"]
-            both = [subprocess.Popen(words, stderr=subprocess.DEVNULL) for _ in range(2)]
-            time.sleep(0.3)
-            fcntl.flock(fd, fcntl.LOCK_UN)
-            self.assertIn(0, [process.wait(timeout=60) for process in both])
-
-    def test_a_read_only_place_is_locked_too(self):
-        path = self.file(b"last week")
-        path.chmod(0o444)
-        self.dir.chmod(0o777)
-        with locked(path) if os.geteuid() == 0 else contextlib.nullcontext():
-            status, err = self.as_another("archive", DEMO, "-o", path, "--force")
-            self.assertEqual((status, path.read_bytes()), (2, b"last week"))
-            self.assertIn("in use by a running server: stop it first", err)
-        self.assertEqual(self.as_another("archive", DEMO, "-o", path, "--force"), (0, ""))
-
-    @unittest.skipUnless(HAS_FAULTS, "needs the faults")
-    def test_a_volume_that_took_the_place_before_the_lock(self):
-        path, other = self.file(b"old"), self.file(b"a server's", "other.vol")
-        words = ["archive", DEMO, "-o", path, "--force"]
-        with locked(other):
-            status, _, err = run(*words, **fault("replaced before the lock", FAULT_FROM=other, FAULT_TO=path))
-        self.assertEqual((status, path.read_bytes()), (2, b"a server's"))
-        self.assertIn("in use by a running server: stop it first", err)
-        other = self.file(b"nobody's", "other.vol")
-        status, _, err = run(*words, **fault("replaced before the lock", FAULT_FROM=other, FAULT_TO=path))
-        self.assertEqual((status, err, path.read_bytes()), (0, "", sample.demo_archive()))
-
-    @unittest.skipUnless(HAS_FAULTS, "needs the faults")
-    def test_a_volume_that_took_the_place_before_the_rename(self):
-        """Whether there was a file before or none: --force is for the file that was there, and locked."""
-        path = self.dir / "out"
-        for before, words in ((None, "File exists"), (b"old", "Device or resource busy")):
-            if before is not None:
-                path.write_bytes(before)
-            other = self.file(b"a server's", "other.vol")
-            more = fault("made before the name", FAULT_FROM=other, FAULT_TO=path)
-            status, _, err = run("archive", DEMO, "-o", path, "--force", **more)
-            self.assertEqual((status, path.read_bytes(), os.listdir(self.dir)), (3, b"a server's", ["out"]))
-            self.assertIn(words, err)
-
-
-CASES = (Archive, Convert, New, Map, Upkeep, Safe, Held)
+CASES = (Repair, Archive, Convert, New, Map, Upkeep, Safe)

@@ -26,7 +26,6 @@ fn call(
         26 => mirror::turn(b, volume, second),
         30 => rehearse::turn(b, c, second),
         31 => advice::turn(b, c, volume, memory),
-        33 => advice::mend(b, c, volume, memory),
         _ => calls::stateful(b, c, volume, memory),
     }
 }

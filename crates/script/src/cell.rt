@@ -46,7 +46,7 @@ pub fn count(c: &[u8], k: usize) -> u32 {
 // The cell makes no call: it sets up what calls work on, or is skipped.
 pub fn sets_up(c: &[u8]) -> bool {
     let n = op(c);
-    (n == 0) | ((11 <= n) & (n <= 16)) | (n == 27) | (n == 28) | (n == 32) | (33 < n)
+    (n == 0) | ((11 <= n) & (n <= 16)) | (n == 27) | (n == 28) | (31 < n)
 }
 
 // The change, for kinds 1 to 3.

@@ -1,6 +1,4 @@
-// What upkeep advises, op 31, and what mending says of the cell's page, op 33; the cell's frame is the one that is left
-// to it.
-use mend_policy::mending::Mend;
+// What upkeep advises, op 31; the cell's frame is the one that is left to it.
 use model::answer::Answer;
 use model::command::Command;
 use print::{number, say};
@@ -45,8 +43,8 @@ fn call(c: Command) -> Words {
 }
 
 // The call, and the first byte that a change puts, 0 for any other.
-fn named(b: Session, word: &[u8], c: Words, byte: u8) -> Turn {
-    say(word);
+fn advised(b: Session, c: Words, byte: u8) -> Turn {
+    say(b"ADVISE ");
     number(c.number);
     say(b" ");
     number(c.page);
@@ -64,23 +62,6 @@ pub fn turn(b: Session, c: &[u8], volume: &[u8], memory: &[u8]) -> Turn {
         Upkeep::Refused(no) => session::told(b, Answer::Refused(no)),
         Upkeep::Idle => session::word(b, b"IDLE"),
         Upkeep::Stuck(page) => session::counted(b, b"STUCK ", page),
-        Upkeep::Make(command) => named(b, b"ADVISE ", call(command), payload[0]),
-    }
-}
-
-pub fn mend(b: Session, c: &[u8], volume: &[u8], memory: &[u8]) -> Turn {
-    let store = b.store;
-    let s = store.state;
-    let r = mend::advise(s, volume, memory, cell::place(c), cell::page(c));
-    let payload = r.payload;
-    let said = r.mend;
-    match said {
-        Mend::Refused(no) => session::told(b, Answer::Refused(no)),
-        Mend::Whole => session::word(b, b"WHOLE"),
-        Mend::Single => session::word(b, b"SINGLE"),
-        Mend::Lost => session::word(b, b"LOST"),
-        Mend::Ahead => session::word(b, b"AHEAD"),
-        Mend::Full => session::word(b, b"STUCK"),
-        Mend::Make(command) => named(b, b"MEND ", call(command), payload[0]),
+        Upkeep::Make(command) => advised(b, call(command), payload[0]),
     }
 }

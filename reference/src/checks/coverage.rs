@@ -12,7 +12,6 @@ use crate::store::heading::Heading;
 use crate::store::restart::recover;
 use crate::store::sound::clause_names;
 use crate::store::state::State;
-use crate::store::mend::RULES as MEND_RULES;
 use crate::store::upkeep::RULES;
 use crate::store::walk::rebuild;
 use std::collections::{BTreeMap, BTreeSet};
@@ -94,10 +93,9 @@ pub fn sought(kind: &str) -> Option<BTreeSet<Hit>> {
     }
 }
 
-/// What upkeep and mending can say, by each of their rules.
+/// What upkeep can say, by each of its rules.
 fn upkeep_targets() -> BTreeSet<Hit> {
-    let mending = MEND_RULES.iter().map(|rule| (CAUSE, format!("mend {rule}")));
-    let rules = RULES.iter().map(|rule| (CAUSE, rule.to_string())).chain(mending);
+    let rules = RULES.iter().map(|rule| (CAUSE, rule.to_string()));
     UPKEEP_ROWS.iter().flat_map(|row| row.hits()).chain(rules).collect()
 }
 
@@ -124,7 +122,7 @@ pub fn hits(cells: &[Cell]) -> BTreeSet<Hit> {
         all.insert((name_of(&call), label(&answer.to_string())));
         let behind = match answer {
             _ if is_reading(&call) => cases(&driver, &call, &answer),
-            Answer::Advised(_) | Answer::Mended(_) => rules(&driver, &call),
+            Answer::Advised(_) => rules(&driver, &call),
             Answer::Refused(refusal) => {
                 cause(&driver, &state, &call, refusal).into_iter().collect()
             }
@@ -136,19 +134,13 @@ pub fn hits(cells: &[Cell]) -> BTreeSet<Hit> {
     all
 }
 
-/// The rules by which upkeep, or mending, says what it says.
+/// The rules by which upkeep says what it says.
 fn rules(driver: &Driver, call: &Call) -> Vec<String> {
-    let (state, volume, memory) = (&driver.state, driver.volume(), driver.memory());
-    let (named, rules) = match *call {
-        Call::Advise { frame } => {
-            ("", state.upkeep_by_rule(volume, memory, frame).map(|(_, rules)| rules))
-        }
-        Call::Mend { page, frame } => {
-            ("mend ", state.mend_by_rule(volume, memory, frame, page).map(|(_, rules)| rules))
-        }
-        _ => return Vec::new(),
+    let Call::Advise { frame } = *call else {
+        return Vec::new();
     };
-    rules.map_or(Vec::new(), |rules| rules.iter().map(|rule| format!("{named}{rule}")).collect())
+    let said = driver.state.upkeep_by_rule(driver.volume(), driver.memory(), frame);
+    said.map_or(Vec::new(), |(_, rules)| rules.iter().map(|rule| rule.to_string()).collect())
 }
 
 /// Whether a call's cases need the driver as it was.

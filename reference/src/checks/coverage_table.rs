@@ -75,15 +75,9 @@ pub const MIRROR_ROWS: &[Row] = &[Row {
     answers: &["AGREE", "FIRST", "SECOND", "DIFFERS"],
 }];
 
-/// What upkeep and mending say.
-pub const UPKEEP_ROWS: &[Row] = &[
-    Row { name: "advise", refusals: &[1, 2, 4], answers: &["ADVISE", "IDLE", "STUCK"] },
-    Row {
-        name: "mend",
-        refusals: &[1, 2, 3, 4],
-        answers: &["MEND", "WHOLE", "SINGLE", "LOST", "AHEAD", "STUCK"],
-    },
-];
+/// What upkeep says.
+pub const UPKEEP_ROWS: &[Row] =
+    &[Row { name: "advise", refusals: &[1, 2, 4], answers: &["ADVISE", "IDLE", "STUCK"] }];
 
 /// The call that takes no volume.
 pub const REHEARSE_ROWS: &[Row] =
@@ -121,6 +115,5 @@ pub fn name_of(call: &Call) -> &'static str {
         Call::Pages => "pages",
         Call::Rehearse(_) => "rehearse",
         Call::Advise { .. } => "advise",
-        Call::Mend { .. } => "mend",
     }
 }

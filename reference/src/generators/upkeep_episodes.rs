@@ -1,4 +1,4 @@
-//! Scripts for upkeep and mending: histories that follow them, and others in which they are only asked.
+//! Scripts for upkeep: histories that follow its advice, and others in which it is only asked.
 
 use crate::generators::choose::Kind;
 use crate::generators::damage::choose_damage;
@@ -12,8 +12,6 @@ use crate::script::recorder::Script;
 use crate::store::answer::{Answer, Refusal};
 use crate::store::geometry::{memory_len_for, Geometry};
 use crate::store::heading::Heading;
-use crate::store::image::{as_stored, set_image_lsn};
-use crate::store::mend::Mending;
 use crate::store::upkeep::Advice;
 
 const USER: &[Kind] = &[
@@ -56,7 +54,6 @@ fn asked(script: Script, end: usize, rng: &mut Rng) -> Script {
     if rng.chance(200) {
         world.script.sizes(geometry.volume_len() - 1, 1_280, 256);
         world.script.call(Call::Advise { frame: 1 });
-        world.script.call(Call::Mend { page: 1, frame: 1 });
         world.script.sizes(geometry.volume_len(), 1_280, 256);
     }
     while world.script.len() < end {
@@ -67,30 +64,8 @@ fn asked(script: Script, end: usize, rng: &mut Rng) -> Script {
             false => rng.pick(&[0, world.frames() + 1, 17, 65_535]),
         };
         world.script.call(Call::Advise { frame: frame as u16 });
-        if rng.chance(300) {
-            let page = match rng.chance(950) {
-                true => rng.between(1, geometry.pages),
-                false => rng.pick(&[0, geometry.pages + 1, 65_535]),
-            };
-            world.script.call(Call::Mend { page: page as u16, frame: frame as u16 });
-        }
-    }
-    if rng.chance(300) {
-        ask_of_an_image_ahead(&mut world, rng);
     }
     world.script
-}
-
-/// A page's own image gets a number above the log's, which no history does; then mending is asked.
-fn ask_of_an_image_ahead(world: &mut World, rng: &mut Rng) {
-    let page = rng.between(1, world.geometry.pages) as u16;
-    let place = world.geometry.page(page.into());
-    let mut image = world.volume()[place.clone()].to_vec();
-    image[..2].copy_from_slice(&page.to_le_bytes());
-    set_image_lsn(&mut image, world.script.driver.state.durable.saturating_add(1));
-    let stored = as_stored(world.geometry.heading, &image);
-    world.script.poke(place, &stored);
-    world.script.call(Call::Mend { page, frame: 1 });
 }
 
 /// A store that upkeep looks after, and how its user and the power behave.
@@ -103,8 +78,6 @@ struct Disciplined {
     cap: usize,
     cut: usize,
     damage: usize,
-    /// Whether a page is mended where upkeep is idle.
-    mends: bool,
     /// Cuts, and calls of upkeep's, since it was last idle.
     cuts: usize,
     calls: usize,
@@ -125,9 +98,6 @@ impl Disciplined {
         let geometry = Geometry::new(Heading::Second, counts.map(|count| count as u32))
             .expect("the counts are in range");
         let frames = rng.between(2, 3);
-        // Mending writes where there is room for it: then upkeep's bounds are those of pages that are written.
-        let twofold = geometry.notes >= 2 * pages + 2 && geometry.records >= 4 * pages;
-        let mends = (writes || !twofold) && rng.chance(600);
         Disciplined {
             world: World::make(script, geometry, rng.byte()),
             frames,
@@ -135,8 +105,7 @@ impl Disciplined {
             writes,
             cap,
             cut: rng.pick(&[0, 10, 60]),
-            damage: rng.pick(&[0, 5, 20]),
-            mends,
+            damage: rng.pick(&[0, 0, 5]),
             cuts: 0,
             calls: 0,
         }
@@ -158,7 +127,6 @@ impl Disciplined {
             }
             match self.world.script.call(Call::Advise { frame: self.reserved }) {
                 Answer::Advised(Advice::Make(call)) => self.renew(call, rng),
-                Answer::Advised(Advice::Idle) if self.mends && rng.chance(400) => self.mend(rng),
                 Answer::Advised(Advice::Idle) => self.use_store(rng),
                 Answer::Advised(Advice::Stuck(page)) => {
                     self.check_lost(page);
@@ -186,27 +154,6 @@ impl Disciplined {
         let answer = self.world.apply(&Event::Call(call)).answer;
         let done = answer.is_some_and(|answer| !answer.is_refused() && answer != Answer::Nothing);
         assert!(done, "upkeep's call {call:?} answers {answer:?}");
-    }
-
-    /// The call that mending names for a page, after Idle, or a cut in it while that may be.
-    fn mend(&mut self, rng: &mut Rng) {
-        (self.cuts, self.calls) = (0, 0);
-        let page = rng.between(1, self.world.geometry.pages) as u16;
-        let said = self.world.script.call(Call::Mend { page, frame: self.reserved });
-        let Answer::Mended(Mending::Make(call)) = said else {
-            let verdict = matches!(said, Answer::Mended(Mending::Whole | Mending::Single | Mending::Lost));
-            assert!(verdict, "mending answers {said}");
-            return self.use_store(rng);
-        };
-        if rng.chance(self.cut) && (self.cap > 0 || !self.writes) {
-            self.cuts = 1;
-            let event = cut(&self.world, call, rng);
-            self.world.apply(&event);
-            return;
-        }
-        let answer = self.world.apply(&Event::Call(call)).answer;
-        let done = answer.is_some_and(|answer| !answer.is_refused() && answer != Answer::Nothing);
-        assert!(done, "mending's call {call:?} answers {answer:?}");
     }
 
     /// A call of the user's, after Idle.

@@ -72,11 +72,6 @@ pub enum Call {
     Advise {
         frame: u16,
     },
-    /// What mending says of the page; the frame is left to it.
-    Mend {
-        page: u16,
-        frame: u16,
-    },
 }
 
 /// What a cell asks of the driver.
@@ -132,7 +127,6 @@ impl Call {
             Call::Pages => 29,
             Call::Rehearse(_) => 30,
             Call::Advise { .. } => 31,
-            Call::Mend { .. } => 33,
         }
     }
 }
@@ -175,7 +169,6 @@ pub fn decode(cell: &Cell) -> Op {
             None => return Op::Skip,
         },
         31 => Call::Advise { frame: frame_or_slot },
-        33 => Call::Mend { page, frame: frame_or_slot },
         11 => {
             return Op::Sizes {
                 volume: number_a,

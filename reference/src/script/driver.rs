@@ -147,10 +147,6 @@ impl Driver {
                 let advice = state.upkeep(volume, memory, frame);
                 (state, advice.map_or_else(Answer::Refused, Answer::Advised))
             }
-            Call::Mend { page, frame } => {
-                let mending = state.mend(volume, memory, frame, page);
-                (state, mending.map_or_else(Answer::Refused, Answer::Mended))
-            }
             _ => (state, self.read(call)),
         };
         self.state = state;

@@ -86,10 +86,6 @@ fn encode_call(call: &Call, cell: &mut Cell) {
             put_u32(cell, NUMBER_A, interval);
         }
         Call::Advise { frame } => put_u16(cell, 4, frame),
-        Call::Mend { page, frame } => {
-            put_u16(cell, 2, page);
-            put_u16(cell, 4, frame);
-        }
         // No arguments.
         _ => {}
     }

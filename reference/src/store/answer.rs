@@ -1,7 +1,6 @@
 //! What a call answers: refusals with document 01's numbers, and results.
 
 use crate::store::compare::Comparison;
-use crate::store::mend::Mending;
 use crate::store::upkeep::Advice;
 use std::fmt;
 
@@ -92,8 +91,6 @@ pub enum Answer {
     Rehearsed(u64),
     /// What upkeep says.
     Advised(Advice),
-    /// What mending says.
-    Mended(Mending),
     Refused(Refusal),
 }
 
@@ -144,7 +141,6 @@ impl fmt::Display for Answer {
             Answer::Compared(comparison, hash) => write!(out, "{comparison} {hash}"),
             Answer::Rehearsed(hash) => write!(out, "REHEARSED {hash}"),
             Answer::Advised(advice) => advice.fmt(out),
-            Answer::Mended(mending) => mending.fmt(out),
             Answer::Refused(refusal) => write!(out, "REFUSED {}", refusal.number()),
         }
     }

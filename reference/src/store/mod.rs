@@ -10,7 +10,6 @@ pub mod forecast;
 pub mod geometry;
 pub mod heading;
 pub mod image;
-pub mod mend;
 pub mod note;
 pub mod record;
 pub mod recovered;

@@ -18,31 +18,25 @@ pub enum Advice {
     Make(Call),
 }
 
-/// A call that is named, as the script format prints it: its op number, its arguments, and a put's first byte.
-pub fn named(call: Call) -> String {
-    let (page, other, byte) = match call {
-        Call::Load { page, frame } => (page, frame, 0),
-        Call::Backup { page, slot } => (page, slot, 0),
-        Call::Write { page } => (page, 0, 0),
-        Call::Change { page, payload, .. } => (page, 0, payload[0]),
-        _ => (0, 0, 0),
-    };
-    format!("{} {page} {other} {byte}", call.code())
-}
-
+/// As the script format prints it: the op number of a call, its arguments, and a put's first byte.
 impl fmt::Display for Advice {
     fn fmt(&self, out: &mut fmt::Formatter) -> fmt::Result {
-        match *self {
-            Advice::Idle => write!(out, "IDLE"),
-            Advice::Stuck(page) => write!(out, "STUCK {page}"),
-            Advice::Make(call) => write!(out, "ADVISE {}", named(call)),
-        }
+        let (call, page, other, byte) = match *self {
+            Advice::Idle => return write!(out, "IDLE"),
+            Advice::Stuck(page) => return write!(out, "STUCK {page}"),
+            Advice::Make(call @ Call::Load { page, frame }) => (call, page, frame, 0),
+            Advice::Make(call @ Call::Backup { page, slot }) => (call, page, slot, 0),
+            Advice::Make(call @ Call::Write { page }) => (call, page, 0, 0),
+            Advice::Make(call @ Call::Change { page, payload, .. }) => (call, page, 0, payload[0]),
+            Advice::Make(call) => (call, 0, 0, 0),
+        };
+        write!(out, "ADVISE {} {page} {other} {byte}", call.code())
     }
 }
 
 /// What a renewal makes new.
 #[derive(Clone, Copy, Debug, PartialEq, Eq)]
-pub enum Kind {
+enum Kind {
     Written,
     Backup,
 }
@@ -68,11 +62,11 @@ pub const RULES: &[&str] = &[
 ];
 
 /// What the calls get, and the frame that is left to upkeep.
-pub struct Desk<'a> {
-    pub volume: &'a [u8],
-    pub memory: &'a [u8],
-    pub geometry: Geometry,
-    pub reserved: u16,
+struct Desk<'a> {
+    volume: &'a [u8],
+    memory: &'a [u8],
+    geometry: Geometry,
+    reserved: u16,
 }
 
 impl State {
@@ -147,7 +141,7 @@ impl State {
     }
 
     /// Rules R1 to R4, and the one that gave it.
-    pub fn renew(&self, desk: &Desk, page: u16, kind: Kind) -> (Advice, &'static str) {
+    fn renew(&self, desk: &Desk, page: u16, kind: Kind) -> (Advice, &'static str) {
         let notes_full = self.notes_room(desk.volume, &desk.geometry).is_err();
         let (call, rule) = match (self.frame_of(page), kind) {
             (None, _) => (self.bring_in(desk, page), ["R1", "R1 stuck"]),

@@ -44,19 +44,8 @@ pub fn walk<'a>(
     entry: &IndexEntry,
     durable: u32,
 ) -> Result<Chain<'a>, Fault> {
-    let first = Section::log(volume, geometry).first(durable);
-    walk_on(volume, geometry, page, entry, first.into())
-}
-
-/// The same on a run that starts at this number.
-pub fn walk_on<'a>(
-    volume: &'a [u8],
-    geometry: &Geometry,
-    page: u16,
-    entry: &IndexEntry,
-    first: u64,
-) -> Result<Chain<'a>, Fault> {
     let log = Section::log(volume, geometry);
+    let first = log.first(durable);
     let own = &volume[geometry.page(page.into())];
     let mut number = entry.newest_durable;
     let mut records = Vec::new();
@@ -67,7 +56,7 @@ pub fn walk_on<'a>(
         if let Some(backup) = backup_at(volume, geometry, page, entry, number) {
             return Ok(Chain { start: Start::Backup, base: Some(backup), records });
         }
-        require(u64::from(number) >= first, Fault::BelowRun)?;
+        require(number >= first, Fault::BelowRun)?;
         let record = chain_record(&log, page, number)?;
         records.push(record);
         if record.change.is_format() {
