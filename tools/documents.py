@@ -29,7 +29,7 @@ PAST = ("docs/LANDINGS.md", "CHANGELOG.md")
 CHECKS = (names.check_functions, names.check_edits, names.check_files, names.check_c, names.check_cited,
           names.check_rattle)
 # documents whose tables have one row an entry, however long
-LONG_ROWS = ("docs/TRACE.md", "docs/DECISIONS.md")
+LONG_ROWS = ("docs/TRACE.md", "docs/DECISIONS.md", "docs/READING.md")
 NARROW = ["include/*.h", "lib/*", "examples/*.c", "tests/c/*", "bench/sqlite/*"]
 
 
@@ -83,14 +83,14 @@ def defined_orders():
     names = ("Reading", "Refusals", "Examine", "Forecast", "Archive", "Mirror", "Rehearsal")
     paths = [*(crates.definitions()[name] for name in names), ROOT / "crates/face/specs/Slots.antt"]
     text = re.sub(r"--.*", "", "".join(path.read_text() for path in paths))
-    bodies = dict(re.findall(r"^(\w+(?:Rows|Tail))(?! :)(.*(?:\n .*)*)", text, re.M))
+    bodies = dict(re.findall(r"^(\w+_(?:rows|tail))(?! :)(.*(?:\n .*)*)", text, re.M))
 
     def numbers(body):
-        words = re.findall(r"\b(\w+(?:Rows|Tail))\b|, (\d+)\)", body)
+        words = re.findall(r"\b(\w+_(?:rows|tail))\b|, (\d+)\)", body)
         return list(itertools.chain(*(numbers(bodies[other]) if other else [int(n)] for other, n in words)))
 
-    calls = {name.removesuffix("Rows"): body for name, body in bodies.items() if name.endswith("Rows")}
-    own = {CALLED.get(name, name.lower()): body for name, body in calls.items() if name not in SHARED}
+    calls = {name.removesuffix("_rows"): body for name, body in bodies.items() if name.endswith("_rows")}
+    own = {CALLED.get(name, name.replace("_", "")): body for name, body in calls.items() if name not in SHARED}
     return {name: list(dict.fromkeys(numbers(body))) for name, body in own.items()}
 
 

@@ -36,7 +36,7 @@ def filled(front, names, between, back):
 
 def uses(crate, file, names):
     """`use` lines; a wrapped one ends with a comma that goes."""
-    return [line.replace(",}", "}") for line in filled(f"use Rattle·{crate}.specs.{file}.{{", names, ", ", "}")]
+    return [line.replace(",}", "}") for line in filled(f"use Rattle.{crate}.specs.{file}.{{", names, ", ", "}")]
 
 
 def text():

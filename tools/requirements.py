@@ -20,15 +20,15 @@ FACES = (
 
 
 def asking(crate):
-    """The crate's `pub` functions with a `requires`: path and what they ask, `now x` written x."""
+    """The crate's `pub` functions with a `requires`: path and what they ask, `x.now` and `x.old` written x."""
     source = ROOT / "crates" / crate / "src"
     for path in sorted(source.rglob("*.rt")):
         module = [word for word in path.relative_to(source).with_suffix("").parts if word != "lib"]
         for name, contract in re.findall(r"^pub fn (\w+)(.*?)^\{", path.read_text(), re.M | re.S):
             asked = re.findall(r"requires(?: \w+)? \{ (.*?) \}\n", contract, re.S)
             if asked:
-                words = " ".join(re.sub(r"[⌜⌝]|\s+", " ", "; ".join(asked)).split())
-                yield "::".join([crate, *module, name]), re.sub(r"\(now (\w+)\)", r"\1", words).replace(" ;", ";")
+                words = " ".join(re.sub(r"\s+", " ", "; ".join(asked)).split())
+                yield "::".join([crate, *module, name]), re.sub(r"\b(\w+)\.(?:now|old)\b", r"\1", words).replace(" ;", ";")
 
 
 def found():
