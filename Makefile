@@ -15,8 +15,7 @@ test:
 # make quick              what one runs ten times a day: what changed is proved, the programs and the C tests are run
 .PHONY: quick
 quick: docs-check
-	@rt fmt --check
-	@rt check
+	@rt all check
 	@$(MAKE) --no-print-directory demo-check example-check c-test tool-check
 
 # make edits [CRATES=..]  the must-fail edits that are not in the gate (tests/edits), all or those of some crates (long)

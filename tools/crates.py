@@ -20,7 +20,7 @@ def listed():
     for line in (ROOT / "crates.txt").read_text().splitlines():
         name, colon, deps = line.partition("#")[0].partition(":")
         if colon:
-            lines[name.strip()] = deps.split()
+            lines[name.split()[0]] = deps.split()
     return lines
 
 

@@ -107,7 +107,7 @@ def build():
     """Builds the second implementation, and the proved driver where it is not up to date."""
     subprocess.run(["cargo", "build", "--release", "--offline", "--quiet"], cwd=os.path.join(ROOT, "reference"), check=True)
     if stale(DRIVERS["proved"]):
-        subprocess.run(["rt", "check", "drive"], cwd=ROOT, check=True)
+        subprocess.run([sys.executable, os.path.join(ROOT, "tools/prove.py"), "check", "drive"], check=True)
 
 
 def generator(kind, seed, path):

@@ -1,18 +1,14 @@
 #!/usr/bin/env python3
 """The merge gate: two quick checks, `rt ci` over every crate, then the further checks, each a make target.
 
-The last line is 'N passed, M failed' and counts all; the exit status is 0 only where M is 0. The seconds that each
-crate took go to target/times.md, as a table.
+The last line is 'N passed, M failed' and counts all; the exit status is 0 only where M is 0. `rt ci` refuses files that
+are not laid out, so that there is no check of the layout.
 """
-import os
 import re
 import subprocess
 import sys
 
 from crates import ROOT
-
-# One prover more than there are cores: the last one of a batch, for which `rt` waits, then leaves no core idle.
-os.environ.setdefault("RT_JOBS", str((os.cpu_count() or 1) + 1))
 
 
 def make(*words):
@@ -25,7 +21,6 @@ BEFORE = [
     ("the documents against the sources", make("docs-check")),
 ]
 AFTER = [
-    ("layout of the sources (rt fmt --check)", ["rt", "fmt", "--check"]),
     ("the programs on the sample volumes and lists", make("demo-check", "rehearse-check")),
     ("the programs of docs/C.md", make("example-check", "guide-check")),
     ("the C functions: cases, refusals, full volumes, stack, sanitizers", make("c-test")),
@@ -68,22 +63,17 @@ def run(checks):
     return failed
 
 
-def write_times(lines):
-    """The seconds of each crate, from what `rt` said."""
-    times = [m.groups() for m in map(re.compile(r"rt: (\w+) proved \((\d+) s\)").match, lines) if m]
-    rows = "".join(f"| {crate} | {seconds} |\n" for crate, seconds in times)
-    (ROOT / "target").mkdir(exist_ok=True)
-    (ROOT / "target/times.md").write_text("| crate | seconds |\n|---|---:|\n" + rows)
-
-
 def prove():
-    """How many crates, edits and programs `rt ci` passed and failed."""
-    print("== rt ci: every crate proved from nothing, every must-fail edit refused, every program run", flush=True)
+    """How many crates, edits and programs `rt ci` passed and failed. An edit that is no edit is reported as bad by its
+    line `rt: ok`, and fails here."""
+    print("== rt ci: every crate proved, every must-fail edit refused, every program run", flush=True)
     status, lines = stream(["rt", "ci"])
-    write_times(lines)
-    counted = re.fullmatch(r"(\d+) passed, (\d+) failed", next((line for line in reversed(lines) if line), ""))
+    counted = next((m for m in map(re.compile(r"(\d+) passed, (\d+) failed").match, reversed(lines)) if m), None)
     passed, failed = (int(counted[1]), int(counted[2])) if counted else (0, 1)
-    return passed, failed if status == 0 else max(failed, 1)
+    bad = [line for line in lines if line.startswith("rt: ok") and re.search(r", [1-9]\d* bad", line)]
+    if bad:
+        print("FAILED: rt ci:", *bad, flush=True)
+    return passed, failed if status == 0 and not bad else max(failed, 1)
 
 
 def main():

@@ -7,7 +7,7 @@ the check must fail there, by a computed test that is now false, and nowhere els
 `planning_theory` the check must fail in a proof of theirs or of the laws below, for `instances`, `bounds` and
 `cases_neighbours` (a claim that says less, which its proofs still give) also in one of their own, and not for a name
 that is missing or a text that is not read. The definitions for C (`file face/NAME`, `file called/NAME`) are tried
-against `numbers`, `face_numbers`, `face_step`, `capi` or `called`, whose proofs must fail. What target/ has proved of
+against `numbers`, `face_numbers`, `face_step`, `capi` or `called`, whose proofs must fail. What is proved of
 the crates below an edit is not proved again.
 
     python3 tools/mutants.py [--only WORD] [--file NAME] [--part WORD] [--search] [--jobs N] [--texts]
@@ -39,7 +39,7 @@ PROOF_CRATES = ("history", "reports_theory", "planning_theory", "instances", "bo
 # what a wrong definition for C is tried against
 C_CRATES = ("numbers", "face_numbers", "face_step", "capi", "called")
 # the error of a test that computes to false; a long name puts the types on a line of their own
-FALSE = r"`caught-(\d+)`: (?:expected type|.*type mismatch|.*the two types are `Prim\.⊥` \(expected\))"
+FALSE = r"`caught-(\d+)`: (?:expected type|.*type mismatch|.*the two types are `(?:Prim\.)?⊥` \(expected\))"
 # the proofs that an edit may break
 BROKEN = re.compile(rf"/crates/(laws|reports_laws|{'|'.join(PROOF_CRATES + C_CRATES)})/proofs/")
 # errors that say that an edit is no definition, and nothing of what it means
@@ -50,24 +50,26 @@ NOT_READ = re.compile(
 
 # a name of a definition's text, and the names that it binds itself: a binding's, a record's field, a field that is read
 NAME = re.compile(r"[^\s(){}\[\],;.]+")
-LOCAL = re.compile(r"[^\s(){}\[\],;.]+(?= =)|(?<= \.)[^\s(){}\[\],;.]+")
+LOCAL = re.compile(r"[^\s(){}\[\],;.]+(?= =)|(?<=[\w)]\.)[^\s(){}\[\],;.]+")
 
 
 def read_edits(text):
-    """The edits of the list: blocks of '== name', 'file F', 'crates C..', 'caught NAME', '- old' and '+ new' lines under '# ---- part'."""
+    """The edits of the list: blocks of '== name', 'file F', 'crates C..', 'caught NAME', 'use ..' (an import more), '- old' and '+ new' lines under '# ---- part'."""
     edits, part = [], ""
     for line in text.splitlines():
         word, _, rest = line.partition(" ")
         if rest.startswith("---- ") and word == "#":
             part = rest[5:]
         elif word == "==":
-            edits.append({"name": rest, "part": part, "file": "", "crates": ["cases"], "caught": [], "old": [], "new": []})
+            edits.append({"name": rest, "part": part, "file": "", "crates": ["cases"], "caught": [], "use": [], "old": [], "new": []})
         elif word == "file":
             edits[-1]["file"] = rest + ".antt"
         elif word == "crates":
             edits[-1]["crates"] = rest.split()
         elif word == "caught":
             edits[-1]["caught"].append(rest)
+        elif word == "use":
+            edits[-1]["use"].append(line)
         elif word == "-":
             edits[-1]["old"].append(rest)
         elif word == "+":
@@ -95,17 +97,10 @@ def definition(folder, edit):
 
 
 def copy(crate, to):
-    """The crate and what it needs, and, but for rows, what target/ has proved of them: an edit has only what is above it
-    proved again."""
+    """The crate and what it needs. What this machine has proved of them is not proved again: `rt check` begins with it."""
     lines = needed(crate)
     for name in lines:
-        shutil.copytree(ROOT / "crates" / name, to / "crates" / name)
-        stamp, library = ROOT / "target/stamp" / name, ROOT / "target/rlib" / f"{name}.rlib"
-        if crate not in ROW_CRATES and stamp.is_file() and library.is_dir():
-            (to / "target/stamp").mkdir(parents=True, exist_ok=True)
-            shutil.copy(stamp, to / "target/stamp")
-            shutil.copytree(library, to / "target/rlib" / library.name)
-    # to the letter as in the original, which `rt` compares
+        shutil.copytree(ROOT / "crates" / name, to / "crates" / name, ignore=shutil.ignore_patterns("out", "must-fail"))
     (to / "crates.txt").write_text("".join(f"{name}: {' '.join(deps)}".rstrip() + "\n" for name, deps in lines.items()))
     if crate in ROW_CRATES:
         shutil.rmtree(to / "crates/cases/proofs")
@@ -116,11 +111,16 @@ def copy(crate, to):
 
 def check(crate, to):
     """Exit status, errors (file and text) and output of the check; one that ends with neither verdict nor error is run
-    again."""
+    again. `rt` names a file from its crate's folder, after the line that says which crate it is at."""
     for _ in range(2):
-        run = subprocess.run(["rt", "check", crate], cwd=to, capture_output=True, text=True)
+        run = subprocess.run(["rt", "check"], cwd=to / "crates" / crate, capture_output=True, text=True)
         out = run.stdout + run.stderr
-        errors = re.findall(r"^(\S+?):\d+:\d+: error: (.*(?:\n  .*)*)", out, re.M)
+        errors, at = [], crate
+        for part in re.split(r"(?m)^(?=rt: chose --jobs \d+ for )", out):
+            begun = re.match(r"rt: chose --jobs \d+ for (\w+)", part)
+            at = begun[1] if begun else at
+            found = re.findall(r"^\./(\S+?):\d+:\d+: error: (.*(?:\n  .*)*)", part, re.M)
+            errors += [(f"/crates/{at}/{path}", text) for path, text in found]
         if run.returncode == 0 or errors:
             break
     return run.returncode, errors, out
@@ -168,7 +168,8 @@ def apply(to, edit):
     if times(to, edit) != 1:
         sys.exit(f"mutants.txt: {edit['name']}: the old text stands {times(to, edit)} times in {edit['file']}")
     before = path.read_text()
-    path.write_text(before.replace("\n".join(edit["old"]), "\n".join(edit["new"])))
+    after = before.replace("\n".join(edit["old"]), "\n".join(edit["new"]))
+    path.write_text(after.replace("\nuse ", "".join(f"\n{line}" for line in edit["use"]) + "\nuse ", 1))
     return lambda: path.write_text(before)
 
 
@@ -209,8 +210,9 @@ def names(edits):
 
 def unknown(edit):
     """The names in the edit's new text that its file neither imports nor defines, and the edit does not bind itself."""
-    known = set(NAME.findall(definition(ROOT, edit).read_text())) | set(LOCAL.findall("\n".join(edit["new"])))
-    known |= {part for name in known for part in name.split("_")}
+    read = "\n".join([definition(ROOT, edit).read_text(), *edit["use"]])
+    known = set(NAME.findall(read)) | set(LOCAL.findall("\n".join(edit["new"])))
+    known |= {part for name in known for part in re.split("[_◌]", name)}
     words = [word for line in edit["new"] for word in NAME.findall(line)]
     return sorted({word for word in words if word not in known and not re.fullmatch(r"0x[0-9a-f]+|[0-9]+", word)})
 
