@@ -18,7 +18,7 @@ use Rattle.model.specs.Outcome.{StoredItem, one_item}
 use Rattle.model.specs.AbstractLog.{Logged}
 use Rattle.model.specs.History.{item_sealed}
 use Rattle.model.specs.declared.{geometry.Geometry.Geometry, item.Note.Note, state.State.State}
-use Rattle.history.proofs.Logs.{at, last_of, body_of, last-le, last-below}
+use Rattle.history.proofs.Logs.{last_of, body_of, last-le, last-below}
 use Rattle.history.proofs.Marks.{mark_at, NoteOk, Backed, mark-ok}
 use Rattle.history.proofs.Entries.{slot-spare}
 use Rattle.history.proofs.Leaf.{frame-lsn, frame-size, image-lsn, image-body, image-size, valid-sealed}

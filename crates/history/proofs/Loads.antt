@@ -33,7 +33,7 @@ use Rattle.history.proofs.Marks.{mark_at}
 use Rattle.history.proofs.Entries.{entry_from}
 use Rattle.history.proofs.NoteIndex.{index_is}
 use Rattle.history.proofs.LogScan.{first}
-use Rattle.history.proofs.Context.{Ctx, Preserved, Passed, passed, in-range, sized, geo, fair, few, body-size}
+use Rattle.history.proofs.Context.{Ctx, Preserved, Passed, passed, in-range, sized, geo, few, body-size}
 use Rattle.history.proofs.Context.{entry-is, last_entry, durable-last, durable-page, durable-body, nowhere}
 use Rattle.history.proofs.Context.{unblocked}
 

@@ -10,7 +10,7 @@ use lib.ListN.{length, get_or}
 use lib.Dec.{eqb, ltb}
 use borrow.Author.Tests.{eq-eqb, ne_eqb, eqb-true, eqb-false, le-leb, lt-ltb, le-ltb}
 use Rattle.laws.proofs.Tables.{by_cases, and_both, or_left, or_right, every-all, within-holds}
-use Rattle.model.specs.Tables.{all, within}
+use Rattle.model.specs.Tables.{within}
 use Rattle.model.specs.Geometry.{most, most_notes, geometry_of, valid_volume}
 use Rattle.model.specs.Item.{is_written, note_layout}
 use Rattle.model.specs.Index.{empty_entry, entry_row, entry_of}

@@ -1,14 +1,14 @@
 -- Two logs held against each other, on any volumes: what is common, that the volumes have equal parts in it, and that up to there the
 -- records are the same, the previous numbers too. The proof of `MirrorClaim`.
 use mathlib.Core.Path.{◌≡◌, refl, sym, ap, ◌∙◌}
-use mathlib.Core.Logic.{◌≢◌, ◌⊎◌, ⊎_elim, ◌↔◌}
+use mathlib.Core.Logic.{◌≢◌, ⊎_elim, ◌↔◌}
 use mathlib.Core.Bool.{Bool, true, false, ◌&&◌, ◌||◌, not, and_comm, or_comm}
 use mathlib.Core.List.{List, [], ◌∷◌}
 use Prim.Native.Nat.{ℕ, zero, suc, ◌+◌, ◌-◌, ◌≤◌, ◌<◌}
 use native.Mathlib.Omega.{arith}
 use native.Mathlib.Decide.{dec_lt, ℕ_discrete}
 use lib.Dec.{eqb, leb}
-use lib.ListN.{length, get_or}
+use lib.ListN.{get_or}
 use borrow.Author.Tests.{eqb-true, eqb-false, ne_eqb, leb-true, leb-false, not-false}
 use Rattle.laws.proofs.Tables.{by_cases, and_left, and_right, or-neither, none-at, every-at, every-all, not-true, true-not-false}
 use Rattle.laws.proofs.Parts.{part_at, part-part, same_bytes, bytes_same}
