@@ -81,6 +81,5 @@ examined_rows =
     (room_for 0 1 2 0 ++ room_for 0 0 2 0)
     ∷ row "room: up to the first record above the noted backup, and to the note that is needed" (room_numbers noted)
     (room_for 2 1 1 1)
-    ∷ row "room: an empty ring has a turn of each" (room_numbers (log_with Second (replicate 4 0))) (room_for 4 0 2 0)
     ∷ row "room: refused as a restart is" (room_numbers (set noted 0 0)) (refusal 1 ∷ replicate 4 0)
     ∷ []

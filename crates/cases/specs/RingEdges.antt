@@ -58,12 +58,6 @@ abbrev notes_needed : List ℕ
 notes_needed =
     stored_in (ring_of 2) (one_item (note_at 1) (written_note 1 1 1) ∷ one_item (note_at 2) (backup_note 2 1 1 1) ∷ [])
 
--- page 1's written note 1 and its backup note 3, and this one between them
-abbrev three_notes : List ℕ → List ℕ
-three_notes n =
-    stored_in (ring_of 3)
-    (one_item (note_at 1) (written_note 1 1 1) ∷ one_item (note_at 2) n ∷ one_item (note_at 3) (backup_note 3 1 1 1) ∷ [])
-
 -- records 1 and 2 of page 1 stand in both slots
 abbrev records_stand : List ℕ
 records_stand = stored_in (ring_of 2) (one_item (record_at 1) (record_no 1) ∷ one_item (record_at 2) (record_no 2) ∷ [])
@@ -88,11 +82,6 @@ ring_edges =
     (restarts (turned_with (backup_note 1 1 1 2) (written_note 2 1 2))
     ++ restarts (turned_with (backup_note 1 1 1 2) (written_note 2 1 1)))
     (done ++ done)
-    ∷ row "ring: a note of page 0 or of one past P, at a number below the run: 18"
-    (restarts (turned_with (backup_note 1 1 1 1) (replicate 16 0))
-    ++ (restarts (turned_with (backup_note 1 0 1 1) (replicate 16 0))
-    ++ restarts (turned_with (backup_note 1 3 1 1) (replicate 16 0))))
-    (done ++ (refused 18 ++ refused 18))
     ∷ row "ring: 5 6 3 4, where 6 names 5, and where it names 2, which is below the run: 17"
     (restarts (six_names 5) ++ restarts (six_names 2)) (done ++ refused 17)
     ∷ row "ring: 12 at the largest number, durable or pending"
@@ -112,10 +101,6 @@ ring_edges =
     (stores notes_needed (only_page 1 0 2 (pending_note 3 1 1 0 1) (entry 1 1 1 1 1))
     ++ stores notes_needed (only_page 1 0 2 Absent (entry 1 1 1 1 1)))
     (refusal 13 ∷ refusal 13 ∷ refusal 14 ∷ refusal 14 ∷ [])
-    ∷ row "ring: a note above the state's count spares none: 14"
-    (stores (three_notes (written_note 2 1 1)) (only_page 1 0 3 Absent (entry 1 1 1 1 1))
-    ++ stores (three_notes (written_note 5 1 1)) (only_page 1 0 3 Absent (entry 1 1 1 1 1)))
-    (accepted ∷ accepted ∷ refusal 14 ∷ refusal 14 ∷ [])
     ∷ row "ring: a backup's number without a slot is no noted backup: 12"
     (appends records_stand (only_page 2 0 0 Absent (entry 2 2 0 0 2))
     ++ appends records_stand (only_page 2 0 0 Absent (entry 2 2 0 1 2)))
