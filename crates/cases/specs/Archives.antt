@@ -1,5 +1,5 @@
 -- Rows on the archive (document 02, §6). Page 1 has records 1 (a format), 2 and 3 (puts); page 2 is blank.
-use Rattle.std.specs.Prelude.{ℕ, ◌+◌, ◌*◌, List, [], ◌∷◌, ◌++◌, map, length, replicate, set, take, drop}
+use Rattle.std.specs.Prelude.{ℕ, ◌*◌, List, [], ◌∷◌, ◌++◌, map, length, replicate, set, take, drop}
 use Rattle.model.specs.Bytes.{part}
 use Rattle.model.specs.Checksum.{seal}
 use Rattle.model.specs.Geometry.{record_at, note_at}

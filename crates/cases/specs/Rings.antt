@@ -1,7 +1,7 @@
 -- The small table of the ring: what the scan finds in four slots, in order: n is the record of that number, 0 a zero
 -- slot, 99 a torn one. Each row gives the count, the run start, whether the log is valid, and whether record 1 has
 -- left.
-use Rattle.std.specs.Prelude.{ℕ, suc, ◌+◌, ◌-◌, cond, List, [], ◌∷◌, ◌++◌, eqb, replicate, length}
+use Rattle.std.specs.Prelude.{ℕ, suc, ◌-◌, cond, List, [], ◌∷◌, ◌++◌, eqb, replicate, length}
 use Rattle.model.specs.Geometry.{record_at, slot_at, empty_volume, length_for, geometry_of, store, valid_volume}
 use Rattle.model.specs.Item.{encode_change}
 use Rattle.model.specs.Scan.{durable_count, first_held, valid_log, gone}

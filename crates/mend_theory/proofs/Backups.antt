@@ -1,58 +1,54 @@
 -- ME4 (a): while no damage hits a page's backup it stands, whatever cuts come and however many records. An invariant beside history's: the
 -- image in the slot that the notes give page p is valid with the noted number, and so is that of an owed backup note of p.
-use mathlib.Core.Path.{◌≡◌, refl, sym, ap, ◌∙◌, subst}
+use mathlib.Core.Path.{◌≡◌, refl, ap, subst}
 use mathlib.Core.Logic.{◌≢◌}
-use mathlib.Core.Bool.{Bool, true, false, cond, not, ◌&&◌, ◌||◌}
+use mathlib.Core.Bool.{true, false, not, ◌&&◌}
 use mathlib.Core.List.{List, [], ◌∷◌, ◌++◌}
-use Prim.Native.Nat.{ℕ, suc, ◌+◌, ◌-◌, ◌≤◌, ◌<◌}
+use Prim.Native.Nat.{ℕ, suc, ◌+◌, ◌≤◌}
 use native.Mathlib.Omega.{arith}
 use native.Mathlib.Decide.{ℕ_discrete}
 use lib.ListN.{length}
-use lib.Dec.{eqb, leb}
-use borrow.Author.Tests.{eqb-true, eqb-false, eq-eqb, not-true}
-use Rattle.laws.proofs.Tables.{by_cases, and_left, and_right, and_both, or_left, or_right, or_cases, or-neither, all-at}
-use Rattle.laws.proofs.Tables.{true-not-false, within-bounds}
+use lib.Dec.{eqb}
+use borrow.Author.Tests.{eqb-true, eqb-false, not-true}
+use Rattle.laws.proofs.Tables.{by_cases, and_left, and_right}
+use Rattle.laws.proofs.Tables.{true-not-false}
 use Rattle.laws.proofs.Notes.{note-length}
 use Rattle.laws.proofs.WellFormed.{memory-facts, pending-length}
 use Rattle.laws.proofs.Ring.{slot-in}
 use Rattle.model.specs.Tables.{Row, first_of}
 use Rattle.model.specs.Checksum.{seal_image}
-use Rattle.model.specs.Geometry.{Place, page_at, slot_at, record_at, note_at, ring, carry_tag, with_tag, geometry_of, item, store, width}
+use Rattle.model.specs.Geometry.{Place, page_at, slot_at, geometry_of, item, store, width}
 use Rattle.model.specs.Geometry.{log_slot, note_slot}
-use Rattle.model.specs.Item.{image_lsn, valid_image, note_bytes, is_written}
+use Rattle.model.specs.Item.{valid_image, note_bytes, is_written}
 use Rattle.model.specs.Index.{entry_of}
 use Rattle.model.specs.Scan.{index_of}
-use Rattle.model.specs.Passes.{is_image, passes_at}
 use Rattle.model.specs.State.{frame_bytes, pending_bytes, holder}
 use Rattle.model.specs.Refusals.{page_dirty, begin_rows, load_rows, change_rows, force_rows, write_rows, backup_rows, release_rows, note_rows}
-use Rattle.model.specs.Refusals.{restart_rows}
-use Rattle.model.specs.Outcome.{StoredItem, nothing, one_item, Outcome, volume_after, decided}
+use Rattle.model.specs.Outcome.{StoredItem, Outcome, volume_after, decided}
 use Rattle.model.specs.Effects.{appended_state, forced_state, noted_state, note_stored, backup_done, begin_done, change_done, force_done}
 use Rattle.model.specs.Effects.{load_done, release_done, write_outcome}
 use Rattle.model.specs.Calls.{Call, outcome_of}
-use Rattle.model.specs.Restart.{restart_state, restart_of}
-use Rattle.model.specs.AbstractLog.{Logged, AbstractLog, Left, old, new, torn}
-use Rattle.model.specs.History.{Power, off, on, Machine, Event, restart, perform, crash, crash_in, damage, lent, restarted, left_volume}
-use Rattle.model.specs.History.{item_sealed, torn_fits, stored_before, payload_fits, damage_fits, allowed, step, step_log, all_allowed, run, log_after}
+use Rattle.model.specs.AbstractLog.{Logged, torn}
+use Rattle.model.specs.History.{Power, off, on, left_volume}
+use Rattle.model.specs.History.{item_sealed, torn_fits}
 use Rattle.model.specs.Carry.{carries}
 use Rattle.model.specs.declared.{geometry.Geometry.Geometry, item.Note.Note, state.Entry.Entry, state.State.State}
 use Rattle.model.specs.declared.state.PendingNote.{PendingNote}
 use Rattle.model.specs.declared.state.PendingNote.TheVariants.{Absent, Present}
 use Rattle.model.specs.declared.command.Command.TheVariants.{Begin, Load, Force, Write, Release, StartCarry, Restamp, FinishCarry}
 use Rattle.model.specs.declared.command.Command.TheVariants.{Change, Backup, Note as NoteCall}
-use Rattle.history.proofs.Marks.{mark_at, mark-hit, mark-miss, mark-append, len_n, note_n, NoteOk}
-use Rattle.history.proofs.Entries.{entry_from, slot-spare}
-use Rattle.history.proofs.Sections.{volume-sized, volume-store, store_other, store_same}
+use Rattle.history.proofs.Marks.{mark_at, mark-hit, mark-miss, mark-append, len_n, note_n}
+use Rattle.history.proofs.Entries.{slot-spare}
+use Rattle.history.proofs.Sections.{volume-sized, store_other}
 use Rattle.history.proofs.NoteIndex.{index_is}
 use Rattle.history.proofs.Disk.{Holds, Noted, Copy}
-use Rattle.history.proofs.Inv.{Inv, PendingOk}
-use Rattle.history.proofs.Stores.{slot-high, page-slots, slot_same, slot-other}
+use Rattle.history.proofs.Inv.{PendingOk}
+use Rattle.history.proofs.Stores.{slot-high, slot_same, slot-other}
 use Rattle.history.proofs.RecordStores.{rec-slots}
 use Rattle.history.proofs.Images.{write_store, backup-store, sealed-valid, sealed-lsn, sealed-size}
 use Rattle.history.proofs.Persists.{writes, backs, note-store}
 use Rattle.history.proofs.Forces.{force-store}
 use Rattle.history.proofs.Context.{Ctx, geo, sized}
-use Rattle.history.proofs.Steps.{context}
 use Rattle.history.proofs.WellFormed.{memory-ok}
 
 -- every slot reads as before

@@ -10,7 +10,6 @@ use Rattle.laws.proofs.Tables.{or_cases, true-not-false}
 use Rattle.model.specs.State.{held}
 use Rattle.model.specs.Refusals.{page_dirty}
 use Rattle.model.specs.Calls.{Call, is_call}
-use Rattle.model.specs.History.{on}
 use Rattle.model.specs.Claim.{History, reached, log_of}
 use Rattle.model.specs.declared.state.State.{State}
 use Rattle.history.proofs.Reached.{made_with, tied, uncarried}

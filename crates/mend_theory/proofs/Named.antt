@@ -3,27 +3,26 @@ use mathlib.Core.Path.{◌≡◌, refl, sym, ap, ◌∙◌, subst}
 use mathlib.Core.Logic.{◌≢◌, ⊎_elim}
 use mathlib.Core.Bool.{Bool, true, false, cond, not, ◌&&◌, ◌||◌}
 use mathlib.Core.List.{List, [], ◌∷◌, ◌++◌}
-use Prim.Native.Nat.{ℕ, suc, ◌+◌, ◌≤◌, ◌<◌}
+use Prim.Native.Nat.{ℕ}
 use native.Mathlib.Omega.{arith}
 use lib.ListN.{length}
 use lib.Dec.{eqb}
 use borrow.Author.Tests.{eqb-false, le-ltb, not-false}
 use Rattle.laws.proofs.Tables.{by_cases, and_left, or-neither, or_left, or_right, or_cases, true-not-false}
-use Rattle.model.specs.Tables.{first_of, within}
+use Rattle.model.specs.Tables.{first_of}
 use Rattle.model.specs.Geometry.{ring, geometry_of, item, slot_at}
 use Rattle.model.specs.Item.{image_lsn, valid_image}
 use Rattle.model.specs.Index.{entry_of}
 use Rattle.model.specs.State.{frame_count, held, log_full, notes_full}
 use Rattle.model.specs.Refusals.{page_dirty, load_rows}
 use Rattle.model.specs.Repair.{state_view, class_in}
-use Rattle.model.specs.Outcome.{StoredItem}
-use Rattle.model.specs.Calls.{Call, outcome_of}
+use Rattle.model.specs.Calls.{Call}
 use Rattle.model.specs.AbstractLog.{AbstractLog, step_call}
 use Rattle.model.specs.History.{on, perform, refused_in, step_log}
 use Rattle.model.specs.Claim.{reached, log_of}
-use Rattle.model.specs.declared.{geometry.Geometry.Geometry, state.Entry.Entry, state.State.State}
+use Rattle.model.specs.declared.{state.Entry.Entry, state.State.State}
 use Rattle.history.proofs.Logs.{last_of, replay-is, last-is}
-use Rattle.history.proofs.Context.{Ctx, geo, sized, entry-is, durable-last}
+use Rattle.history.proofs.Context.{geo, sized, entry-is, durable-last}
 use Rattle.history.proofs.WellFormed.{state-ok}
 use Rattle.history.proofs.Reached.{live}
 use Rattle.upkeep_policy.specs.Upkeep.{Advice, idle, stuck, make, no_slot, free_slot, renew, same_call}

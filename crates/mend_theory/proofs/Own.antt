@@ -1,24 +1,23 @@
 -- ME4 (b): while a page's own image is spared, and the run starts no later than number F, the page is not lost. An invariant over the list of
 -- changes: the page has none; or its own image is valid and every change of the page after it is numbered F or above; or a format of the page
 -- is.
-use mathlib.Core.Path.{◌≡◌, refl, sym, ap, ◌∙◌, subst}
-use mathlib.Core.Logic.{◌≢◌, ◌⊎◌, inl, inr, ⊎_elim}
-use mathlib.Core.Bool.{Bool, true, false, cond, not, ◌&&◌, ◌||◌}
+use mathlib.Core.Path.{◌≡◌, sym, ap, ◌∙◌}
+use mathlib.Core.Logic.{◌⊎◌, inl, inr}
+use mathlib.Core.Bool.{true, false}
 use mathlib.Core.List.{List, [], ◌∷◌, ◌++◌}
-use Prim.Native.Nat.{ℕ, zero, suc, ◌+◌, ◌-◌, ◌≤◌, ◌<◌}
+use Prim.Native.Nat.{ℕ, zero, suc, ◌-◌, ◌≤◌, ◌<◌}
 use native.Mathlib.Omega.{arith}
 use native.Mathlib.Decide.{ℕ_discrete, dec_lt}
 use lib.ListN.{length, take, get_or-append}
 use lib.Seq.{take_all}
 use lib.Dec.{eqb}
-use borrow.Author.Tests.{eqb-true, eqb-false, eq-eqb, not-true}
-use Rattle.laws.proofs.Tables.{by_cases, true-not-false}
+use Rattle.laws.proofs.Tables.{true-not-false}
 use Rattle.model.specs.Geometry.{geometry_of, item, page_at}
 use Rattle.model.specs.Item.{image_lsn, valid_image, is_format}
 use Rattle.model.specs.Change.{kind_of}
 use Rattle.model.specs.Scan.{durable_count, log_record}
 use Rattle.model.specs.AbstractLog.{Logged, last_place}
-use Rattle.model.specs.Claim.{History, Legal, reached, log_of, durable_of}
+use Rattle.model.specs.Claim.{History, Legal, reached, durable_of}
 use Rattle.model.specs.RingClaim.{run_start, Unrepairable}
 use Rattle.model.specs.declared.{geometry.Geometry.Geometry, item.LogRecord.LogRecord}
 use Rattle.history.proofs.Logs.{no_logged, at, last_at, last_of, last-le, last-page, last-ge, last-take, last-is, len_a, at_a, last_n, number-miss}

@@ -1,28 +1,28 @@
 -- ME4 (b): from the walk that mending makes to the invariant, and the claim.
 use mathlib.Core.Path.{◌≡◌, refl, sym, ap, ◌∙◌, subst}
 use mathlib.Core.Logic.{◌≢◌, ◌⊎◌, inl, inr, ⊎_elim}
-use mathlib.Core.Bool.{Bool, true, false, cond, not, ◌&&◌, ◌||◌}
-use mathlib.Core.List.{List, [], ◌∷◌, ◌++◌}
+use mathlib.Core.Bool.{true, false, cond, ◌&&◌, ◌||◌}
+use mathlib.Core.List.{List}
 use Prim.Native.Nat.{ℕ, zero, suc, ◌+◌, ◌-◌, ◌/◌, ◌≤◌, ◌<◌}
 use native.Mathlib.Omega.{arith}
 use native.Mathlib.Decide.{ℕ_discrete}
 use lib.ListN.{length}
 use lib.Dec.{eqb, leb}
 use borrow.Author.Tests.{eqb-true, not-true, leb-true, leb-false}
-use Rattle.laws.proofs.Tables.{by_cases, and_left, and_right, or_cases, true-not-false}
+use Rattle.laws.proofs.Tables.{by_cases, and_right, or_cases, true-not-false}
 use Rattle.model.specs.Tables.{larger}
-use Rattle.model.specs.Geometry.{geometry_of, item, page_at, log_slot, ring, top_number}
+use Rattle.model.specs.Geometry.{geometry_of, item, page_at, log_slot, top_number}
 use Rattle.model.specs.Item.{image_lsn, valid_image}
 use Rattle.model.specs.Change.{kind_of}
 use Rattle.model.specs.Index.{entry_of}
 use Rattle.model.specs.Scan.{durable_count, first_held, index_of}
-use Rattle.model.specs.Repair.{Walk, walk_from, stop_at, behind, is_below, scanned_view}
+use Rattle.model.specs.Repair.{Walk, walk_from, is_below, scanned_view}
 use Rattle.model.specs.AbstractLog.{Logged, AbstractLog, empty_log}
-use Rattle.model.specs.History.{on, Machine, Event, all_allowed, run, log_after}
+use Rattle.model.specs.History.{Machine, all_allowed, run, log_after}
 use Rattle.model.specs.Claim.{History, Legal, fresh, reached, log_of, durable_of, inspection}
 use Rattle.model.specs.RingClaim.{run_start, Unrepairable}
 use Rattle.model.specs.declared.{geometry.Geometry.Geometry, item.Note.Note, state.Entry.Entry}
-use Rattle.history.proofs.Logs.{at, last_at, last_of, last-le, last-page, last-ge, last-is}
+use Rattle.history.proofs.Logs.{at, last_at, last_of, last-le, last-page, last-ge}
 use Rattle.history.proofs.Sections.{volume-sized, most-high}
 use Rattle.history.proofs.NoteIndex.{index_is}
 use Rattle.history.proofs.LogScan.{first, first-is, started, durable-count}
@@ -34,11 +34,11 @@ use Rattle.history.proofs.Rings.{rings}
 use Rattle.upkeep_policy.specs.UpkeepClaim.{extended}
 use Rattle.upkeep_theory.proofs.Text.{run-append, log-append}
 use Rattle.mend_policy.specs.Mend.{stands, reaches_from, reaches, margin}
-use Rattle.mend_policy.specs.MendClaim.{entry_on, whole_on, start_left, NotLost, OwnHolds}
+use Rattle.mend_policy.specs.MendClaim.{whole_on, NotLost, OwnHolds}
 use Rattle.mend_theory.proofs.Less.{less}
 use Rattle.mend_theory.proofs.Two.{allowed-append}
 use Rattle.mend_theory.proofs.Own.{Reach, reach-nearer, repairable}
-use Rattle.mend_theory.proofs.OwnSteps.{Near, all_near}
+use Rattle.mend_theory.proofs.OwnSteps.{all_near}
 
 -- ---- the start: a walk that takes no backup, and does not go below F
 

@@ -1,35 +1,35 @@
 -- ME4 (b)'s invariant is kept by every call but a carrying, whole or cut, and by every event that spares the page's own image.
-use mathlib.Core.Path.{◌≡◌, refl, sym, ap, ◌∙◌, subst}
-use mathlib.Core.Logic.{◌≢◌, ◌⊎◌, inl, inr, ⊎_elim}
+use mathlib.Core.Path.{◌≡◌, refl}
+use mathlib.Core.Logic.{◌≢◌}
 use mathlib.Core.Bool.{Bool, true, false, cond, not, ◌&&◌, ◌||◌}
-use mathlib.Core.List.{List, [], ◌∷◌, ◌++◌}
-use Prim.Native.Nat.{ℕ, zero, suc, ◌+◌, ◌-◌, ◌≤◌, ◌<◌}
+use mathlib.Core.List.{List, [], ◌∷◌}
+use Prim.Native.Nat.{ℕ, suc, ◌+◌, ◌≤◌}
 use native.Mathlib.Omega.{arith}
 use native.Mathlib.Decide.{ℕ_discrete}
 use lib.ListN.{length}
 use lib.Dec.{eqb}
-use borrow.Author.Tests.{eqb-true, eqb-false, eq-eqb, not-true}
+use borrow.Author.Tests.{eqb-true, eqb-false, not-true}
 use Rattle.laws.proofs.Tables.{by_cases, and_left, and_right, or-neither, true-not-false, within-bounds}
 use Rattle.laws.proofs.Notes.{note-length}
 use Rattle.laws.proofs.WellFormed.{memory-facts, pending-length}
 use Rattle.laws.proofs.Ring.{slot-in}
 use Rattle.model.specs.Tables.{Row, first_of}
 use Rattle.model.specs.Checksum.{seal_image}
-use Rattle.model.specs.Geometry.{Place, page_at, slot_at, record_at, note_at, ring, geometry_of, item, store, start, width, log_slot, note_slot}
-use Rattle.model.specs.Item.{image_lsn, valid_image, note_bytes}
+use Rattle.model.specs.Geometry.{Place, page_at, slot_at, record_at, note_at, ring, geometry_of, item, store, width, log_slot, note_slot}
+use Rattle.model.specs.Item.{image_lsn, note_bytes}
 use Rattle.model.specs.Scan.{index_of}
 use Rattle.model.specs.Passes.{is_image, passes_at}
 use Rattle.model.specs.State.{frame_bytes, pending_bytes, holder}
 use Rattle.model.specs.Refusals.{page_dirty, begin_rows, load_rows, change_rows, force_rows, write_rows, backup_rows, release_rows, note_rows}
 use Rattle.model.specs.Refusals.{restart_rows}
-use Rattle.model.specs.Outcome.{StoredItem, nothing, one_item, Outcome, volume_after, decided}
+use Rattle.model.specs.Outcome.{StoredItem, Outcome, volume_after, decided}
 use Rattle.model.specs.Effects.{note_stored, backup_done, begin_done, change_done, force_done, load_done, release_done, write_outcome}
 use Rattle.model.specs.Calls.{Call, rows_of, outcome_of, is_call}
 use Rattle.model.specs.AbstractLog.{Logged, AbstractLog, move_first, forget, Left, old, new, torn, left_new, step_call, step_cut}
 use Rattle.model.specs.History.{Power, off, on, Machine, Event, restart, perform, crash, crash_in, damage, lent, left_volume}
 use Rattle.model.specs.History.{item_sealed, torn_fits, stored_before, allowed, step, step_log, all_allowed, run, log_after}
 use Rattle.model.specs.Carry.{carries}
-use Rattle.model.specs.declared.{geometry.Geometry.Geometry, item.Note.Note, state.State.State}
+use Rattle.model.specs.declared.{geometry.Geometry.Geometry, state.State.State}
 use Rattle.model.specs.declared.state.PendingNote.{PendingNote}
 use Rattle.model.specs.declared.state.PendingNote.TheVariants.{Absent, Present}
 use Rattle.model.specs.declared.command.Command.TheVariants.{Begin, Load, Force, Write, Release, StartCarry, Restamp, FinishCarry}

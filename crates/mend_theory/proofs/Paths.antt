@@ -1,6 +1,6 @@
 -- ME2: mending's Write ends it; its Load leaves upkeep idle.
 use mathlib.Core.Path.{◌≡◌, sym, ap, ◌∙◌, subst}
-use mathlib.Core.Logic.{◌⊎◌, ⊎_elim}
+use mathlib.Core.Logic.{⊎_elim}
 use mathlib.Core.Bool.{true, false}
 use mathlib.Core.List.{List, [], ◌∷◌}
 use Prim.Native.Nat.{ℕ, suc, ◌+◌, ◌≤◌}
@@ -13,7 +13,7 @@ use Rattle.model.specs.History.{on, Machine, perform, run}
 use Rattle.model.specs.Claim.{History, reached}
 use Rattle.model.specs.declared.state.State.{State}
 use Rattle.history.proofs.Reached.{made_with}
-use Rattle.upkeep_policy.specs.Upkeep.{idle, upkeep_events}
+use Rattle.upkeep_policy.specs.Upkeep.{upkeep_events}
 use Rattle.upkeep_policy.specs.UpkeepClaim.{extended, bound}
 use Rattle.mend_policy.specs.Mend.{is_stale, call, mend_of}
 use Rattle.mend_policy.specs.MendClaim.{writes_page, still_goes_on}

@@ -1,17 +1,16 @@
 -- What mending calls whole is whole, by the volume alone.
-use mathlib.Core.Path.{◌≡◌, refl, sym, ap, ◌∙◌}
+use mathlib.Core.Path.{◌≡◌, refl, sym, ◌∙◌}
 use mathlib.Core.Logic.{◌≢◌}
-use mathlib.Core.Bool.{Bool, true, false, cond, not, ◌&&◌, ◌||◌}
+use mathlib.Core.Bool.{Bool, true, false, not, ◌&&◌, ◌||◌}
 use mathlib.Core.List.{List}
-use Prim.Native.Nat.{ℕ, ◌≤◌}
+use Prim.Native.Nat.{ℕ}
 use native.Mathlib.Omega.{arith}
-use lib.ListN.{length}
 use lib.Dec.{eqb}
 use borrow.Author.Tests.{not-false}
-use Rattle.laws.proofs.Tables.{by_cases, and_both, or_left, or_right, true-not-false}
+use Rattle.laws.proofs.Tables.{by_cases, and_both, or_left, or_right}
 use Rattle.model.specs.Geometry.{ring, geometry_of}
 use Rattle.model.specs.Index.{entry_of}
-use Rattle.model.specs.Scan.{durable_count, index_of}
+use Rattle.model.specs.Scan.{durable_count}
 use Rattle.model.specs.State.{held}
 use Rattle.model.specs.Repair.{state_view, class_in}
 use Rattle.model.specs.Calls.{Call}
@@ -23,7 +22,7 @@ use Rattle.history.proofs.Reached.{present, tied}
 use Rattle.upkeep_policy.specs.Upkeep.{Advice, idle, stuck, make, renew}
 use Rattle.upkeep_theory.proofs.Idle.{renew-busy}
 use Rattle.mend_policy.specs.Mend.{stands, reaches_from, reaches, margin, whole_page, may_write, is_ahead, is_stale, whole, single, lost, ahead, full, call, mending, mend_of}
-use Rattle.mend_policy.specs.MendClaim.{whole_on, WholeIsWhole}
+use Rattle.mend_policy.specs.MendClaim.{WholeIsWhole}
 
 call-whole : {A : Type 0} (c : Call) → call c ≡ whole → A
 call-whole c e = let z : ◌≡◌ {A = ℕ} 0 1 = cc in absurd (omega arith)

@@ -34,7 +34,7 @@ use Rattle.planning_theory.proofs.Play.{Stage}
 use Rattle.planning_theory.proofs.Relation.{Arrived, Rows, row-twice, all-is, one-row}
 use Rattle.planning_theory.proofs.ChangeStep.{mod-more, mine-dirty, Changed}
 use Rattle.planning_theory.proofs.BackupStep.{backup-step}
-use Rattle.planning_theory.proofs.Event.{stage-as, row}
+use Rattle.planning_theory.proofs.Event.{stage-as}
 
 -- ---- the number of changes
 

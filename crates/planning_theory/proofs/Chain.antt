@@ -23,7 +23,7 @@ use Rattle.history.proofs.Marks.{Mark, mark_at, mark-ok}
 use Rattle.history.proofs.Entries.{entry_from}
 use Rattle.history.proofs.Views.{no-backup}
 use Rattle.history.proofs.LogScan.{first, first-is, started}
-use Rattle.history.proofs.Context.{Ctx, sized, fair, few}
+use Rattle.history.proofs.Context.{Ctx, sized, few}
 use Rattle.planning_theory.proofs.Counts.{count_at, count-zero, count-hit, count-last, none-count}
 
 -- only a page's first change is a format

@@ -31,7 +31,7 @@ use Rattle.planning_theory.proofs.Counts.{count_of}
 use Rattle.planning_theory.proofs.Play.{Run, Stage}
 use Rattle.planning_theory.proofs.Relation.{Arrived, Rows, row_same, is-blank, not-blank, in-volume}
 use Rattle.planning_theory.proofs.AwayStep.{Away}
-use Rattle.planning_theory.proofs.Event.{Full, row_count, blank-yes, blank-not, fo, f16, low, arrived-found}
+use Rattle.planning_theory.proofs.Event.{Full, row_count, blank-yes, blank-not, fo, low, arrived-found}
 use Rattle.planning_theory.proofs.Event.{touched-found, absent, row, row_low, row16, alike, touched-missing}
 use Rattle.planning_theory.proofs.Event.{eviction-stage, loaded}
 use Rattle.planning_theory.proofs.Backed.{page-high}

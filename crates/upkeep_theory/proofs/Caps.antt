@@ -29,7 +29,6 @@ use Rattle.history.proofs.Refusals.{own_rows, rows_are}
 use Rattle.history.proofs.Marks.{mark_at}
 use Rattle.history.proofs.Context.{Ctx, geo, entry-is, sized}
 use Rattle.upkeep_policy.specs.Upkeep.{make, written_pages, upkeep_of}
-use Rattle.upkeep_theory.proofs.Shape.{notes}
 use Rattle.upkeep_theory.proofs.Near.{wrote_in, written-pages}
 use Rattle.model.specs.declared.command.Command.TheVariants.{Note as NoteCall}
 

@@ -22,9 +22,7 @@ use Rattle.model.specs.History.{Power, off, on, damage_fits, stored_before}
 use Rattle.model.specs.declared.{geometry.Geometry.Geometry, state.State.State}
 use Rattle.laws.proofs.Ring.{slot-in}
 use Rattle.history.proofs.Sections.{Volume, volume-size, volume-store}
-use Rattle.history.proofs.Context.{geo}
 use Rattle.history.proofs.Inv.{Inv}
-use Rattle.upkeep_theory.proofs.Shape.{notes}
 use Rattle.upkeep_theory.proofs.Shift.{note-same}
 use Rattle.upkeep_theory.proofs.Tidy.{Tidy}
 use Rattle.upkeep_theory.proofs.Apart.{Apart, apart-page, apart-slot, marks-index}

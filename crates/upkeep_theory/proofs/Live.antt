@@ -26,7 +26,7 @@ use Rattle.model.specs.declared.{geometry.Geometry.Geometry, item.Note.Note, sta
 use Rattle.model.specs.declared.state.PendingNote.TheVariants.{Present}
 use Rattle.history.proofs.Logs.{no_logged, at, last_of, body_of, last-ge, last-le}
 use Rattle.history.proofs.Leaf.{frame-lsn, note-read}
-use Rattle.history.proofs.Marks.{mark_at, note, NoteOk}
+use Rattle.history.proofs.Marks.{mark_at, NoteOk}
 use Rattle.history.proofs.Entries.{entry_from}
 use Rattle.history.proofs.Sections.{notes-high}
 use Rattle.history.proofs.Disk.{Holds, Noted}
@@ -34,7 +34,7 @@ use Rattle.history.proofs.NoteScan.{note-count}
 use Rattle.history.proofs.NoteIndex.{index_is}
 use Rattle.history.proofs.LogScan.{durable-count}
 use Rattle.history.proofs.Inv.{PendingOk}
-use Rattle.history.proofs.Context.{Ctx, sized, geo, len, few, body-size, entry-is, Found}
+use Rattle.history.proofs.Context.{Ctx, sized, len, few, body-size, entry-is, Found}
 use Rattle.upkeep_theory.proofs.Shift.{MoreMarks}
 use Rattle.upkeep_theory.proofs.Apart.{field-set, SameMarks}
 use Rattle.upkeep_theory.proofs.Pages.{record-stands}

@@ -15,7 +15,7 @@ use Rattle.model.specs.declared.{command.Command.TheVariants.Force, geometry.Geo
 use Rattle.model.specs.AbstractLog.{Logged}
 use Rattle.history.proofs.Context.{Ctx}
 use Rattle.upkeep_policy.specs.Upkeep.{reserve, ever_written}
-use Rattle.upkeep_theory.proofs.Shape.{Advised, notes}
+use Rattle.upkeep_theory.proofs.Shape.{Advised}
 use Rattle.upkeep_theory.proofs.Tidy.{Tidy, since_written}
 use Rattle.upkeep_theory.proofs.Step.{l2, place2}
 use Rattle.upkeep_theory.proofs.Written.{few-live}

@@ -25,7 +25,7 @@ use Rattle.model.specs.declared.{geometry.Geometry.Geometry, item.Note.Note, sta
 use Rattle.model.specs.declared.state.State.{State}
 use Rattle.history.proofs.Context.{Ctx}
 use Rattle.upkeep_policy.specs.Upkeep.{reserve, ever_written}
-use Rattle.upkeep_theory.proofs.Shape.{Advised, notes}
+use Rattle.upkeep_theory.proofs.Shape.{Advised}
 use Rattle.upkeep_theory.proofs.Tidy.{Tidy, since_written, settled}
 use Rattle.upkeep_theory.proofs.TidyStores.{counted}
 use Rattle.upkeep_theory.proofs.Step.{l2}

@@ -12,7 +12,6 @@ use Rattle.model.specs.Calls.{Call, outcome_of}
 use Rattle.model.specs.declared.{geometry.Geometry.Geometry, item.Note.Note, state.PendingNote.TheVariants.Present}
 use Rattle.model.specs.declared.state.State.{State}
 use Rattle.upkeep_policy.specs.Upkeep.{ever_written}
-use Rattle.upkeep_theory.proofs.Shape.{notes}
 use Rattle.upkeep_theory.proofs.Tidy.{Tidy, since_written}
 use Rattle.upkeep_theory.proofs.Measure.{rest_of}
 use Rattle.upkeep_theory.proofs.Load.{Least}

@@ -34,7 +34,6 @@ use Rattle.history.proofs.Images.{sealed-size}
 use Rattle.history.proofs.Persists.{writes, backs}
 use Rattle.history.proofs.Context.{Ctx, geo, entry-is, Found}
 use Rattle.upkeep_policy.specs.Upkeep.{reserve, refresh}
-use Rattle.upkeep_theory.proofs.Shape.{notes}
 use Rattle.upkeep_theory.proofs.Shift.{alike, note-same}
 use Rattle.upkeep_theory.proofs.Text.{put-found}
 use Rattle.upkeep_theory.proofs.NotesTidy.{NotesTidy, alike-holds, leave-second}

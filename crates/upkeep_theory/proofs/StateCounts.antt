@@ -4,7 +4,6 @@ use Prim.Native.Nat.{ℕ, suc, ◌+◌, ◌-◌}
 use native.Mathlib.Numerals.{add-one}
 use Rattle.model.specs.Effects.{noted_state, forced_state, appended_state}
 use Rattle.model.specs.declared.{item.Note.Note, state.PendingNote.TheVariants.Absent, state.State.State}
-use Rattle.upkeep_theory.proofs.Shape.{notes}
 
 pub noted-counts : (s : State) (n : Note)
     → ((noted_state s n).notes ≡ suc s.notes) × ((noted_state s n).durable ≡ s.durable)
