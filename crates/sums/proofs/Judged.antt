@@ -4,7 +4,6 @@ use mathlib.Core.Bool.{Bool, true, false, not, ◌&&◌}
 use mathlib.Core.List.{List}
 use Prim.Native.Nat.{ℕ, suc, ◌+◌, ◌*◌, ◌-◌, ◌/◌, ◌%◌, ◌≤◌}
 use native.Mathlib.Omega.{arith}
-use borrow.Author.Tests.{not-true, not-false}
 use lib.Dec.{eqb}
 use lib.IntN.{ℤ}
 use lib.ListN.{length}
@@ -30,11 +29,11 @@ pub record Constants (n i j : ℕ) : Type 0 where
   pub second : j ≡ 32768 * suc (suc n) + 196606
 
 -- a test of multiples that failed, and one that was passed
-pub failed : {t : Bool} {z x : ℕ} → not t ≡ true → t ≡ eqb (z % 65535) 0 → z ≡ x → eqb (x % 65535) 0 ≡ false
-failed {t} h e f = sym (e ∙ ap (λ (k : ℕ). eqb (k % 65535) 0) f) ∙ not-true t h
+pub failed : {t : Bool} {z x : ℕ} → t ≡ false → t ≡ eqb (z % 65535) 0 → z ≡ x → eqb (x % 65535) 0 ≡ false
+failed h e f = sym (e ∙ ap (λ (k : ℕ). eqb (k % 65535) 0) f) ∙ h
 
-pub passed : {t : Bool} {z x : ℕ} → not t ≡ false → t ≡ eqb (z % 65535) 0 → z ≡ x → eqb (x % 65535) 0 ≡ true
-passed {t} h e f = sym (e ∙ ap (λ (k : ℕ). eqb (k % 65535) 0) f) ∙ not-false t h
+pub passed : {t : Bool} {z x : ℕ} → t ≡ true → t ≡ eqb (z % 65535) 0 → z ≡ x → eqb (x % 65535) 0 ≡ true
+passed h e f = sym (e ∙ ap (λ (k : ℕ). eqb (k % 65535) 0) f) ∙ h
 
 -- the numbers that are tested
 abbrev pub x-of : ℕ → List ℕ → ℕ

@@ -1,4 +1,6 @@
 // The two sums of an item: over words, and over bytes. What each gives is defined in `model`.
+#![tactic(auto)]
+
 mod byte_lanes;
 pub mod byte_sum;
 pub mod checksum;

@@ -1,10 +1,10 @@
 -- Laws of Make: headings written over zeros are the empty volume, and what is answered.
 use mathlib.Core.Path.{◌≡◌, refl, sym, ap, ◌∙◌}
-use mathlib.Core.Bool.{Bool, true, false, ◌&&◌, not}
+use mathlib.Core.Bool.{Bool, true, false, ◌&&◌}
 use mathlib.Core.List.{List, [], ◌++◌, append-nil}
 use Prim.Native.Nat.{ℕ, ◌+◌, ◌-◌, ◌*◌}
 use native.Mathlib.Omega.{arith}
-use borrow.Author.Tests.{eqb-true, not-true, not-false}
+use borrow.Author.Tests.{eqb-true}
 use lib.Dec.{eqb}
 use lib.ListN.{length, take, drop, length-replicate}
 use lib.Seq.{take-append-le, drop-append-le}
@@ -65,18 +65,18 @@ module _ (v : List ℕ) (h : Heading) (p b l n : ℕ) (c : Bool) (k : ℕ) (ec :
   tested : (c && eqb (length v) k) ≡ (valid_counts p b l n && eqb (length v) (length_for p b l n))
   tested = rw (ec, ek)
 
-  pub make-refused : not (c && eqb (length v) k) ≡ true → (Refused 1 ≡ (make_of h v p b l n).answer) × (v ≡ (make_of h v p b l n).volume)
+  pub make-refused : (c && eqb (length v) k) ≡ false → (Refused 1 ≡ (make_of h v p b l n).answer) × (v ≡ (make_of h v p b l n).volume)
   unfolding make_of make_rows
   make-refused t =
-      let e : (valid_counts p b l n && eqb (length v) (length_for p b l n)) ≡ false = sym tested ∙ not-true _ t in
+      let e : (valid_counts p b l n && eqb (length v) (length_for p b l n)) ≡ false = sym tested ∙ t in
       (rw e, rw e)
 
-  pub make-fits : not (c && eqb (length v) k) ≡ false → length v ≡ length_for p b l n
-  make-fits t = eqb-true _ _ (and_right c (eqb (length v) k) (not-false _ t)) ∙ ek
+  pub make-fits : (c && eqb (length v) k) ≡ true → length v ≡ length_for p b l n
+  make-fits t = eqb-true _ _ (and_right c (eqb (length v) k) t) ∙ ek
 
-  pub make-done : not (c && eqb (length v) k) ≡ false
+  pub make-done : (c && eqb (length v) k) ≡ true
       → (Done ≡ (make_of h v p b l n).answer) × (empty_volume h p b l n ≡ (make_of h v p b l n).volume)
   unfolding make_of make_rows
   make-done t =
-      let e : (valid_counts p b l n && eqb (length v) (length_for p b l n)) ≡ true = sym tested ∙ not-false _ t in
+      let e : (valid_counts p b l n && eqb (length v) (length_for p b l n)) ≡ true = sym tested ∙ t in
       (rw e, rw e)

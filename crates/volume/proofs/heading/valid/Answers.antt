@@ -1,0 +1,11 @@
+-- `heading::valid` meets its contract: no count decides where the heading is not known.
+use mathlib.Core.Path.{sym, ◌∙◌}
+use Rattle.volume.proofs.Readings.{unknown-read}
+use Rattle.volume.proofs.heading.valid.Goals as goal
+
+pub returns-then-not-known : goal.returns-then-not-known
+returns-then-not-known c = sym (unknown-read _ (sym c.known.ensures ∙ c.if-not-known.true))
+
+pub sound-requires : goal.sound-requires
+sound-requires c =
+    (sym c.known.ensures ∙ c.if-not-known.false, c.geometry.ensures)

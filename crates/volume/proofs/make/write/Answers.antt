@@ -1,0 +1,16 @@
+-- `volume::make::write` meets its contract. Zeros, then each heading from the last one down, so that each is written over zeros alone.
+use mathlib.Core.Path.{ap, ◌∙◌}
+use Rattle.model.specs.Bytes.{splice}
+use Rattle.volume.proofs.Fresh.{fresh}
+use Rattle.volume.proofs.make.write.Goals as goal
+
+pub returns : goal.returns
+returns c =
+    let e = c in
+    let d = e in
+    fresh _ _ _ _ _ _ _ _ _ _ _ _
+    d.requires d.fill.ensures
+    d.put_u32.ensures e.put_u32-2.ensures
+    e.put_u32-3.ensures
+    e.put_u32-4.ensures
+    (c.put.ensures ∙ ap (splice _ 0) c.magic_bytes-magic.ensures)
