@@ -1,5 +1,6 @@
 // The scan of the log: its records judged one by one, and the last number of each page.
 #![tactic(auto)]
+
 ghost use Rattle.std.specs.Prelude.{◌≡◌, true, length, replicate};
 ghost use Rattle.model.specs.Scan as scans;
 ghost use Rattle.section.specs.Sweep.{Guessed};

@@ -1,5 +1,6 @@
 // A section of a volume, its log or its notes: its whole slots, and the run of numbers that they hold.
 #![tactic(auto)]
+
 ghost use Rattle.std.specs.Prelude.{◌≡◌, true, cond, suc, ◌+◌, ◌-◌, ◌*◌, ◌%◌, ◌≤◌, ◌<◌, length};
 ghost use Rattle.model.specs.Bytes as bytes;
 ghost use Rattle.model.specs.Checksum.{sealed};
