@@ -174,18 +174,17 @@ module _ (g : Geometry) (s : State) where
 
 -- the code's tests, in the table's order, come to the rows 1, 2, 2
 module _ (s : State) (v m : List ℕ) where
-  pub refused-1 : (valid : Bool) → valid ≡ valid_volume v → not valid ≡ true → 1 ≡ first_of (state_rows v m s [])
+  pub refused-1 : (valid : Bool) → valid ≡ valid_volume v → valid ≡ false → 1 ≡ first_of (state_rows v m s [])
   refused-1 valid ev t = sym (rw (← ev, t))
 
-  pub refused-2 : (size : ℕ) (valid memory : Bool) → valid ≡ valid_volume v → memory ≡ valid_memory size → not valid ≡ false → not memory
-      ≡ true
+  pub refused-2 : (size : ℕ) (valid memory : Bool) → valid ≡ valid_volume v → memory ≡ valid_memory size → valid ≡ true → memory ≡ false
       → length m ≡ size
       → 2 ≡ first_of (state_rows v m s [])
   refused-2 size valid memory ev em tv tm en = sym (rw (← ev, tv, en, ← em, tm))
 
   pub refusal_is : (size count : ℕ) (g : Geometry) (valid memory formed : Bool) (k : ℕ) → valid ≡ valid_volume v → memory ≡ valid_memory size
-      → not valid ≡ false
-      → not memory ≡ false
+      → valid ≡ true
+      → memory ≡ true
       → g ≡ geometry_of v
       → count ≡ frame_count size
       → formed ≡ well_formed g count s

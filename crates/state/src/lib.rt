@@ -1,5 +1,6 @@
 // The state by value: its frame table, its index, the states that the calls make of it.
 #![tactic(auto)]
+
 pub mod entries;
 pub mod frames;
 pub mod next;
