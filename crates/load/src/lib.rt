@@ -1,6 +1,7 @@
 // Load: brings a page into a frame, repaired. The module `release` lets it go again; `probe` tells what Load would
 // answer.
 #![tactic(auto)]
+
 pub mod probe;
 pub mod release;
 

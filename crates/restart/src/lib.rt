@@ -1,5 +1,6 @@
 // Restart: gives the state that a volume's log and notes hold, and zeroes the memory.
 #![tactic(auto)]
+
 ghost use Rattle.std.specs.Prelude.{◌≡◌, cond, not, eqb};
 ghost use Rattle.model.specs.Outcome.{reply_of};
 ghost use Rattle.model.specs.Restart.{restart_of};
