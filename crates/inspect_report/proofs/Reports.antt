@@ -7,7 +7,7 @@ use native.Mathlib.Omega.{arith}
 use lib.Dec.{eqb}
 use lib.ListN.{length, set, get_or}
 use borrow.Author.Tests.{eq-eqb}
-use Rattle.laws.proofs.Tables.{by_cases, not-true}
+use Rattle.laws.proofs.Tables.{by_cases}
 use Rattle.volume.proofs.Readings.{unknown-read}
 use Rattle.model.specs.Tables.{first_of}
 use Rattle.model.specs.Geometry.{known_magic, valid_volume}
@@ -36,10 +36,10 @@ told a (x ∷ (y ∷ (z ∷ (w ∷ ws)))) e c s n p q r = absurd (omega arith)
 
 -- a report of another length
 -- a heading that is not known: row 1, whatever follows it
-pub unknown : (v : List ℕ) (p : ℕ) (b r : List ℕ) (k : Bool) → k ≡ known_magic v → not k ≡ true
+pub unknown : (v : List ℕ) (p : ℕ) (b r : List ℕ) (k : Bool) → k ≡ known_magic v → k ≡ false
     → (1 ≡ (examine_of v p b r).refusal) × (b ≡ (examine_of v p b r).buffer) × (r ≡ (examine_of v p b r).report)
 unfolding examine_of examine_rows
-unknown v p b r k ek t = rw (unknown-read v (sym ek ∙ not-true k t)) (refl, refl, refl)
+unknown v p b r k ek t = rw (unknown-read v (sym ek ∙ t)) (refl, refl, refl)
 
 pub unlike : (v : List ℕ) (p : ℕ) (b r : List ℕ) → eqb (length r) 3 ≡ false → (n : ℕ) → n ≡ cond (not (valid_volume v)) 1 2
     → (n ≡ (examine_of v p b r).refusal) × (b ≡ (examine_of v p b r).buffer) × (r ≡ (examine_of v p b r).report)

@@ -1,5 +1,6 @@
 // The state to and from the 360 numbers that a caller keeps.
 #![tactic(auto)]
+
 ghost use Rattle.std.specs.Prelude.{◌≡◌, ◌∷◌, ◌<◌, length, get_or, set};
 ghost use Rattle.model.specs.Tables.{every};
 ghost use Rattle.model.specs.Index.{empty_entry};

@@ -1,0 +1,9 @@
+-- `numbers::note_fits` meets its contract, with and without a note.
+use borrow.Author.Tests.{eq-eqb, ne_eqb}
+use Rattle.numbers.proofs.note_fits.Goals as goal
+
+pub returns-then-kind-eq0 : goal.returns-then-kind-eq0
+returns-then-kind-eq0 c = rw (eq-eqb _ 0 c.if-kind-eq0.true)
+
+pub returns : goal.returns
+returns c = rw (ne_eqb _ 0 c.if-kind-eq0.false)
