@@ -1,6 +1,7 @@
 // The reader of a log archive: judged as a whole, then every page rebuilt from its segment into a lent area; and how
 // many pages an archive has.
 #![tactic(auto)]
+
 ghost use Rattle.std.specs.Prelude.{◌≡◌, length};
 ghost use Rattle.model.specs.Tables.{first_of};
 ghost use Rattle.reports.specs.Archive.{archive_pages, valid_area, read_rows, read_of};

@@ -1,5 +1,6 @@
 // The log archive's length and its writer, from a volume and without memory or state.
 #![tactic(auto)]
+
 ghost use Rattle.std.specs.Prelude.{◌≡◌, cond, not, ◌+◌, ◌*◌, eqb};
 ghost use Rattle.reports.specs.Archive.{size_of, archive_of};
 ghost use Rattle.model.specs.Outcome.{refusal_of};
