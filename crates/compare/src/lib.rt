@@ -1,5 +1,6 @@
 // Compare: two volumes' durable logs held against each other, without memory or state.
 #![tactic(auto)]
+
 ghost use Rattle.std.specs.Prelude.{◌≡◌, cond, ◌||◌, ◌≤◌, eqb};
 ghost use Rattle.reports.specs.Mirror as mirrors;
 ghost use Rattle.index.specs.Scanned.{gone_in};

@@ -1,5 +1,6 @@
 // Two kinds of reader, played through: a list of events played on a small model of the store.
 #![tactic(auto)]
+
 ghost use Rattle.std.specs.Prelude.{◌≡◌, ◌≤◌, length};
 ghost use Rattle.model.specs.Tables.{first_of};
 ghost use Rattle.planning.specs.Rehearsal.{settings, idle, play_from, pages_fit, rehearsal_rows, rehearsal_of};
