@@ -1,5 +1,6 @@
 // The scan of a volume's log and notes into the page recovery index, for any bytes and without memory or state.
 #![tactic(auto)]
+
 ghost use Rattle.std.specs.Prelude.{◌≡◌, true, ◌≤◌, length, replicate};
 ghost use Rattle.model.specs.Geometry.{known_magic, geometry_of, valid_volume};
 ghost use Rattle.index_rows.specs.Columns.{Blank, Columns, Wide};

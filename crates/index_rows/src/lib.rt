@@ -1,4 +1,5 @@
 // The rows and columns of the page recovery index.
 #![tactic(auto)]
+
 pub mod columns;
 pub mod entries;

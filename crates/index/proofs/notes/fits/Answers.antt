@@ -1,0 +1,4 @@
+use Rattle.index.proofs.notes.fits.Goals as goal
+
+pub returns : goal.returns
+returns c = rw c.layout-right.ensures
