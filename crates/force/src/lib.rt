@@ -1,5 +1,6 @@
 // Force: stores the oldest pending record, as its 64 bytes lie in memory, in the slot of its number.
 #![tactic(auto)]
+
 ghost use Rattle.std.specs.Prelude.{◌≡◌, []};
 ghost use Rattle.model.specs.Tables.{first_of};
 ghost use Rattle.model.specs.Refusals.{state_rows};

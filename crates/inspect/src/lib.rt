@@ -1,5 +1,6 @@
 // Inspect: a page rebuilt from the durable records of a volume, into a lent buffer.
 #![tactic(auto)]
+
 ghost use Rattle.std.specs.Prelude.{◌≡◌, cond, not, eqb};
 ghost use Rattle.model.specs.Tables.{within};
 ghost use Rattle.model.specs.Outcome.{refusal_of};

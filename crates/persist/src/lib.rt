@@ -1,5 +1,6 @@
 // Write, Backup and Note: the calls that store a page's image or a note.
 #![tactic(auto)]
+
 pub mod backup;
 mod image;
 pub mod note;
