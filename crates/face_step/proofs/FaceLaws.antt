@@ -7,7 +7,7 @@ use native.Mathlib.Omega.{arith}
 use native.Mathlib.Nat.{mod-eq_of_lt}
 use lib.Dec.{eqb, ltb}
 use lib.ListN.{length}
-use borrow.Author.Tests.{eq-eqb, ne_eqb, eqb-true, lt-ltb, le-ltb, not-false}
+use borrow.Author.Tests.{eq-eqb, ne_eqb, eqb-true, lt-ltb, le-ltb}
 use Rattle.laws.proofs.Tables.{by_cases, and_left, and_right, not-true}
 use Rattle.laws.proofs.Places.{in_item, place-fits, valid-facts}
 use Rattle.laws.proofs.Demand1.{demand1}
@@ -61,12 +61,12 @@ module _ (g : Geometry) (v : List ℕ) (e : g ≡ geometry_of v) where
       rw (et, ← e, a, suc-sub-one)
 
   module _ (s : State) (b : Bool) (eb : b ≡ valid_volume v) where
-    pub old-invalid : not b ≡ true → record { at = 0; size = 0 } ≡ range_of g (old_target v s)
-    old-invalid h = rw (sym eb ∙ not-true b h)
+    pub old-invalid : b ≡ false → record { at = 0; size = 0 } ≡ range_of g (old_target v s)
+    old-invalid h = rw (sym eb ∙ h)
 
-    module _ (h : not b ≡ false) where
+    module _ (h : b ≡ true) where
       pub old-valid : valid_volume v ≡ true
-      old-valid = sym eb ∙ not-false b h
+      old-valid = sym eb ∙ h
 
       pub old-few : g.pages + g.slots ≤ 192
       old-few = let f = valid-facts v old-valid in rw e (omega (arith, f.p-high, f.b-high))
@@ -197,11 +197,11 @@ both true false h = let z : ◌≡◌ {A = ℕ} 0 1 = cc in absurd (omega arith)
 both false b h = let z : ◌≡◌ {A = ℕ} 0 1 = cc in absurd (omega arith)
 
 -- the volume has another heading: it is told, and everything is left
-pub unlike-headed : (c : Call) (v m xs report own : List ℕ) (h : Bool) → own ≡ own_magic c → h ≡ headed_by own v → not h ≡ true
+pub unlike-headed : (c : Call) (v m xs report own : List ℕ) (h : Bool) → own ≡ own_magic c → h ≡ headed_by own v → h ≡ false
     → faced 1 xs report m v ≡ face_of c v m xs report
 unfolding face_of volume_after
 unlike-headed c v m xs report own h eo eh t =
-    let f : headed_by (own_magic c) v ≡ false = sym (eh ∙ ap (λ (o : List ℕ). headed_by o v) eo) ∙ not-true h t in
+    let f : headed_by (own_magic c) v ≡ false = sym (eh ∙ ap (λ (o : List ℕ). headed_by o v) eo) ∙ t in
     let s = state_of xs in
     let r : outcome_of c v m s ≡ unchanged (Refused 1) m s = refused-by-one (rows_of c v m s) m s (done_of c v m s) (first-row c v m s f) in
     by_cases (fits xs && eqb (length report) 5)
@@ -210,12 +210,12 @@ unlike-headed c v m xs report own h eo eh t =
 
 module _ (c : Call) (v m xs report : List ℕ) (b : Bool) (eb : b ≡ fits xs) where
   pub unfit : (own : List ℕ) (h valid : Bool) (n : ℕ) → (not b || not (eqb (length report) 5)) ≡ true → own ≡ own_magic c
-      → h ≡ headed_by own v → not h ≡ false → valid ≡ valid_volume v → n ≡ cond (not valid) 1 2
+      → h ≡ headed_by own v → h ≡ true → valid ≡ valid_volume v → n ≡ cond (not valid) 1 2
       → faced n xs report m v ≡ face_of c v m xs report
   unfolding face_of
   unfit own h valid n t eo eh th ev en =
       let q : (fits xs && eqb (length report) 5) ≡ false = rw (← eb) (not-both b (eqb (length report) 5) t) in
-      let k : headed_by (own_magic c) v ≡ true = sym (eh ∙ ap (λ (o : List ℕ). headed_by o v) eo) ∙ not-false h th in
+      let k : headed_by (own_magic c) v ≡ true = sym (eh ∙ ap (λ (o : List ℕ). headed_by o v) eo) ∙ th in
       rw (q, en, ev, own-headed c v k)
 
   module _ (t : (not b || not (eqb (length report) 5)) ≡ false) where

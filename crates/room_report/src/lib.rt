@@ -1,5 +1,6 @@
 // How many more records and notes there is room for in a volume.
 #![tactic(auto)]
+
 ghost use Rattle.std.specs.Prelude.{◌≡◌};
 ghost use Rattle.reports.specs.Room.{room_of};
 

@@ -1,0 +1,44 @@
+-- `room_report::notes::count` meets its contract: what is left of the search gives the whole.
+use Prim.Native.Nat.{ℕ, ◌-◌}
+use mathlib.Core.Path.{◌≡◌, sym, ap, ◌∙◌}
+use mathlib.Core.Bool.{true, false}
+use native.Mathlib.Omega.{arith}
+use Rattle.laws.proofs.Search.{first-here, first_on, first-end}
+use Rattle.state.proofs.Slots.{most-notes-high}
+use Rattle.model.specs.Passes.{first_from}
+use Rattle.reports.specs.Room.{after_notes, notes_full_after}
+use Rattle.room_report.proofs.Remaining.{note-numbers, note-tested}
+use borrow.Author.Rules.{rules}
+use Rattle.room_report.proofs.notes.count.Goals as goal
+
+pub loop-i-init : goal.loop-i-init
+loop-i-init c =
+    let a = c.args in
+    let n = a.g.notes in
+    let e : n - 0 ≡ n = omega arith in
+    (search rules, search rules, ap (λ (k : ℕ). first_from k (notes_full_after a.g a.volume.now a.s) 0) e)
+
+pub returns-then-full : goal.returns-then-full
+returns-then-full c =
+    let l = c in
+    let a = l.args in
+    let h = note-tested a.g a.volume.now a.s l.loop-i.i _ _ true c.after.ensures c.full.ensures
+    c.if-full.true in
+    (sym (first-here _ _ _ c.loop-i-test.true h) ∙ l.loop-i.invariant.2, l.loop-i.invariant.0)
+
+pub loop-i-preserved : goal.loop-i-preserved
+loop-i-preserved c =
+    let l = c in
+    let a = l.args in
+    let p = l.requires in
+    let h = note-tested a.g a.volume.now a.s l.loop-i.i _ _ false c.after.ensures
+    c.full.ensures
+    c.if-full.false in
+    let n = note-numbers a.g a.volume.now (after_notes a.s l.loop-i.i) h in
+    let m = most-notes-high a.volume.now a.g p.0 p.1 in
+    (omega (arith, n, m), search rules, sym (first_on _ _ _ c.loop-i-test.true h) ∙ l.loop-i.invariant.2)
+
+pub returns : goal.returns
+returns c =
+    let l = c.loop-i in
+    (sym (first-end _ _ l.i (omega arith)) ∙ l.invariant.2, l.invariant.0)
