@@ -1,4 +1,4 @@
--- The claim for C holds: the state of a history's machine is well formed, so its numbers fit and give it back; and a
+-- The claims for C hold: the state of a history's machine is well formed, so its numbers fit and give it back; and a
 -- history with one event more is one step further.
 use Prim.Native.Nat.{ℕ}
 use mathlib.Core.Path.{◌≡◌, refl, ◌∙◌}
@@ -28,7 +28,7 @@ use Rattle.model.specs.declared.{geometry.Heading.Heading, state.State.State, an
 use Rattle.model.specs.declared.answer.Answer.TheVariants.{Refused, Nothing, Done, Repaired}
 use Rattle.face.specs.Numbers.{numbers_of}
 use Rattle.face.specs.Face.{answer_number, face_of, Restarted, restarted_of}
-use Rattle.face.specs.Claim.{Holds, then, CallIs, RestartIs, MakeIs, CHistory}
+use Rattle.face.specs.Claim.{Holds, then, CallIs, RestartIs, MakeIs, Leaves, CHistory, HistoriesForC}
 use Rattle.numbers.proofs.NumberLaws.{Stated}
 use Rattle.called.proofs.Claims.{formed-stated, called}
 use Rattle.called.proofs.Reports.{reported}
@@ -85,6 +85,16 @@ module _ (h : History) (legal : Legal h) (m : List ℕ) (s : State) (e : (reache
             (demand1.calls c (reached h).volume m s arrays).stored report o.answer;
         holds = record { state = o.state; volume = refl; power = refl; numbers = refl };
       })
+
+  leaves : (c : Call) (report : List ℕ) → length report ≡ 5
+      → Leaves (face_of c (reached h).volume m (numbers_of s) report) (step (reached h) (perform c))
+  unfolding step
+  leaves c report l =
+      rw (called c (reached h).volume m s report stated l, e)
+      (record { next = (outcome_of c (reached h).volume m s).state; volume = refl; power = refl; state = refl })
+
+pub c-history : CHistory
+c-history = leaves
 
 calls : (h : History) → Legal h → (v m xs : List ℕ) → (k : Holds v m xs (reached h))
     → (c : Call) (report : List ℕ) → length report ≡ 5
@@ -161,8 +171,8 @@ begun : (h : History) → Legal h
 begun h legal =
     same_number h.heading h.found h.pages h.slots h.records h.notes ∙ legal.make
 
-pub c-history : CHistory
-c-history = record {
+pub histories-for-c : HistoriesForC
+histories-for-c = record {
   make = make-is;
   begun = begun;
   restarts = restarts;

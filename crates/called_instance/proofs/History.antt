@@ -24,7 +24,7 @@ use Rattle.model.specs.declared.answer.{Class.TheVariants.Failed, Start.TheVaria
 use Rattle.face.specs.Numbers.{numbers_of}
 use Rattle.face.specs.Face.{answer_number, face_of, Restarted, restarted_of}
 use Rattle.face.specs.Claim.{Holds, then, CallIs, RestartIs, made, MakeIs}
-use Rattle.called.proofs.Theorem.{c-history}
+use Rattle.called.proofs.Theorem.{histories-for-c}
 use Rattle.cases.specs.Opened.{opened}
 use Rattle.cases.specs.Build.{memory}
 use Rattle.cases.specs.Calls.{load, force}
@@ -42,7 +42,7 @@ IsAt h c =
 
 is_at : (h : History) → Legal h → (reached h).power ≡ on (memory_of h) (state_for h) → (c : Call) → IsAt h c
 is_at h legal power c =
-    c-history.calls h legal (volume_of h) (memory_of h) (numbers_for h)
+    histories-for-c.calls h legal (volume_of h) (memory_of h) (numbers_for h)
     (record { state = state_for h; volume = refl; power = power; numbers = refl }) c lent_report refl
 
 -- ---- a Load: Failed, from the backup, one record replayed
@@ -144,7 +144,7 @@ cut = then waiting crash
 
 cut-legal : Legal cut
 unfolding opened
-cut-legal = c-history.legal waiting waiting-legal crash refl
+cut-legal = histories-for-c.legal waiting waiting-legal crash refl
 
 abbrev after : List ℕ → Restarted
 after m = restarted_of (reached cut).volume (lent (reached cut).power m) (replicate 360 9)
@@ -154,7 +154,7 @@ RestartAt m =
     RestartIs (reached cut).volume (lent (reached cut).power m) (after m) (reached (then cut (restart m)))
 
 restart-at : (m : List ℕ) → RestartAt m
-restart-at m = c-history.restarts cut cut-legal m (replicate 360 9) (length-replicate {A = ℕ} 360 9)
+restart-at m = histories-for-c.restarts cut cut-legal m (replicate 360 9) (length-replicate {A = ℕ} 360 9)
 
 restarts : (after (memory 1)).answer ≡ 0
 unfolding face_opened
@@ -191,12 +191,12 @@ unfolding opened
 made-now = eqb→eq (answer_number (make_of Second (found (length_for 1 1 2 2)) 1 1 2 2).answer) 0 tt
 
 pub make-is : MakeIs Second (found (length_for 1 1 2 2)) 1 1 2 2
-make-is = c-history.make Second (found (length_for 1 1 2 2)) 1 1 2 2 made-now
+make-is = histories-for-c.make Second (found (length_for 1 1 2 2)) 1 1 2 2 made-now
 
 pub one-byte-short : (Legal (made Second (found 691) 1 1 2 2) → ⊥) × (length_for 1 1 2 2 ≡ 692)
 unfolding opened
 one-byte-short = (
-  λ l. let a = c-history.begun (made Second (found 691) 1 1 2 2) l in
+  λ l. let a = histories-for-c.begun (made Second (found 691) 1 1 2 2) l in
       let b : answer_number (make_of Second (found 691) 1 1 2 2).answer ≡ 1 =
       eqb→eq (answer_number (make_of Second (found 691) 1 1 2 2).answer) 1 tt in
       omega (arith, a, b),

@@ -7,7 +7,7 @@ use Prim.Native.Nat.{ℕ}
 use lib.Dec.{eqb}
 use lib.ListN.{length, get_or}
 use borrow.Author.Tests.{eqb-true}
-use Rattle.laws.proofs.Tables.{by_cases, and_left, and_right, not-true}
+use Rattle.laws.proofs.Tables.{by_cases, and_left, and_right}
 use Rattle.volume.proofs.Readings.{unknown-read}
 use Rattle.numbers.proofs.FitLaws.{long}
 use Rattle.model.specs.Tables.{Row, first_of, within}
@@ -88,8 +88,8 @@ module _ (v m xs report : List ℕ) (rest : List Row) (ys : List ℕ) where
   face = listed (first_of rows) report ys
 
   -- a heading that is not known: row 1, whatever follows it
-  pub unknown : (b : Bool) → b ≡ known_magic v → not b ≡ true → (1 ≡ face.refusal) × (report ≡ face.numbers)
-  unknown b eb t = rw (unknown-read v (sym eb ∙ not-true b t)) (refl, refl)
+  pub unknown : (b : Bool) → b ≡ known_magic v → b ≡ false → (1 ≡ face.refusal) × (report ≡ face.numbers)
+  unknown b eb t = rw (unknown-read v (sym eb ∙ t)) (refl, refl)
 
   module _ (b : Bool) (eb : b ≡ fits xs) where
     pub unfit : (not b || not (eqb (length report) 8)) ≡ true → (w : Bool) (n : ℕ) → w ≡ valid_volume v → n ≡ cond (not w) 1 2

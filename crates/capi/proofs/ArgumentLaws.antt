@@ -6,8 +6,8 @@ use Prim.Native.Nat.{ℕ, ◌≤◌, ◌<◌, ◌-◌}
 use native.Mathlib.Omega.{arith}
 use lib.Dec.{eqb, leb}
 use lib.ListN.{length, get_or}
-use borrow.Author.Tests.{eq-eqb, ne_eqb, eqb-true, leb-true, le-leb, lt-leb, not-false}
-use Rattle.laws.proofs.Tables.{by_cases, all-at, not-true, cond_same}
+use borrow.Author.Tests.{eq-eqb, ne_eqb, eqb-true, leb-true, le-leb, lt-leb}
+use Rattle.laws.proofs.Tables.{by_cases, all-at, cond_same}
 use Rattle.volume.proofs.Readings.{unknown-read}
 use Rattle.laws.proofs.Tabulated.{tabulate-length, tabulate-at}
 use Rattle.model.specs.Tables.{Row, first_of, within}
@@ -38,13 +38,12 @@ module _ (kind offset size fill n : ℕ) where
   pub format-fill : format_held offset size fill n ≡ true → fill ≤ 255
   format-fill h = leb-true fill 255 (all-at (eqb size 0 ∷ eqb offset 0 ∷ leb fill 255 ∷ leb n 44 ∷ []) 2 h)
 
-  pub bytes-bounds : not (bytes_held offset size fill n) ≡ false → Bytes offset size
+  pub bytes-bounds : bytes_held offset size fill n ≡ true → Bytes offset size
   bytes-bounds h =
       let a = all-at (leb size n ∷ leb offset 65535 ∷ eqb fill 0 ∷ leb n 44 ∷ []) in
-      let t = not-false _ h in
       record {
-        offset = leb-true offset 65535 (a 1 t);
-        size = omega (arith, leb-true size n (a 0 t), leb-true n 44 (a 3 t));
+        offset = leb-true offset 65535 (a 1 h);
+        size = omega (arith, leb-true size n (a 0 h), leb-true n 44 (a 3 h));
       }
 
   module _ (e : kind ≡ 1) where
@@ -57,20 +56,20 @@ module _ (kind offset size fill n : ℕ) where
     from-no-format h = rw (eq-eqb kind 1 e, h)
 
   module _ (ne : kind ≡ 1 → ⊥) where
-    pub from-unheld : not (bytes_held offset size fill n) ≡ true → unfit_change ≡ change_from kind offset size fill n
+    pub from-unheld : bytes_held offset size fill n ≡ false → unfit_change ≡ change_from kind offset size fill n
     unfolding change_from
     from-unheld h =
-        rw (ne_eqb kind 1 ne, not-true (bytes_held offset size fill n) h)
+        rw (ne_eqb kind 1 ne, h)
         (by_cases (eqb kind 2) (λ t. rw t) (λ t. by_cases (eqb kind 3) (λ u. rw (t, u)) (λ u. rw (t, u))))
 
-    module _ (h : not (bytes_held offset size fill n) ≡ false) where
+    module _ (h : bytes_held offset size fill n ≡ true) where
       pub from-put : kind ≡ 2 → Put offset size ≡ change_from kind offset size fill n
       unfolding change_from
-      from-put e = rw (ne_eqb kind 1 ne, not-false (bytes_held offset size fill n) h, eq-eqb kind 2 e)
+      from-put e = rw (ne_eqb kind 1 ne, h, eq-eqb kind 2 e)
 
       pub from-slide : (kind ≡ 2 → ⊥) → kind ≡ 3 → Slide offset size ≡ change_from kind offset size fill n
       unfolding change_from
-      from-slide n2 e = rw (ne_eqb kind 1 ne, not-false (bytes_held offset size fill n) h, ne_eqb kind 2 n2, eq-eqb kind 3 e)
+      from-slide n2 e = rw (ne_eqb kind 1 ne, h, ne_eqb kind 2 n2, eq-eqb kind 3 e)
 
       pub from-none : (kind ≡ 2 → ⊥) → (kind ≡ 3 → ⊥) → unfit_change ≡ change_from kind offset size fill n
       unfolding change_from
@@ -92,11 +91,11 @@ abbrev own_rows : ℕ → ℕ → Geometry → ℕ → List Row
 own_rows page frame g count = (not (within g.pages page), 3) ∷ (not (within count frame), 4) ∷ (true, 6) ∷ []
 
 -- a heading that is not known: row 1, whatever follows it
-pub misfilled-unknown : (page frame : ℕ) (v m xs report : List ℕ) (b : Bool) → b ≡ known_magic v → not b ≡ true
+pub misfilled-unknown : (page frame : ℕ) (v m xs report : List ℕ) (b : Bool) → b ≡ known_magic v → b ≡ false
     → 1 ≡ misfilled_of page frame v m xs report
 unfolding misfilled_of
 misfilled-unknown page frame v m xs report b eb t =
-    rw (unknown-read v (sym eb ∙ not-true b t)) (sym (cond_same (fits xs && eqb (length report) 5) 1))
+    rw (unknown-read v (sym eb ∙ t)) (sym (cond_same (fits xs && eqb (length report) 5) 1))
 
 module _ (page frame : ℕ) (v m xs report : List ℕ) (k : ℕ) (ek : length report ≡ k) (b : Bool) (eb : b ≡ fits xs) where
   pub misfilled-unfit : (not b || not (eqb k 5)) ≡ true → (w : Bool) (n : ℕ) → w ≡ valid_volume v → n ≡ cond (not w) 1 2

@@ -7,7 +7,6 @@ use native.Mathlib.Omega.{arith}
 use lib.Dec.{eqb}
 use lib.ListN.{length}
 use borrow.Author.Tests.{eq-eqb, ne_eqb, eqb-true}
-use Rattle.laws.proofs.Tables.{not-true}
 use Rattle.laws.proofs.Places.{in_item, place-fits, valid-facts, total}
 use Rattle.volume.proofs.Readings.{unknown-read}
 use Rattle.model.specs.Tables.{first_of}
@@ -69,10 +68,10 @@ pub told_under : (v x ns : List ℕ) (g : Geometry) → g ≡ geometry_of v → 
 told_under v x ns g eg en = en ∙ ap (λ (k : Geometry). backup_numbers k x) eg
 
 -- a heading that is not known: row 1, whatever follows it
-pub slot-unknown : (v xs : List ℕ) (at : Place) (tell : List ℕ → List ℕ) (b : Bool) → b ≡ known_magic v → not b ≡ true
+pub slot-unknown : (v xs : List ℕ) (at : Place) (tell : List ℕ → List ℕ) (b : Bool) → b ≡ known_magic v → b ≡ false
     → (1 ≡ (listed_at at tell v xs).refusal) × (xs ≡ (listed_at at tell v xs).numbers)
 unfolding listed_at
-slot-unknown v xs at tell b eb t = rw (unknown-read v (sym eb ∙ not-true b t)) (refl, refl)
+slot-unknown v xs at tell b eb t = rw (unknown-read v (sym eb ∙ t)) (refl, refl)
 
 module _ (v xs : List ℕ) (g : Geometry) (eg : g ≡ geometry_of v) (at : Place) (tell : List ℕ → List ℕ) (n : ℕ)
     (en : n ≡ cond (not (valid_volume v)) 1 (cond (not (eqb (length xs) 8)) 2 (cond (not (item_of g at)) 5 0))) where

@@ -7,7 +7,7 @@ use native.Mathlib.Omega.{arith}
 use lib.Dec.{eqb}
 use lib.ListN.{length}
 use borrow.Author.Tests.{eq-eqb, ne_eqb, eqb-true}
-use Rattle.laws.proofs.Tables.{by_cases, not-true}
+use Rattle.laws.proofs.Tables.{by_cases}
 use Rattle.volume.proofs.Readings.{unknown-read}
 use Rattle.model.specs.Tables.{first_of}
 use Rattle.model.specs.Geometry.{known_magic, valid_volume}
@@ -28,9 +28,9 @@ module _ (v xs : List ℕ) where
   number_is = by_cases (eqb (first_of (scan_rows v)) 0) (λ t. rw t (sym (eqb-true (first_of (scan_rows v)) 0 t))) (λ t. rw t)
 
   -- a heading that is not known: row 1, whatever follows it
-  pub unknown : (b : Bool) → b ≡ known_magic v → not b ≡ true → (1 ≡ (tell_room v xs).refusal) × (xs ≡ (tell_room v xs).numbers)
+  pub unknown : (b : Bool) → b ≡ known_magic v → b ≡ false → (1 ≡ (tell_room v xs).refusal) × (xs ≡ (tell_room v xs).numbers)
   unfolding tell_room
-  unknown b eb t = rw (unknown-read v (sym eb ∙ not-true b t)) (refl, refl)
+  unknown b eb t = rw (unknown-read v (sym eb ∙ t)) (refl, refl)
 
   pub unlike : (length xs ≡ 4 → ⊥) → (b : Bool) (n : ℕ) → b ≡ valid_volume v → n ≡ cond (not b) 1 2
       → (n ≡ (tell_room v xs).refusal) × (xs ≡ (tell_room v xs).numbers)

@@ -7,8 +7,7 @@ use volume::{heading, rows};
 
 // Which call to make next, or that there is nothing to do, or the page that upkeep is stuck at: 0 or the refusal.
 // Ruled out: a stuck page told as a call (tried); a refusal that wrote to the report; length and offset exchanged.
-#[unsafe(no_mangle)]
-pub extern "C" fn pagestore_upkeep(
+pub fn pagestore_upkeep(
     volume: &[u8],
     memory: &[u8],
     state: &[u32],

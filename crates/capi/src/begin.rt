@@ -38,8 +38,7 @@ fn misfilled(
     rows::first(!inside, 3, rows::first(!there, 4, 6))
 }
 
-#[unsafe(no_mangle)]
-pub extern "C" fn pagestore_begin(
+pub fn pagestore_begin(
     volume: &mut [u8],
     memory: &mut [u8],
     state: &mut [u32],

@@ -9,8 +9,7 @@ use face_step::step;
 use model::command::Command;
 use volume::heading;
 
-#[unsafe(no_mangle)]
-pub extern "C" fn pagestore_load(
+pub fn pagestore_load(
     volume: &mut [u8],
     memory: &mut [u8],
     state: &mut [u32],
@@ -33,8 +32,7 @@ pub extern "C" fn pagestore_load(
     )
 }
 
-#[unsafe(no_mangle)]
-pub extern "C" fn pagestore_force(
+pub fn pagestore_force(
     volume: &mut [u8],
     memory: &mut [u8],
     state: &mut [u32],
@@ -55,8 +53,7 @@ pub extern "C" fn pagestore_force(
     )
 }
 
-#[unsafe(no_mangle)]
-pub extern "C" fn pagestore_write(
+pub fn pagestore_write(
     volume: &mut [u8],
     memory: &mut [u8],
     state: &mut [u32],
@@ -78,8 +75,7 @@ pub extern "C" fn pagestore_write(
     )
 }
 
-#[unsafe(no_mangle)]
-pub extern "C" fn pagestore_backup(
+pub fn pagestore_backup(
     volume: &mut [u8],
     memory: &mut [u8],
     state: &mut [u32],
@@ -102,8 +98,7 @@ pub extern "C" fn pagestore_backup(
     )
 }
 
-#[unsafe(no_mangle)]
-pub extern "C" fn pagestore_release(
+pub fn pagestore_release(
     volume: &mut [u8],
     memory: &mut [u8],
     state: &mut [u32],
@@ -125,8 +120,7 @@ pub extern "C" fn pagestore_release(
     )
 }
 
-#[unsafe(no_mangle)]
-pub extern "C" fn pagestore_note(
+pub fn pagestore_note(
     volume: &mut [u8],
     memory: &mut [u8],
     state: &mut [u32],
@@ -147,8 +141,7 @@ pub extern "C" fn pagestore_note(
     )
 }
 
-#[unsafe(no_mangle)]
-pub extern "C" fn pagestore_start_carry(
+pub fn pagestore_start_carry(
     volume: &mut [u8],
     memory: &mut [u8],
     state: &mut [u32],
@@ -169,8 +162,7 @@ pub extern "C" fn pagestore_start_carry(
     )
 }
 
-#[unsafe(no_mangle)]
-pub extern "C" fn pagestore_restamp(
+pub fn pagestore_restamp(
     volume: &mut [u8],
     memory: &mut [u8],
     state: &mut [u32],
@@ -191,8 +183,7 @@ pub extern "C" fn pagestore_restamp(
     )
 }
 
-#[unsafe(no_mangle)]
-pub extern "C" fn pagestore_finish_carry(
+pub fn pagestore_finish_carry(
     volume: &mut [u8],
     memory: &mut [u8],
     state: &mut [u32],

@@ -56,8 +56,7 @@ fn payload_from(xs: &[u8]) -> [u8; 44]
     bytes
 }
 
-#[unsafe(no_mangle)]
-pub extern "C" fn pagestore_change(
+pub fn pagestore_change(
     volume: &mut [u8],
     memory: &mut [u8],
     state: &mut [u32],

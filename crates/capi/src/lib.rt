@@ -1,13 +1,14 @@
-// The page store for C: every exported function, each by an equation for all that it leaves. `include/pagestore.h`
-// declares them, and `rt staticlib capi` makes the library of them.
+// The page store for C: a function for each that is exported, by an equation for all that it leaves. The crate `capi_c`
+// exports them.
 #![tactic(auto)]
-mod advice;
-mod begin;
+
+pub mod advice;
+pub mod begin;
 pub mod calls;
-mod change;
-mod failing;
-mod mending;
+pub mod change;
+pub mod failing;
+pub mod mending;
 pub mod readers;
-mod slots;
-mod space;
+pub mod slots;
+pub mod space;
 pub mod volumes;

@@ -7,8 +7,7 @@ use volume::{heading, rows};
 
 // Which call gives the page both of its starts again, or what it has without one: 0 or the refusal.
 // Ruled out: a page with one start reported as one with both; a refusal that wrote to the report.
-#[unsafe(no_mangle)]
-pub extern "C" fn pagestore_mend(
+pub fn pagestore_mend(
     volume: &[u8],
     memory: &[u8],
     state: &[u32],

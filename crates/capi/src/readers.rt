@@ -13,8 +13,7 @@ use compare::report;
 use inspect_report::examine;
 
 // Inspection: 0 or the refusal.
-#[unsafe(no_mangle)]
-pub extern "C" fn pagestore_inspect(volume: &[u8], page: u32, buffer: &mut [u8]) -> u32
+pub fn pagestore_inspect(volume: &[u8], page: u32, buffer: &mut [u8]) -> u32
     ensures answer { result ≡ refusal_of (inspect_of volume.now page buffer.old).answer }
     ensures buffer { buffer.new ≡ (inspect_of volume.now page buffer.old).buffer }
 {
@@ -22,13 +21,7 @@ pub extern "C" fn pagestore_inspect(volume: &[u8], page: u32, buffer: &mut [u8])
 }
 
 // Inspection with its class, start and count.
-#[unsafe(no_mangle)]
-pub extern "C" fn pagestore_examine(
-    volume: &[u8],
-    page: u32,
-    buffer: &mut [u8],
-    report: &mut [u32],
-) -> u32
+pub fn pagestore_examine(volume: &[u8], page: u32, buffer: &mut [u8], report: &mut [u32]) -> u32
     ensures answer { result
         ≡ (examine_of volume.now page buffer.old report.old).refusal }
     ensures buffer { buffer.new
@@ -40,8 +33,7 @@ pub extern "C" fn pagestore_examine(
 }
 
 // The forecast of every page's repair.
-#[unsafe(no_mangle)]
-pub extern "C" fn pagestore_forecast(volume: &[u8], figures: &mut [u32]) -> u32
+pub fn pagestore_forecast(volume: &[u8], figures: &mut [u32]) -> u32
     ensures answer { result ≡ (tell_forecast volume.now figures.old).refusal }
     ensures figures { figures.new
         ≡ (tell_forecast volume.now figures.old).figures }
@@ -50,16 +42,14 @@ pub extern "C" fn pagestore_forecast(volume: &[u8], figures: &mut [u32]) -> u32
 }
 
 // The length of a volume's archive: 0 where it is refused.
-#[unsafe(no_mangle)]
-pub extern "C" fn pagestore_archive_length(volume: &[u8]) -> u32
+pub fn pagestore_archive_length(volume: &[u8]) -> u32
     ensures { result ≡ size_number (size_of volume.now) }
 {
     archive_write::length_number(volume)
 }
 
 // The archive's writer.
-#[unsafe(no_mangle)]
-pub extern "C" fn pagestore_archive_write(volume: &[u8], buffer: &mut [u8]) -> u32
+pub fn pagestore_archive_write(volume: &[u8], buffer: &mut [u8]) -> u32
     ensures answer { result ≡ refusal_of (archive_of volume.now buffer.old).answer }
     ensures buffer { buffer.new ≡ (archive_of volume.now buffer.old).buffer }
 {
@@ -67,16 +57,14 @@ pub extern "C" fn pagestore_archive_write(volume: &[u8], buffer: &mut [u8]) -> u
 }
 
 // The number of an archive's pages.
-#[unsafe(no_mangle)]
-pub extern "C" fn pagestore_archive_pages(archive: &[u8]) -> u32
+pub fn pagestore_archive_pages(archive: &[u8]) -> u32
     ensures { result ≡ archive_pages archive.now }
 {
     archive_read::pages(archive)
 }
 
 // The archive's reader.
-#[unsafe(no_mangle)]
-pub extern "C" fn pagestore_archive_read(archive: &[u8], area: &mut [u8]) -> u32
+pub fn pagestore_archive_read(archive: &[u8], area: &mut [u8]) -> u32
     ensures answer { result ≡ refusal_of (read_of archive.now area.old).answer }
     ensures area { area.new ≡ (read_of archive.now area.old).buffer }
 {
@@ -84,8 +72,7 @@ pub extern "C" fn pagestore_archive_read(archive: &[u8], area: &mut [u8]) -> u32
 }
 
 // Two volumes' logs held against each other.
-#[unsafe(no_mangle)]
-pub extern "C" fn pagestore_compare(first: &[u8], second: &[u8], report: &mut [u32]) -> u32
+pub fn pagestore_compare(first: &[u8], second: &[u8], report: &mut [u32]) -> u32
     ensures answer { result
         ≡ (mirrors.compare_of first.now second.now report.old).refusal }
     ensures report { report.new

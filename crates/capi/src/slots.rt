@@ -18,8 +18,7 @@ fn refusal(volume: &[u8], right: bool, there: bool) -> u32
 
 // What a volume's heading says: 0 or the refusal.
 // Ruled out: counts of a volume that is none; two counts exchanged (tried).
-#[unsafe(no_mangle)]
-pub extern "C" fn pagestore_counts(volume: &[u8], counts: &mut [u32]) -> u32
+pub fn pagestore_counts(volume: &[u8], counts: &mut [u32]) -> u32
     ensures answer { result ≡ (counts_of volume.now counts.old).refusal }
     ensures counts { counts.new ≡ (counts_of volume.now counts.old).numbers }
 {
@@ -34,8 +33,7 @@ pub extern "C" fn pagestore_counts(volume: &[u8], counts: &mut [u32]) -> u32
 }
 
 // What stands in a slot of the log: 0 or the refusal.
-#[unsafe(no_mangle)]
-pub extern "C" fn pagestore_record(volume: &[u8], slot: u32, fields: &mut [u32]) -> u32
+pub fn pagestore_record(volume: &[u8], slot: u32, fields: &mut [u32]) -> u32
     ensures answer { result ≡ (record_slot_of volume.now slot fields.old).refusal }
     ensures fields { fields.new
         ≡ (record_slot_of volume.now slot fields.old).numbers }
@@ -55,8 +53,7 @@ pub extern "C" fn pagestore_record(volume: &[u8], slot: u32, fields: &mut [u32])
 }
 
 // What stands in a slot of the notes: 0 or the refusal.
-#[unsafe(no_mangle)]
-pub extern "C" fn pagestore_note_at(volume: &[u8], slot: u32, fields: &mut [u32]) -> u32
+pub fn pagestore_note_at(volume: &[u8], slot: u32, fields: &mut [u32]) -> u32
     ensures answer { result ≡ (note_slot_of volume.now slot fields.old).refusal }
     ensures fields { fields.new
         ≡ (note_slot_of volume.now slot fields.old).numbers }
@@ -76,8 +73,7 @@ pub extern "C" fn pagestore_note_at(volume: &[u8], slot: u32, fields: &mut [u32]
 }
 
 // What stands in a backup slot: 0 or the refusal.
-#[unsafe(no_mangle)]
-pub extern "C" fn pagestore_slot(volume: &[u8], slot: u32, fields: &mut [u32]) -> u32
+pub fn pagestore_slot(volume: &[u8], slot: u32, fields: &mut [u32]) -> u32
     ensures answer { result ≡ (backup_slot_of volume.now slot fields.old).refusal }
     ensures fields { fields.new
         ≡ (backup_slot_of volume.now slot fields.old).numbers }

@@ -6,8 +6,7 @@ use volume::{heading, rows};
 
 // How many more log records and notes the volume takes, and the pages in the way then: 0 or the refusal.
 // Ruled out: a refusal that wrote to the report; the room of the log told for that of the notes.
-#[unsafe(no_mangle)]
-pub extern "C" fn pagestore_room(volume: &[u8], report: &mut [u32]) -> u32
+pub fn pagestore_room(volume: &[u8], report: &mut [u32]) -> u32
     ensures answer { result ≡ (tell_room volume.now report.old).refusal }
     ensures report { report.new ≡ (tell_room volume.now report.old).numbers }
 {

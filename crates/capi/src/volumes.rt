@@ -13,8 +13,7 @@ use store::Store;
 use volume::{heading, rows};
 
 // The length of a volume with these counts; 0 where Make refuses them.
-#[unsafe(no_mangle)]
-pub extern "C" fn pagestore_size(pages: u32, slots: u32, records: u32, notes: u32) -> u32
+pub fn pagestore_size(pages: u32, slots: u32, records: u32, notes: u32) -> u32
     ensures { result ≡ cond (valid_counts pages slots records notes) (length_for pages slots records notes) 0 }
 {
     if !heading::counts(pages, slots, records, notes) {
@@ -23,14 +22,7 @@ pub extern "C" fn pagestore_size(pages: u32, slots: u32, records: u32, notes: u3
     heading::size(pages, slots, records, notes) as u32
 }
 
-#[unsafe(no_mangle)]
-pub extern "C" fn pagestore_make(
-    volume: &mut [u8],
-    pages: u32,
-    slots: u32,
-    records: u32,
-    notes: u32,
-) -> u32
+pub fn pagestore_make(volume: &mut [u8], pages: u32, slots: u32, records: u32, notes: u32) -> u32
     ensures answer { result ≡ answer_number (make_of Second volume.old pages slots records notes).answer }
     ensures volume { volume.new
         ≡ (make_of Second volume.old pages slots records notes).volume }
@@ -38,8 +30,7 @@ pub extern "C" fn pagestore_make(
     report::number(Store::make(volume, pages, slots, records, notes))
 }
 
-#[unsafe(no_mangle)]
-pub extern "C" fn pagestore_make_first(
+pub fn pagestore_make_first(
     volume: &mut [u8],
     pages: u32,
     slots: u32,
@@ -63,8 +54,7 @@ fn clear(state: &mut [u32])
     }
 }
 
-#[unsafe(no_mangle)]
-pub extern "C" fn pagestore_restart(volume: &[u8], memory: &mut [u8], state: &mut [u32]) -> u32
+pub fn pagestore_restart(volume: &[u8], memory: &mut [u8], state: &mut [u32]) -> u32
     ensures { restarted result state.new memory.new
         ≡ restarted_of volume.now memory.old state.old }
 {

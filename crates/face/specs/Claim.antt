@@ -9,7 +9,7 @@ use Rattle.model.specs.State.{zero_state}
 use Rattle.model.specs.Outcome.{StoredItem, nothing, one_item, new_heading}
 use Rattle.model.specs.Calls.{Call, outcome_of}
 use Rattle.model.specs.Restart.{make_of, restart_of}
-use Rattle.model.specs.History.{off, on, Machine, Event, restart, perform, lent}
+use Rattle.model.specs.History.{off, on, Machine, Event, restart, perform, lent, step}
 use Rattle.model.specs.History.{payload_fits, is_start_carry, allowed}
 use Rattle.model.specs.Claim.{History, Legal, reached}
 use Rattle.reports.specs.Examine.{class_number, start_number}
@@ -87,7 +87,22 @@ pub record MakeIs (t : Heading) (found : List ℕ) (p b l n : ℕ) : Type 0 wher
 
 -- ---- the claim
 
-pub record CHistory : Type 0 where
+-- in the machine that any legal history leaves, each of the eleven calls, made on the state's numbers, is the history's
+-- next step: what is left for C is that machine
+pub record Leaves (f : Face) (w : Machine) : Type 0 where
+  pub next : State
+  pub volume : f.volume ≡ w.volume
+  pub power : on f.memory next ≡ w.power
+  pub state : f.state ≡ numbers_of next
+
+abbrev pub CHistory : Type 0
+CHistory =
+    (h : History) → Legal h → (m : List ℕ) (s : State) → (reached h).power ≡ on m s
+    → (c : Call) (report : List ℕ) → length report ≡ 5
+    → Leaves (face_of c (reached h).volume m (numbers_of s) report) (step (reached h) (perform c))
+
+-- and all that C gets of a history: a Make, every Restart, and each call with its answer and its report
+pub record HistoriesForC : Type 0 where
   pub make : (t : Heading) (found : List ℕ) (p b l n : ℕ) → answer_number (make_of t found p b l n).answer ≡ 0
       → MakeIs t found p b l n
   -- and every history begins so

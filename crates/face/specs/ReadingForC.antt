@@ -1,6 +1,8 @@
 -- The functions for C that read a volume and tell numbers: each is refused by its table and only so, and a refusal
 -- leaves the numbers that it was lent. States document 01, "Refusal by place": "Each is given under its condition and
--- only then." Those of the reports are in `ReadingClaim` (`reports`).
+-- only then." Those of the reports are in `ReadingClaim` (`reports`). The number of images that fail has no refusal: it
+-- is 0 of a volume that is not valid, or of another length than 360 numbers (`failing_count`, crate `convert`). A
+-- function that tells that number beside a refusal would have the table of `failing_face` (`Failing`).
 use Rattle.std.specs.Prelude.{ℕ, ◌≡◌, true, List, []}
 use Rattle.model.specs.Geometry.{Place}
 use Rattle.model.specs.State.{well_formed}

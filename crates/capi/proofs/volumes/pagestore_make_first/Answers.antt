@@ -1,0 +1,6 @@
+use mathlib.Core.Path.{ap, ◌∙◌}
+use Rattle.face.specs.Face.{answer_number}
+use Rattle.capi.proofs.volumes.pagestore_make_first.Goals as goal
+
+pub returns : goal.returns
+returns c = let e = c.make_first.ensures in record { answer = c.number.ensures ∙ ap answer_number e.answer; volume = e.volume }

@@ -1,0 +1,14 @@
+// The page store as a static library for C. Each exported function has the clauses of the function of its name in
+// `capi` and only calls it. `include/pagestore.h` declares them.
+#![tactic(auto)]
+
+mod advice;
+mod begin;
+mod calls;
+mod change;
+mod failing;
+mod mending;
+mod readers;
+mod slots;
+mod space;
+mod volumes;
