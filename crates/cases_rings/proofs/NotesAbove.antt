@@ -8,7 +8,7 @@ use Rattle.model.specs.Geometry.{record_at, note_at, empty_volume}
 use Rattle.model.specs.Item.{encode_change}
 use Rattle.model.specs.Outcome.{one_item}
 use Rattle.model.specs.Restart.{restart_of}
-use Rattle.model.specs.History.{Power, on}
+use Rattle.model.specs.History.{on}
 use Rattle.model.specs.declared.{geometry.Heading.TheVariants.Second, change.Change.TheVariants.Format}
 use Rattle.model.specs.declared.state.PendingNote.TheVariants.{Absent}
 use Rattle.cases.specs.Rows.{Row, row, Hold}

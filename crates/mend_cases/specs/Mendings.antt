@@ -1,19 +1,18 @@
 -- What mending says on small stores, and what a page shows after one failure and after two.
-use Rattle.std.specs.Prelude.{ℕ, List, [], ◌∷◌, ◌++◌, replicate}
-use Rattle.model.specs.Geometry.{page_at}
+use Rattle.std.specs.Prelude.{ℕ, List, [], ◌∷◌, ◌++◌}
 use Rattle.model.specs.AbstractLog.{torn}
-use Rattle.model.specs.History.{Machine, perform, crash_in, damage, run}
+use Rattle.model.specs.History.{Machine, perform, crash_in, run}
 use Rattle.model.specs.declared.answer.Class.TheVariants.{Behind, Failed}
 use Rattle.mend_policy.specs.Mend.{reaches_from, mend_of}
 use Rattle.cases.specs.Rows.{Row, row}
 use Rattle.cases.specs.Opened.{opened}
 use Rattle.cases.specs.Words.{refused, from_own, from_backup, at_lsn}
 use Rattle.cases.specs.Build.{inspected}
-use Rattle.cases.specs.Calls.{force, write, backup, release, note}
+use Rattle.cases.specs.Calls.{force, write}
 use Rattle.cases.specs.Rings.{reach_ring, put, turned}
-use Rattle.cases.specs.Prologues.{page_forced, page_written, page_backed_up}
+use Rattle.cases.specs.Prologues.{page_forced}
 use Rattle.cases.specs.Table.{as_lent}
-use Rattle.mend_cases.specs.Stores.{mended, says_whole, says_single, says_lost, says_full}
+use Rattle.mend_cases.specs.Stores.{mended, says_whole, says_single, says_lost}
 use Rattle.mend_cases.specs.Stores.{junk, spoil_backup, spoil_own, at_edge, one_more, two_more, mended_backup, cut_off}
 
 abbrev edge : Machine

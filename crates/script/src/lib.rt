@@ -2,6 +2,7 @@
 // holds the proved store against an independent implementation, so nothing is proved of it but that it is safe and
 // ends.
 #![tactic(auto)]
+
 pub mod cell;
 pub mod hash;
 mod numbers;

@@ -5,6 +5,7 @@ use codec::number::least;
 use model::answer::Answer;
 use print::{number, phrase, say};
 use state::next;
+use std::io;
 use store::{Returned, Store};
 
 #[derive(Clone, Copy)]
@@ -64,12 +65,12 @@ pub fn with_second(b: Session, n: usize) -> Session {
     }
 }
 
-pub fn skipped(session: Session) -> Turn {
-    say(b"SKIP\n");
-    Turn {
+pub fn skipped(rt: &impl Print, session: Session) -> io::Result<Turn> {
+    say(rt, b"SKIP\n")?;
+    Ok(Turn {
         skipped: true,
         session,
-    }
+    })
 }
 
 fn shown(session: Session) -> Turn {
@@ -80,40 +81,40 @@ fn shown(session: Session) -> Turn {
 }
 
 // Said of a cell: a word.
-pub fn word(b: Session, w: &[u8]) -> Turn {
-    say(w);
-    shown(b)
+pub fn word(rt: &impl Print, b: Session, w: &[u8]) -> io::Result<Turn> {
+    say(rt, w)?;
+    Ok(shown(b))
 }
 
 // A word and a number.
-pub fn counted(b: Session, w: &[u8], n: u32) -> Turn {
-    say(w);
-    number(n);
-    shown(b)
+pub fn counted(rt: &impl Print, b: Session, w: &[u8], n: u32) -> io::Result<Turn> {
+    say(rt, w)?;
+    number(rt, n)?;
+    Ok(shown(b))
 }
 
 // A word and two numbers.
-pub fn compared(b: Session, w: &[u8], n: u32, h: u32) -> Turn {
-    say(w);
-    number(n);
-    counted(b, b" ", h)
+pub fn compared(rt: &impl Print, b: Session, w: &[u8], n: u32, h: u32) -> io::Result<Turn> {
+    say(rt, w)?;
+    number(rt, n)?;
+    counted(rt, b, b" ", h)
 }
 
 // An answer.
-pub fn told(b: Session, a: Answer) -> Turn {
-    print::answer(a, b"NOTHING", b"OK");
-    shown(b)
+pub fn told(rt: &impl Print, b: Session, a: Answer) -> io::Result<Turn> {
+    print::answer(rt, a, b"NOTHING", b"OK")?;
+    Ok(shown(b))
 }
 
-pub fn done(b: Session) -> Turn {
-    word(b, b"OK")
+pub fn done(rt: &impl Print, b: Session) -> io::Result<Turn> {
+    word(rt, b, b"OK")
 }
 
 // The session after a call on the state.
-pub fn came(b: Session, o: Returned) -> Turn {
+pub fn came(rt: &impl Print, b: Session, o: Returned) -> io::Result<Turn> {
     let a = o.answer;
     let store = o.store;
-    told(with_store(b, store), a)
+    told(rt, with_store(b, store), a)
 }
 
 // The hash of a buffer's lent part.
@@ -123,14 +124,21 @@ fn part_hash(buffer: &[u8], size: usize) -> u32 {
 }
 
 // The rest of a cell's line, where it was not skipped: the hashes of volume, memory, lent buffer and state.
-pub fn report(skipped: bool, b: Session, volume: &[u8], memory: &[u8], lent: &[u8]) {
+pub fn report(
+    rt: &impl Print,
+    skipped: bool,
+    b: Session,
+    volume: &[u8],
+    memory: &[u8],
+    lent: &[u8],
+) -> io::Result<()> {
     if skipped {
-        return;
+        return Ok(());
     }
     let store = b.store;
     let s = store.state;
-    phrase(b" v=", part_hash(volume, b.volume), b" m=");
-    number(part_hash(memory, b.memory));
-    phrase(b" u=", part_hash(lent, b.lent), b" s=");
-    phrase(b"", hash::state(s), b"\n");
+    phrase(rt, b" v=", part_hash(volume, b.volume), b" m=")?;
+    number(rt, part_hash(memory, b.memory))?;
+    phrase(rt, b" u=", part_hash(lent, b.lent), b" s=")?;
+    phrase(rt, b"", hash::state(s), b"\n")
 }

@@ -3,18 +3,29 @@ use crate::session::{Session, Turn};
 use crate::{cell, numbers, session};
 use codec::number::least;
 use codec::{field, part};
+use std::io;
 use store::Store;
 
 // How much of each buffer is lent, at most all of it.
-fn sizes(b: Session, c: &[u8], volume: usize, memory: usize, lent: usize) -> Turn {
+fn sizes(
+    rt: &impl Print,
+    b: Session,
+    c: &[u8],
+    volume: usize,
+    memory: usize,
+    lent: usize,
+) -> io::Result<Turn> {
     let store = b.store;
-    session::done(Session {
-        store,
-        volume: least(cell::first(c) as usize, volume),
-        memory: least(cell::second(c) as usize, memory),
-        lent: least(cell::count(c, 0) as usize, lent),
-        second: b.second,
-    })
+    session::done(
+        rt,
+        Session {
+            store,
+            volume: least(cell::first(c) as usize, volume),
+            memory: least(cell::second(c) as usize, memory),
+            lent: least(cell::count(c, 0) as usize, lent),
+            second: b.second,
+        },
+    )
 }
 
 // Copies the first n bytes of a buffer to the front of another, as many as both have, and says how many.
@@ -27,15 +38,22 @@ fn carry(dst: &mut [u8], src: &[u8], n: usize) -> usize {
 
 // What the second buffer holds for the calls that read it: the volume's lent part, the lent buffer's, or so many of its
 // own bytes.
-fn take(b: Session, c: &[u8], volume: &[u8], lent: &[u8], second: &mut [u8]) -> Turn {
+fn take(
+    rt: &impl Print,
+    b: Session,
+    c: &[u8],
+    volume: &[u8],
+    lent: &[u8],
+    second: &mut [u8],
+) -> io::Result<Turn> {
     match cell::kind(c) {
-        0 => session::done(session::with_second(b, carry(second, volume, b.volume))),
-        1 => session::done(session::with_second(b, carry(second, lent, b.lent))),
+        0 => session::done(rt, session::with_second(b, carry(second, volume, b.volume))),
+        1 => session::done(rt, session::with_second(b, carry(second, lent, b.lent))),
         2 => {
             let n = least(cell::first(c) as usize, second.len());
-            session::done(session::with_second(b, n))
+            session::done(rt, session::with_second(b, n))
         }
-        _ => session::skipped(b),
+        _ => session::skipped(rt, b),
     }
 }
 
@@ -58,41 +76,41 @@ fn write(c: &[u8], buffer: &mut [u8]) {
 }
 
 // Sets a number of the state.
-fn set(b: Session, c: &[u8]) -> Turn {
+fn set(rt: &impl Print, b: Session, c: &[u8]) -> io::Result<Turn> {
     let store = b.store;
     let s = store.state;
     let at = cell::first(c);
     let x = cell::second(c);
     if !numbers::settable(s, at, x) {
-        return session::skipped(b);
+        return session::skipped(rt, b);
     }
     let state = numbers::set(s, at, x);
-    session::done(session::with_store(b, Store { state }))
+    session::done(rt, session::with_store(b, Store { state }))
 }
 
 // The store as at the start, and a memory of zeros.
-fn clear(b: Session, memory: &mut [u8]) -> Turn {
+fn clear(rt: &impl Print, b: Session, memory: &mut [u8]) -> io::Result<Turn> {
     part::fill(memory, 0);
-    session::done(session::with_store(b, session::empty()))
+    session::done(rt, session::with_store(b, session::empty()))
 }
 
 // Fills a whole buffer with a byte.
-fn fill(b: Session, c: &[u8], buffer: &mut [u8]) -> Turn {
+fn fill(rt: &impl Print, b: Session, c: &[u8], buffer: &mut [u8]) -> io::Result<Turn> {
     part::fill(buffer, cell::kind(c));
-    session::done(b)
+    session::done(rt, b)
 }
 
-fn poke(b: Session, c: &[u8], buffer: &mut [u8]) -> Turn {
+fn poke(rt: &impl Print, b: Session, c: &[u8], buffer: &mut [u8]) -> io::Result<Turn> {
     write(c, buffer);
-    session::done(b)
+    session::done(rt, b)
 }
 
 // Fills a buffer or writes to it.
-fn edit(b: Session, c: &[u8], buffer: &mut [u8]) -> Turn {
+fn edit(rt: &impl Print, b: Session, c: &[u8], buffer: &mut [u8]) -> io::Result<Turn> {
     if cell::op(c) == 16 {
-        fill(b, c, buffer)
+        fill(rt, b, c, buffer)
     } else {
-        poke(b, c, buffer)
+        poke(rt, b, c, buffer)
     }
 }
 
@@ -108,35 +126,37 @@ fn target(c: &[u8]) -> u32 {
 }
 
 fn edits(
+    rt: &impl Print,
     b: Session,
     c: &[u8],
     volume: &mut [u8],
     memory: &mut [u8],
     lent: &mut [u8],
     second: &mut [u8],
-) -> Turn {
+) -> io::Result<Turn> {
     match target(c) {
-        0 => edit(b, c, volume),
-        1 => edit(b, c, memory),
-        2 => edit(b, c, lent),
-        3 => edit(b, c, second),
-        _ => session::skipped(b),
+        0 => edit(rt, b, c, volume),
+        1 => edit(rt, b, c, memory),
+        2 => edit(rt, b, c, lent),
+        3 => edit(rt, b, c, second),
+        _ => session::skipped(rt, b),
     }
 }
 
 pub fn turn(
+    rt: &impl Print,
     b: Session,
     c: &[u8],
     volume: &mut [u8],
     memory: &mut [u8],
     lent: &mut [u8],
     second: &mut [u8],
-) -> Turn {
+) -> io::Result<Turn> {
     match cell::op(c) {
-        11 => sizes(b, c, volume.len(), memory.len(), lent.len()),
-        14 => set(b, c),
-        15 => clear(b, memory),
-        27 => take(b, c, volume, lent, second),
-        _ => edits(b, c, volume, memory, lent, second),
+        11 => sizes(rt, b, c, volume.len(), memory.len(), lent.len()),
+        14 => set(rt, b, c),
+        15 => clear(rt, b, memory),
+        27 => take(rt, b, c, volume, lent, second),
+        _ => edits(rt, b, c, volume, memory, lent, second),
     }
 }

@@ -4,6 +4,7 @@ use model::command::Command;
 use print::{number, say};
 use script::session::{Session, Turn};
 use script::{cell, session};
+use std::io;
 use upkeep_policy::upkeep::Upkeep;
 
 // A call as it is told: its number in a script, its page, and its frame or slot.
@@ -43,25 +44,31 @@ fn call(c: Command) -> Words {
 }
 
 // The call, and the first byte that a change puts, 0 for any other.
-fn advised(b: Session, c: Words, byte: u8) -> Turn {
-    say(b"ADVISE ");
-    number(c.number);
-    say(b" ");
-    number(c.page);
+fn advised(rt: &impl Print, b: Session, c: Words, byte: u8) -> io::Result<Turn> {
+    say(rt, b"ADVISE ")?;
+    number(rt, c.number)?;
+    say(rt, b" ")?;
+    number(rt, c.page)?;
     let x = if c.number == 5 { byte } else { 0 };
-    session::compared(b, b" ", c.other, x as u32)
+    session::compared(rt, b, b" ", c.other, x as u32)
 }
 
-pub fn turn(b: Session, c: &[u8], volume: &[u8], memory: &[u8]) -> Turn {
+pub fn turn(
+    rt: &impl Print,
+    b: Session,
+    c: &[u8],
+    volume: &[u8],
+    memory: &[u8],
+) -> io::Result<Turn> {
     let store = b.store;
     let s = store.state;
     let r = upkeep::advise(s, volume, memory, cell::place(c));
     let payload = r.payload;
     let said = r.upkeep;
     match said {
-        Upkeep::Refused(no) => session::told(b, Answer::Refused(no)),
-        Upkeep::Idle => session::word(b, b"IDLE"),
-        Upkeep::Stuck(page) => session::counted(b, b"STUCK ", page),
-        Upkeep::Make(command) => advised(b, call(command), payload[0]),
+        Upkeep::Refused(no) => session::told(rt, b, Answer::Refused(no)),
+        Upkeep::Idle => session::word(rt, b, b"IDLE"),
+        Upkeep::Stuck(page) => session::counted(rt, b, b"STUCK ", page),
+        Upkeep::Make(command) => advised(rt, b, call(command), payload[0]),
     }
 }

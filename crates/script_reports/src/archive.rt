@@ -4,19 +4,27 @@ use model::answer::Answer;
 use reports::reading::Size;
 use script::session::{Session, Turn};
 use script::{cell, session};
+use std::io;
 
-fn length(b: Session, volume: &[u8]) -> Turn {
+fn length(rt: &impl Print, b: Session, volume: &[u8]) -> io::Result<Turn> {
     match archive_write::length(volume) {
-        Size::Refused(n) => session::told(b, Answer::Refused(n)),
-        Size::Bytes(n) => session::counted(b, b"LENGTH ", n),
+        Size::Refused(n) => session::told(rt, b, Answer::Refused(n)),
+        Size::Bytes(n) => session::counted(rt, b, b"LENGTH ", n),
     }
 }
 
-pub fn turn(b: Session, c: &[u8], volume: &[u8], lent: &mut [u8], second: &[u8]) -> Turn {
+pub fn turn(
+    rt: &impl Print,
+    b: Session,
+    c: &[u8],
+    volume: &[u8],
+    lent: &mut [u8],
+    second: &[u8],
+) -> io::Result<Turn> {
     match cell::op(c) {
-        23 => length(b, volume),
-        24 => session::told(b, archive_write::write(volume, lent)),
-        25 => session::told(b, archive_read::read(second, lent)),
-        _ => session::counted(b, b"PAGES ", archive_read::pages(second)),
+        23 => length(rt, b, volume),
+        24 => session::told(rt, b, archive_write::write(volume, lent)),
+        25 => session::told(rt, b, archive_read::read(second, lent)),
+        _ => session::counted(rt, b, b"PAGES ", archive_read::pages(second)),
     }
 }

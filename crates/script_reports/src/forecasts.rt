@@ -3,6 +3,7 @@ use model::answer::Answer;
 use reports::reading::Figure;
 use script::session::{Session, Turn};
 use script::{hash, session};
+use std::io;
 
 fn figures(h: u32, b: Figure) -> u32 {
     hash::step(hash::step(h, b.refusal), b.count)
@@ -19,11 +20,11 @@ fn rows(pages: [Figure; 64]) -> u32 {
     h
 }
 
-pub fn turn(b: Session, volume: &[u8]) -> Turn {
+pub fn turn(rt: &impl Print, b: Session, volume: &[u8]) -> io::Result<Turn> {
     let f = forecast::forecast(volume);
     if f.refusal != 0 {
-        return session::told(b, Answer::Refused(f.refusal));
+        return session::told(rt, b, Answer::Refused(f.refusal));
     }
     let pages = f.pages;
-    session::counted(b, b"FORECAST ", rows(pages))
+    session::counted(rt, b, b"FORECAST ", rows(pages))
 }

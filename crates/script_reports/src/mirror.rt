@@ -3,6 +3,7 @@ use model::answer::Answer;
 use reports::reading::Comparison;
 use script::session::{Session, Turn};
 use script::{hash, session};
+use std::io;
 
 // The hash of 64 numbers, 1 for a page that is listed.
 fn listed(touched: [bool; 64]) -> u32 {
@@ -16,16 +17,16 @@ fn listed(touched: [bool; 64]) -> u32 {
     h
 }
 
-pub fn turn(b: Session, volume: &[u8], second: &[u8]) -> Turn {
+pub fn turn(rt: &impl Print, b: Session, volume: &[u8], second: &[u8]) -> io::Result<Turn> {
     let c = compare::compare(volume, second);
     let answer = c.answer;
     let touched = c.touched;
     let h = listed(touched);
     match answer {
-        Comparison::Refused(n) => session::told(b, Answer::Refused(n)),
-        Comparison::Agree => session::counted(b, b"AGREE ", h),
-        Comparison::FirstLacks(n) => session::compared(b, b"FIRST ", n, h),
-        Comparison::SecondLacks(n) => session::compared(b, b"SECOND ", n, h),
-        Comparison::Differs(n) => session::compared(b, b"DIFFERS ", n, h),
+        Comparison::Refused(n) => session::told(rt, b, Answer::Refused(n)),
+        Comparison::Agree => session::counted(rt, b, b"AGREE ", h),
+        Comparison::FirstLacks(n) => session::compared(rt, b, b"FIRST ", n, h),
+        Comparison::SecondLacks(n) => session::compared(rt, b, b"SECOND ", n, h),
+        Comparison::Differs(n) => session::compared(rt, b, b"DIFFERS ", n, h),
     }
 }

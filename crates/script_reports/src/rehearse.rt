@@ -3,6 +3,7 @@ use model::answer::Answer;
 use planning::rehearsal::{Figures, Victim};
 use script::session::{Session, Turn};
 use script::{cell, hash, session};
+use std::io;
 
 // Loads, then stores by sort, then log records replayed.
 fn figures(h: u32, b: Figures) -> u32 {
@@ -29,22 +30,22 @@ fn victim(kind: u8) -> Victim {
     Victim::Released
 }
 
-fn told(b: Session, a: Answer, h: u32) -> Turn {
+fn told(rt: &impl Print, b: Session, a: Answer, h: u32) -> io::Result<Turn> {
     match a {
-        Answer::Refused(n) => session::told(b, Answer::Refused(n)),
-        Answer::Nothing => session::counted(b, b"REHEARSED ", h),
-        Answer::Done => session::counted(b, b"REHEARSED ", h),
-        Answer::Repaired(_) => session::counted(b, b"REHEARSED ", h),
+        Answer::Refused(n) => session::told(rt, b, Answer::Refused(n)),
+        Answer::Nothing => session::counted(rt, b, b"REHEARSED ", h),
+        Answer::Done => session::counted(rt, b, b"REHEARSED ", h),
+        Answer::Repaired(_) => session::counted(rt, b, b"REHEARSED ", h),
     }
 }
 
-pub fn turn(b: Session, c: &[u8], second: &[u8]) -> Turn {
+pub fn turn(rt: &impl Print, b: Session, c: &[u8], second: &[u8]) -> io::Result<Turn> {
     let kind = cell::kind(c);
     if 1 < kind {
-        return session::skipped(b);
+        return session::skipped(rt, b);
     }
     let r = planning_model::rehearse(second, cell::page(c), cell::first(c), victim(kind));
     let pages = r.pages;
     let answer = r.answer;
-    told(b, answer, rows(pages))
+    told(rt, b, answer, rows(pages))
 }

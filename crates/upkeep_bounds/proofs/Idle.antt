@@ -1,6 +1,6 @@
 -- T1 at its bounds. Idle is safe: N 2, one number left of each kind. A slot is left: B is P + 1, and one is in use. Idle
 -- is free, and what is advised is done: the history of two pages before its last change, and after it.
-use Prim.Native.Nat.{ℕ, ◌+◌, ◌≤◌}
+use Prim.Native.Nat.{ℕ, ◌≤◌}
 use mathlib.Core.Path.{◌≡◌, refl}
 use mathlib.Core.Logic.{◌≢◌}
 use mathlib.Core.Bool.{true, false}
