@@ -1,10 +1,11 @@
 -- The rule of a change, kind by kind, as the code's cases meet it: each `&&` of the code is a branch and a join.
-use Prim.Native.Nat.{ℕ, ◌-◌}
+use Prim.Native.Nat.{ℕ, ◌-◌, ◌≤◌, ◌<◌}
 use mathlib.Core.Path.{◌≡◌, refl, sym, ap, ◌∙◌}
 use mathlib.Core.Logic.{◌⊎◌, inl, inr}
 use mathlib.Core.Bool.{Bool, true, false, ◌&&◌, and_assoc}
 use lib.Dec.{leb, eqb}
-use borrow.Author.Tests.{ne_eqb}
+use borrow.Author.Tests.{ne_eqb, lt-leb}
+use Rattle.laws.proofs.Tables.{and-fails}
 use Rattle.model.specs.Tables.{within}
 use Rattle.model.specs.Change.{change_fits}
 
@@ -14,6 +15,11 @@ taken_is a b r e h = rw e h
 
 pub left_is : (a b r : Bool) → a ≡ false → r ≡ a → r ≡ (a && b)
 left_is a b r e h = rw e (h ∙ e)
+
+-- a length that one of its two tests refuses
+pub outside : (n : ℕ) → (((1 ≤ n) × (44 < n)) ⊎ (n < 1)) → within 44 n ≡ false
+outside n (inl e) = and-fails (leb 1 n) (lt-leb n 44 e.1)
+outside n (inr e) = rw (lt-leb 1 n e) refl
 
 -- a format
 module _ (k n o f : ℕ) (one : k ≡ 1) where

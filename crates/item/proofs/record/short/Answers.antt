@@ -1,0 +1,30 @@
+-- `record::short` meets its contract. The loop keeps: the test of what is left is that of all from the place on.
+use mathlib.Core.Path.{sym, ◌∙◌}
+use Prim.Native.Nat.{◌-◌}
+use native.Mathlib.Omega.{arith}
+use borrow.Author.Rules.{rules}
+use Rattle.item.proofs.Tails.{left-part, byte-on, byte-not, none_left}
+use Rattle.item.proofs.record.short.Goals as goal
+
+pub returns-then-r-i-ne0 : goal.returns-then-r-i-ne0
+returns-then-r-i-ne0 c =
+    let s = c in
+    let l = c.loop-i in
+    let r = s.args.r.now in
+    let len = s.requires.0 in
+    sym (byte-not r len l.i c.loop-i-test.true c.if-r-i-ne0.true)
+    ∙ (l.invariant.1 ∙ left-part r len s.args.from (60 - s.args.from) (omega arith))
+
+pub loop-i-preserved : goal.loop-i-preserved
+loop-i-preserved c =
+    let s = c in
+    let l = c.loop-i in
+    (search rules, sym (byte-on s.args.r.now s.requires.0 l.i c.loop-i-test.true c.if-r-i-ne0.false) ∙ l.invariant.1)
+
+pub returns : goal.returns
+returns c =
+    let s = c in
+    let l = c.loop-i in
+    let r = s.args.r.now in
+    let len = s.requires.0 in
+    sym (none_left r len l.i c.loop-i-test.false) ∙ (l.invariant.1 ∙ left-part r len s.args.from (60 - s.args.from) (omega arith))

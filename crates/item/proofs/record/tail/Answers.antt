@@ -1,0 +1,40 @@
+-- `record::tail` meets its contract. The loop keeps: the test of what is left is that of the payload past n bytes.
+use mathlib.Core.Path.{◌≡◌, sym, ap, ◌∙◌}
+use Prim.Native.Nat.{ℕ, ◌+◌, ◌-◌}
+use native.Mathlib.Omega.{arith}
+use lib.Dec.{eqb}
+use Rattle.model.specs.Bytes.{part, all_zero}
+use Rattle.item.proofs.Tails.{left-part, eight-on, eight-not, eight-last}
+use Rattle.item.proofs.record.tail.Goals as goal
+
+pub returns-then-i-gt52 : goal.returns-then-i-gt52
+returns-then-i-gt52 c =
+    let a = c.args in
+    let k : 60 - (16 + a.n) ≡ 44 - a.n = omega arith in
+    c.short.ensures ∙ ap (λ (m : ℕ). all_zero (part a.r.now (16 + a.n) m)) k
+
+pub returns-then-eight-ne0 : goal.returns-then-eight-ne0
+returns-then-eight-ne0 c =
+    let s = c in
+    let l = c.loop-i in
+    let r = s.args.r.now in
+    let from = 16 + s.args.n in
+    sym (eight-not r s.requires.0 from l.i l.invariant.0 (omega arith) (λ z. c.if-eight-ne0.true (c.eight.ensures ∙ z)))
+    ∙ left-part r s.requires.0 from (44 - s.args.n) (omega arith)
+
+pub loop-i-preserved : goal.loop-i-preserved
+loop-i-preserved c =
+    let s = c in
+    let l = c.loop-i in
+    let on = eight-on s.args.r.now s.requires.0 l.i (omega arith) (sym c.eight.ensures ∙ c.if-eight-ne0.false) in
+    (omega arith, l.invariant.1, omega arith, sym on ∙ l.invariant.3)
+
+pub returns : goal.returns
+returns c =
+    let s = c in
+    let l = c.loop-i in
+    let r = s.args.r.now in
+    let from = 16 + s.args.n in
+    ap (λ (x : ℕ). eqb x 0) c.eight-2.ensures
+    ∙ (eight-last r s.requires.0 from l.i l.invariant.1 c.loop-i-test.false l.invariant.3
+    ∙ left-part r s.requires.0 from (44 - s.args.n) (omega arith))
