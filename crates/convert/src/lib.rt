@@ -1,5 +1,6 @@
 // Start, Restamp and Finish: the calls that carry a volume over from the first heading to the second.
 #![tactic(auto)]
+
 pub mod failing;
 pub mod finish;
 mod heading;
