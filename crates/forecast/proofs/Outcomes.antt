@@ -1,6 +1,6 @@
 -- What the definition of the forecast says in each of its cases.
 use mathlib.Core.Path.{◌≡◌, refl, sym, ap, ◌∙◌, subst}
-use mathlib.Core.Bool.{Bool, true, cond, not}
+use mathlib.Core.Bool.{Bool, false, cond, not}
 use mathlib.Core.List.{List}
 use Prim.Native.Nat.{ℕ, suc, ◌+◌, ◌-◌, ◌≤◌, ◌<◌}
 use native.Mathlib.Omega.{arith}
@@ -8,7 +8,7 @@ use lib.Dec.{eqb}
 use lib.ListN.{length, replicate}
 use borrow.Author.Tests.{eq-eqb, ne_eqb, eqb-true}
 use Rattle.laws.proofs.Places.{valid-facts}
-use Rattle.laws.proofs.Tables.{by_cases, not-true}
+use Rattle.laws.proofs.Tables.{by_cases}
 use Rattle.volume.proofs.Readings.{unknown-read}
 use Rattle.reports_laws.proofs.Forecast.{scanned}
 use Rattle.repair.proofs.Scanned.{scanned-ready}
@@ -99,10 +99,10 @@ module _ (v : List ℕ) where
   -- ---- for C
 
   -- a heading that is not known: row 1, whatever follows it
-  pub unknown : (xs : List ℕ) (b : Bool) → b ≡ known_magic v → not b ≡ true
+  pub unknown : (xs : List ℕ) (b : Bool) → b ≡ known_magic v → b ≡ false
       → (1 ≡ (tell_forecast v xs).refusal) × (xs ≡ (tell_forecast v xs).figures)
   unfolding tell_forecast
-  unknown xs b eb t = rw (unknown-read v (sym eb ∙ not-true b t)) (refl, refl)
+  unknown xs b eb t = rw (unknown-read v (sym eb ∙ t)) (refl, refl)
 
   -- an array of another length
   pub unlike : (xs : List ℕ) → (length xs ≡ 128 → ⊥) → (n : ℕ) → n ≡ cond (not (valid_volume v)) 1 2

@@ -1,5 +1,6 @@
 // The repair forecast of a volume: what Inspect would count for each page, without building a page.
 #![tactic(auto)]
+
 ghost use Rattle.std.specs.Prelude.{◌≡◌};
 ghost use Rattle.model.specs.Tables.{tabulate};
 ghost use Rattle.reports.specs.Forecast as forecasts;
