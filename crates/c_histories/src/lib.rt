@@ -1,6 +1,8 @@
-// C's functions in a history. Each function here only calls the exported one, and its contract speaks of a legal
-// history: so what is proved of it holds of the exported function, by that function's own contract.
+// C's functions in a history. Each function here only calls the one of `capi` whose clauses the exported one has
+// (`capi_c`), and its contract speaks of a legal history: so what is proved of it holds of the exported function, by that
+// function's own contract.
 #![tactic(auto)]
+
 ghost use Rattle.model.specs.Calls.{no_payload};
 ghost use Rattle.model.specs.declared.command.Command.TheVariants.{Force};
 ghost use Rattle.model.specs.declared.geometry.Heading.TheVariants.{Second};
