@@ -6,7 +6,7 @@ use mathlib.Core.Bool.{true, false}
 use mathlib.Core.List.{List, ◌∷◌}
 use native.Mathlib.Omega.{arith}
 use lib.Dec.{eqb→eq}
-use lib.ListN.{length, get_or, replicate, length-replicate}
+use lib.ListN.{get_or, replicate, length-replicate}
 use Rattle.model.specs.Tables.{first_of}
 use Rattle.model.specs.Change.{fits}
 use Rattle.model.specs.Outcome.{refusal_of}

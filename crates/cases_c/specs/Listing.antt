@@ -1,6 +1,6 @@
 -- Rows on the functions for C that tell numbers: the counts, a slot of the log, of the notes and of the backups, the
 -- room, and upkeep's advice.
-use Rattle.std.specs.Prelude.{ℕ, List, [], ◌∷◌, ◌++◌, length, replicate, set, take}
+use Rattle.std.specs.Prelude.{ℕ, List, [], ◌∷◌, ◌++◌, replicate, set, take}
 use Rattle.model.specs.Geometry.{slot_at, record_at, note_at, empty_volume}
 use Rattle.model.specs.Outcome.{one_item}
 use Rattle.model.specs.History.{Machine, restart, crash, run}

@@ -1,7 +1,7 @@
 -- ME1's call, ME3 and ME6 applied to the same user: the call is done, the page reads as before, frame 1 keeps its page and
 -- body, and the proviso holds.
 use Prim.Native.Nat.{ℕ, ◌≤◌}
-use mathlib.Core.Path.{◌≡◌, refl}
+use mathlib.Core.Path.{◌≡◌}
 use mathlib.Core.Logic.{◌≢◌}
 use mathlib.Core.Bool.{true}
 use mathlib.Core.List.{[], ◌∷◌}
