@@ -6,6 +6,7 @@
 // for each slice that it may write, by the outcome that `model::specs::Calls` defines. So each rules out a refusal out
 // of the table's order, and a refused call that changes a byte or the state. What else it rules out stands beside it.
 #![tactic(auto)]
+
 ghost use Rattle.std.specs.Prelude.{◌≡◌};
 ghost use Rattle.store.specs.Store.{wrapped, performed};
 ghost use Rattle.model.specs.declared.geometry.Heading.TheVariants.{First, Second};
