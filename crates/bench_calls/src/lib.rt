@@ -1,5 +1,6 @@
 // Functions for the benchmark, called from outside: the two sums of a part, and cycles of calls on a made volume.
 #![tactic(auto)]
+
 ghost use Rattle.std.specs.Prelude.{◌≡◌, cond, ◌≤◌, leb};
 ghost use Rattle.model.specs.Checksum.{checksum, byte_sum};
 ghost use Rattle.bench_calls.specs.Cycles.{is_refused, restart_run, command_at, cycled};
