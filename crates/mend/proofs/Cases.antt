@@ -2,7 +2,7 @@
 use mathlib.Core.Path.{◌≡◌, refl, sym, ap, ◌∙◌}
 use mathlib.Core.Bool.{Bool, true, false, cond, ◌&&◌, ◌||◌, not}
 use mathlib.Core.List.{List, [], ◌∷◌}
-use Prim.Native.Nat.{ℕ, suc, ◌+◌, ◌-◌, ◌≤◌}
+use Prim.Native.Nat.{ℕ}
 use lib.Dec.{eqb}
 use lib.ListN.{length, get_or}
 use borrow.Author.Tests.{eqb-false, eq-eqb, ne_eqb, not-false}
@@ -14,7 +14,6 @@ use Rattle.state.proofs.Fits.{refusal-first, refusal-last}
 use Rattle.model.specs.Tables.{Row, first_of, within}
 use Rattle.model.specs.Geometry.{ring, geometry_of}
 use Rattle.model.specs.Index.{entry_of}
-use Rattle.model.specs.Scan.{first_held}
 use Rattle.model.specs.State.{frame_count, held}
 use Rattle.model.specs.Repair.{view_of, state_view, own_start, class_in, walk_from, is_below}
 use Rattle.model.specs.Refusals.{state_rows}
@@ -27,7 +26,7 @@ use Rattle.mend_policy.specs.Mend.{stands, reaches_from, reaches, margin, may_wr
 use Rattle.mend_policy.specs.Mend.{Mending, whole, single, ahead, mending, mend_of, mended_by, mend_rows, mended_of}
 use Rattle.mend_policy.specs.declared.mending.Mended.{Mended}
 use Rattle.mend_policy.specs.declared.mending.Mend.{Mend}
-use Rattle.mend_policy.specs.declared.mending.Mend.TheVariants.{Refused, Whole, Single, Ahead, Full, Lost}
+use Rattle.mend_policy.specs.declared.mending.Mend.TheVariants.{Refused, Whole, Single, Ahead}
 use Rattle.mend.specs.Parts.{Fits, start_at, standing_part, second_part, mended_from}
 
 -- an answer without payload
@@ -114,13 +113,13 @@ module _ (v m : List ℕ) (s : State) (r p : ℕ) (x : Mended) (g : Geometry) (e
     backed : t ≡ stands (geometry_of v) v (entry_of s.index p) p
     backed = et ∙ rw (f.entry, f.geometry)
 
-    pub second-copies : not t ≡ true → x ≡ mended_by (mending (held s p) (renew v m s r p false)) → x ≡ mended_by (second_part v m s r p)
+    pub second-copies : t ≡ false → x ≡ mended_by (mending (held s p) (renew v m s r p false)) → x ≡ mended_by (second_part v m s r p)
     unfolding second_part
-    second-copies y ex = other _ ahead _ x (sym above ∙ h) (chosen _ _ _ x (sym (ap not backed) ∙ y) ex)
+    second-copies y ex = other _ ahead _ x (sym above ∙ h) (chosen _ _ _ x (sym (ap not backed) ∙ ap not y) ex)
 
-    pub second-standing : not t ≡ false → x ≡ mended_by (standing_part v m s r p) → x ≡ mended_by (second_part v m s r p)
+    pub second-standing : t ≡ true → x ≡ mended_by (standing_part v m s r p) → x ≡ mended_by (second_part v m s r p)
     unfolding second_part
-    second-standing y ex = other _ ahead _ x (sym above ∙ h) (other _ _ _ x (sym (ap not backed) ∙ y) ex)
+    second-standing y ex = other _ ahead _ x (sym above ∙ h) (other _ _ _ x (sym (ap not backed) ∙ ap not y) ex)
 
 -- ---- A1
 

@@ -1,19 +1,19 @@
 -- The two starts of a page, as the code reads them.
-use mathlib.Core.Path.{◌≡◌, refl, sym, ◌∙◌, subst}
-use mathlib.Core.Bool.{Bool, true, false, cond, ◌&&◌, ◌||◌, not}
+use mathlib.Core.Path.{◌≡◌, ◌∙◌}
+use mathlib.Core.Bool.{Bool, true, cond, ◌&&◌, not}
 use mathlib.Core.List.{List}
 use Prim.Native.Nat.{ℕ, suc, ◌+◌, ◌-◌, ◌/◌, ◌≤◌, ◌<◌}
 use native.Mathlib.Omega.{arith}
-use lib.Dec.{eqb, leb}
+use lib.Dec.{eqb}
 use lib.ListN.{length}
 use borrow.Author.Tests.{eq-eqb, ne_eqb, le-leb, lt-leb}
-use Rattle.laws.proofs.Places.{valid-facts, place-fits}
+use Rattle.laws.proofs.Places.{place-fits}
 use Rattle.repair.proofs.Starts.{positive, sized}
 use Rattle.model.specs.Geometry.{geometry_of, valid_volume, page_at, slot_at, start, item}
 use Rattle.model.specs.Item.{image_lsn, valid_image}
 use Rattle.model.specs.Scan.{first_held}
 use Rattle.model.specs.Repair.{view_of, own_start, class_in, class_of, walk_from, is_below}
-use Rattle.model.specs.declared.{geometry.Geometry.Geometry, state.Entry.Entry, answer.Class.Class, answer.Stop.Stop}
+use Rattle.model.specs.declared.{geometry.Geometry.Geometry, state.Entry.Entry, answer.Class.Class}
 use Rattle.repair.specs.Walked.{log_of, counted}
 use Rattle.repair.specs.declared.walk.Traced.{Traced}
 use Rattle.mend_policy.specs.Mend.{stands}

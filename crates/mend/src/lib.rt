@@ -1,6 +1,7 @@
 // Mending: which call to make next, where upkeep has nothing to do, so that a page has both of its starts again. It
 // reads, and stores nothing.
 #![tactic(auto)]
+
 mod answer;
 mod starts;
 
