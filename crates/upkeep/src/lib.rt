@@ -1,6 +1,7 @@
 // Upkeep: which call to make next so that a ring store keeps room. It reads, and stores nothing: the notes in one
 // pass (`notes::pass`), half the log in one (`log::first`).
 #![tactic(auto)]
+
 mod answer;
 mod log;
 mod notes;
