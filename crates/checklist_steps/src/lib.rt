@@ -4,7 +4,9 @@
 // No verdict rests on the public functions without a contract, nor on `text::lines`: `steps::answer`, `text::line`,
 // `show` and `held` only print, and what `text::newest` and `lines` give is only printed.
 #![tactic(auto)]
+
 pub mod disk;
+pub mod printed;
 pub mod steps;
 pub mod text;
 pub mod verdict;

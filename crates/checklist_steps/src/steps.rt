@@ -9,171 +9,220 @@ ghost use Rattle.checklist_steps.specs.Steps.{live, made, restarted, begun, chan
 ghost use Rattle.checklist_steps.specs.Steps.{noted, written, backed_up, loaded, opening};
 
 use crate::disk::{Memory, Volume};
+use crate::printed::Printed;
 use crate::text;
 use model::answer::Answer;
 use model::change::Change;
 use model::command::Command;
 use print::{number, phrase, say};
+use std::io;
 use store::{Returned, Store};
 
-pub fn answer(a: Answer) {
-    print::answer(a, b"nothing to store", b"done");
+pub fn answer(rt: &impl Print, a: Answer) -> io::Result<()> {
+    print::answer(rt, a, b"nothing to store", b"done")
+}
+
+// An answer, and the end of what is printed of its call.
+fn ended(rt: &impl Print, a: Answer, end: &[u8]) -> io::Result<()> {
+    answer(rt, a)?;
+    say(rt, end)
 }
 
 // Prints a call's answer and hands on the store.
-fn told(o: Returned, end: &[u8]) -> Store
-    ensures { result ≡ o.store }
+fn told(rt: &impl Print, o: Returned, end: &[u8]) -> Printed<Store>
+    ensures { result.value ≡ o.store }
 {
     let a = o.answer;
     let s = o.store;
-    answer(a);
-    say(end);
-    s
+    Printed {
+        value: s,
+        said: ended(rt, a, end),
+    }
 }
 
 // A call with no bytes beside it.
-fn call(s: Store, v: &mut Volume, m: &mut Memory, c: Command, end: &[u8]) -> Store
-    ensures { live v.new m.new result
+fn call(
+    rt: &impl Print,
+    s: Store,
+    v: &mut Volume,
+    m: &mut Memory,
+    c: Command,
+    end: &[u8],
+) -> Printed<Store>
+    ensures { live v.new m.new result.value
         ≡ made (live v.old m.old s) c no_payload }
 {
-    told(s.perform(v, m, c, [0; 44]), end)
+    told(rt, s.perform(v, m, c, [0; 44]), end)
 }
 
-fn make(v: &mut Volume)
+fn make(rt: &impl Print, v: &mut Volume) -> io::Result<()>
     ensures { v.new ≡ (make_of Second v.old 2 1 16 8).volume }
 {
-    say(b"  What is done:\n    Make: ");
     let a = Store::make(v, 2, 1, 16, 8);
-    answer(a);
-    say(b".");
+    say(rt, b"  What is done:\n    Make: ")?;
+    ended(rt, a, b".")
 }
 
 // Ruled out: a memory left as it was; a store that is not the volume's.
-pub fn restart(v: &Volume, m: &mut Memory) -> Store
-    ensures { live v.now m.new result ≡ restarted v.now m.old }
+pub fn restart(rt: &impl Print, v: &Volume, m: &mut Memory) -> Printed<Store>
+    ensures { live v.now m.new result.value ≡ restarted v.now m.old }
 {
-    say(b" Restart: ");
-    told(Store::restart(v, m), b".\n")
+    let said = say(rt, b" Restart: ");
+    told(rt, Store::restart(v, m), b".\n").after(said)
 }
 
-fn force(s: Store, v: &mut Volume, m: &mut Memory) -> Store
-    ensures { live v.new m.new result ≡ forced (live v.old m.old s) }
+fn force(rt: &impl Print, s: Store, v: &mut Volume, m: &mut Memory) -> Printed<Store>
+    ensures { live v.new m.new result.value ≡ forced (live v.old m.old s) }
 {
-    say(b" Force: ");
-    call(s, v, m, Command::Force, b".\n")
+    let said = say(rt, b" Force: ");
+    call(rt, s, v, m, Command::Force, b".\n").after(said)
 }
 
-fn note(s: Store, v: &mut Volume, m: &mut Memory) -> Store
-    ensures { live v.new m.new result ≡ noted (live v.old m.old s) }
+fn note(rt: &impl Print, s: Store, v: &mut Volume, m: &mut Memory) -> Printed<Store>
+    ensures { live v.new m.new result.value ≡ noted (live v.old m.old s) }
 {
-    say(b" Note: ");
-    call(s, v, m, Command::Note, b".\n")
+    let said = say(rt, b" Note: ");
+    call(rt, s, v, m, Command::Note, b".\n").after(said)
 }
 
 // Write and Note: the page's image on disk, and the index told of it. Ruled out: another page's image; a note that is
 // left to be stored (tried).
-pub fn write(s: Store, v: &mut Volume, m: &mut Memory, page: u32) -> Store
-    ensures { live v.new m.new result
+pub fn write(rt: &impl Print, s: Store, v: &mut Volume, m: &mut Memory, page: u32) -> Printed<Store>
+    ensures { live v.new m.new result.value
         ≡ written (live v.old m.old s) page }
 {
-    phrase(b"    Write page ", page, b": ");
-    let t = call(s, v, m, Command::Write { page }, b".");
-    note(t, v, m)
+    let said = phrase(rt, b"    Write page ", page, b": ");
+    let t = call(rt, s, v, m, Command::Write { page }, b".").after(said);
+    note(rt, t.value, v, m).after(t.said)
 }
 
 // Backup in slot 1, and Note.
-pub fn backup(s: Store, v: &mut Volume, m: &mut Memory, page: u32) -> Store
-    ensures { live v.new m.new result
+pub fn backup(
+    rt: &impl Print,
+    s: Store,
+    v: &mut Volume,
+    m: &mut Memory,
+    page: u32,
+) -> Printed<Store>
+    ensures { live v.new m.new result.value
         ≡ backed_up (live v.old m.old s) page }
 {
-    phrase(b"    Backup page ", page, b" in slot 1: ");
-    let t = call(s, v, m, Command::Backup { page, slot: 1 }, b".");
-    note(t, v, m)
+    let said = phrase(rt, b"    Backup page ", page, b" in slot 1: ");
+    let t = call(rt, s, v, m, Command::Backup { page, slot: 1 }, b".").after(said);
+    note(rt, t.value, v, m).after(t.said)
 }
 
 // Begin and Force, in the frame of the page's number.
-pub fn begin(s: Store, v: &mut Volume, m: &mut Memory, page: u32) -> Store
-    ensures { live v.new m.new result
+pub fn begin(rt: &impl Print, s: Store, v: &mut Volume, m: &mut Memory, page: u32) -> Printed<Store>
+    ensures { live v.new m.new result.value
         ≡ begun (live v.old m.old s) page }
 {
-    phrase(b"    Begin page ", page, b": ");
+    let said = phrase(rt, b"    Begin page ", page, b": ");
     let c = Command::Begin {
         page,
         frame: page,
         fill: 0,
     };
-    let t = call(s, v, m, c, b".");
-    force(t, v, m)
+    let t = call(rt, s, v, m, c, b".").after(said);
+    force(rt, t.value, v, m).after(t.said)
 }
 
 // Names a line of a page by its offset.
-fn line(verb: &[u8], page: u32, offset: u16) {
-    phrase(verb, page, b" line ");
-    number(offset as u32 / 44 + 1);
+fn line(rt: &impl Print, verb: &[u8], page: u32, offset: u16) -> io::Result<()> {
+    phrase(rt, verb, page, b" line ")?;
+    number(rt, offset as u32 / 44 + 1)
+}
+
+// A line's words.
+fn quoted(rt: &impl Print, words: &[u8]) -> io::Result<()> {
+    say(rt, b" \"")?;
+    say(rt, words)?;
+    say(rt, b"\": ")
 }
 
 // Change and Force: a put or a slide of a whole line. Ruled out: other bytes than the words; a change that is not
 // durable.
-fn change(s: Store, v: &mut Volume, m: &mut Memory, page: u32, c: Change, words: &[u8]) -> Store
-    ensures { live v.new m.new result
+fn change(
+    rt: &impl Print,
+    s: Store,
+    v: &mut Volume,
+    m: &mut Memory,
+    page: u32,
+    c: Change,
+    words: &[u8],
+) -> Printed<Store>
+    ensures { live v.new m.new result.value
         ≡ changed (live v.old m.old s) page c words.now }
 {
-    say(b" \"");
-    say(words);
-    say(b"\": ");
+    let said = quoted(rt, words);
     let o = s.perform(v, m, Command::Change { page, change: c }, text::row(words));
-    force(told(o, b"."), v, m)
+    let t = told(rt, o, b".").after(said);
+    force(rt, t.value, v, m).after(t.said)
 }
 
 // A line put at a place of the page.
-pub fn put(s: Store, v: &mut Volume, m: &mut Memory, page: u32, offset: u16, words: &[u8]) -> Store
-    ensures { live v.new m.new result
-        ≡ put_in (live v.old m.old s) page offset words.now }
-{
-    line(b"    Put page ", page, offset);
-    change(s, v, m, page, Change::Put { offset, length: 44 }, words)
-}
-
-// A line slid in at a place of the page.
-pub fn slide(
+pub fn put(
+    rt: &impl Print,
     s: Store,
     v: &mut Volume,
     m: &mut Memory,
     page: u32,
     offset: u16,
     words: &[u8],
-) -> Store
-    ensures { live v.new m.new result
+) -> Printed<Store>
+    ensures { live v.new m.new result.value
+        ≡ put_in (live v.old m.old s) page offset words.now }
+{
+    let said = line(rt, b"    Put page ", page, offset);
+    let c = Change::Put { offset, length: 44 };
+    change(rt, s, v, m, page, c, words).after(said)
+}
+
+// A line slid in at a place of the page.
+pub fn slide(
+    rt: &impl Print,
+    s: Store,
+    v: &mut Volume,
+    m: &mut Memory,
+    page: u32,
+    offset: u16,
+    words: &[u8],
+) -> Printed<Store>
+    ensures { live v.new m.new result.value
         ≡ slid_in (live v.old m.old s) page offset words.now }
 {
-    line(b"    Slide into page ", page, offset);
-    change(s, v, m, page, Change::Slide { offset, length: 44 }, words)
+    let said = line(rt, b"    Slide into page ", page, offset);
+    let c = Change::Slide { offset, length: 44 };
+    change(rt, s, v, m, page, c, words).after(said)
 }
 
 // Shows the text in frame 1.
-fn show_frame(memory: &[u8]) {
+fn show_frame(rt: &impl Print, memory: &[u8]) -> io::Result<()> {
     if 1280 <= memory.len() {
-        text::show(&memory[1024..1280]);
+        text::show(rt, &memory[1024..1280])?;
     }
+    Ok(())
 }
 
 // Load into the frame of the page's number, and the text that it left in frame 1.
-pub fn load(s: Store, v: &mut Volume, m: &mut Memory, page: u32) -> Store
-    ensures { live v.new m.new result
+pub fn load(rt: &impl Print, s: Store, v: &mut Volume, m: &mut Memory, page: u32) -> Printed<Store>
+    ensures { live v.new m.new result.value
         ≡ loaded (live v.old m.old s) page }
 {
-    phrase(b"    Load page ", page, b": ");
-    let t = call(s, v, m, Command::Load { page, frame: page }, b".\n");
-    show_frame(m);
-    t
+    let said = phrase(rt, b"    Load page ", page, b": ");
+    let t = call(rt, s, v, m, Command::Load { page, frame: page }, b".\n").after(said);
+    Printed {
+        value: t.value,
+        said: t.said.and(show_frame(rt, m)),
+    }
 }
 
 // The start of every check: a volume made, page 1 begun, and its first line. Ruled out: a volume that is not made anew.
-pub fn opened(v: &mut Volume, m: &mut Memory) -> Store
-    ensures { live v.new m.new result ≡ opening v.old m.old }
+pub fn opened(rt: &impl Print, v: &mut Volume, m: &mut Memory) -> Printed<Store>
+    ensures { live v.new m.new result.value ≡ opening v.old m.old }
 {
-    make(v);
-    let a = restart(v, m);
-    let b = begin(a, v, m, 1);
-    put(b, v, m, 1, 0, b"06:10 bed 4 moved to 7")
+    let said = make(rt, v);
+    let a = restart(rt, v, m).after(said);
+    let b = begin(rt, a.value, v, m, 1).after(a.said);
+    put(rt, b.value, v, m, 1, 0, b"06:10 bed 4 moved to 7").after(b.said)
 }

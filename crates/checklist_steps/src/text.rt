@@ -3,9 +3,11 @@ ghost use Rattle.std.specs.Prelude.{◌≡◌, ◌≤◌, length};
 ghost use Rattle.checklist_steps.specs.Steps.{row_of};
 ghost use Rattle.checklist_steps.specs.Text.{same_between};
 
+use crate::printed::Printed;
 use codec::number::{least, one32};
 use codec::{field, part};
 use print::{number, say};
+use std::io;
 use sums::byte_sum;
 
 // The first 44 bytes, zeros where there are fewer.
@@ -39,44 +41,45 @@ fn filled(s: &[u8]) -> usize
 }
 
 // A line, without the zeros at its end.
-fn words(s: &[u8]) {
+fn words(rt: &impl Print, s: &[u8]) -> io::Result<()> {
     let n = filled(s);
-    say(&s[0..n]);
+    say(rt, &s[0..n])
 }
 
 // A line of its own, where it is not blank.
-pub fn line(s: &[u8]) {
+pub fn line(rt: &impl Print, s: &[u8]) -> io::Result<()> {
     if 0 < filled(s) {
-        say(b"      | ");
-        words(s);
-        say(b"\n");
+        say(rt, b"      | ")?;
+        words(rt, s)?;
+        say(rt, b"\n")?;
     }
+    Ok(())
 }
 
-fn line_at(s: &[u8], at: usize) {
+fn line_at(rt: &impl Print, s: &[u8], at: usize) -> io::Result<()> {
     let r = row_at(s, at);
-    line(&r);
+    line(rt, &r)
 }
 
 // Shows the text of an image.
-pub fn show(image: &[u8]) {
-    line_at(image, 8);
-    line_at(image, 52);
-    line_at(image, 96);
-    line_at(image, 140);
-    line_at(image, 184);
+pub fn show(rt: &impl Print, image: &[u8]) -> io::Result<()> {
+    line_at(rt, image, 8)?;
+    line_at(rt, image, 52)?;
+    line_at(rt, image, 96)?;
+    line_at(rt, image, 140)?;
+    line_at(rt, image, 184)
 }
 
 // Shows an image as the disk holds it, unrepaired: its text, and the two things that the store tests.
-pub fn held(image: &[u8]) {
-    show(image);
+pub fn held(rt: &impl Print, image: &[u8]) -> io::Result<()> {
+    show(rt, image)?;
     if byte_sum::holds(image, 252) {
-        say(b"      (checksum right, number ");
+        say(rt, b"      (checksum right, number ")?;
     } else {
-        say(b"      (checksum wrong, number ");
+        say(rt, b"      (checksum wrong, number ")?;
     }
-    number(field::u32_at(image, 4));
-    say(b")\n");
+    number(rt, field::u32_at(image, 4))?;
+    say(rt, b")\n")
 }
 
 // The line at a place is not blank.
@@ -127,14 +130,14 @@ pub fn same(a: &[u8], b: &[u8], from: usize, to: usize) -> bool
 }
 
 // Says whether the page is as it was before the damage: its number and its body.
-pub fn whole(before: &[u8], after: &[u8]) -> bool
-    ensures { result ≡ same_between before.now after.now 4 252 }
+pub fn whole(rt: &impl Print, before: &[u8], after: &[u8]) -> Printed<bool>
+    ensures { result.value ≡ same_between before.now after.now 4 252 }
 {
     let same = same(before, after, 4, 252);
-    if same {
-        say(b"  The text is whole: the same as before the damage.\n");
+    let said = if same {
+        say(rt, b"  The text is whole: the same as before the damage.\n")
     } else {
-        say(b"  THE TEXT IS NOT THE SAME AS BEFORE THE DAMAGE.\n");
-    }
-    same
+        say(rt, b"  THE TEXT IS NOT THE SAME AS BEFORE THE DAMAGE.\n")
+    };
+    Printed { value: same, said }
 }

@@ -1,0 +1,6 @@
+-- `checklist_steps::text::row` meets its contract.
+use Rattle.checklist_steps.proofs.Outcomes.{row_is}
+use Rattle.checklist_steps.proofs.text.row.Goals as goal
+
+pub returns : goal.returns
+returns c = row_is _ _ _ c.least-n.ensures.0 c.put.ensures
