@@ -3,9 +3,10 @@
 // longer input, is the only line: all pages are judged before one is printed. All that matters is in `inspect`, which
 // is proved; this file only prints.
 #![tactic(auto)]
-use libc::STDIN_FILENO;
+
 use model::answer::Answer;
-use print::{number, say};
+use print::{input, number, say};
+use std::io;
 
 // How Inspect finds a page.
 fn found(volume: &[u8], page: u32) -> Answer {
@@ -37,45 +38,44 @@ fn refusal(volume: &[u8], pages: u32) -> u32 {
 }
 
 // Prints the line of a page that is blank or repaired.
-fn print_page(volume: &[u8], page: u32) {
-    number(page);
+fn print_page(rt: &impl Print, volume: &[u8], page: u32) -> io::Result<()> {
+    number(rt, page)?;
     match found(volume, page) {
         Answer::Repaired(r) => {
-            say(b" ");
-            print::repair(r);
+            say(rt, b" ")?;
+            print::repair(rt, r)?;
         }
-        Answer::Refused(_) => say(b" BLANK"),
+        Answer::Refused(_) => say(rt, b" BLANK")?,
         Answer::Nothing => {}
         Answer::Done => {}
     }
-    say(b"\n");
+    say(rt, b"\n")
 }
 
-fn print_pages(volume: &[u8], pages: u32) {
+fn print_pages(rt: &impl Print, volume: &[u8], pages: u32) -> io::Result<()> {
     let mut page: u32 = 0;
     while page < pages {
         page += 1;
-        print_page(volume, page);
+        print_page(rt, volume, page)?;
     }
+    Ok(())
 }
 
-fn main() {
+fn main(rt: HostRuntime) -> io::Result<()> {
     let mut space = [0u8; 32769];
-    let n = io::read_full(STDIN_FILENO, &mut space);
+    let n = input::fill(&mut rt.stdin(), &mut space)?;
     if 32768 < n {
-        print::refusal(1);
-        return;
+        return print::refusal(&rt, 1);
     }
     let volume = &space[..n];
     if !volume::heading::valid(volume) {
-        print::refusal(1);
-        return;
+        return print::refusal(&rt, 1);
     }
     let pages = volume::heading::geometry(volume).pages;
     let no = refusal(volume, pages);
     if no == 0 {
-        print_pages(volume, pages);
+        print_pages(&rt, volume, pages)
     } else {
-        print::refusal(no);
+        print::refusal(&rt, no)
     }
 }
