@@ -1,5 +1,5 @@
 -- The functions for C that read a volume: each is refused by its table, a refusal leaves the numbers that it was lent, and the table stands in
--- order. The proofs of `ReadingForC` and `FaceOrdered`.
+-- order. The proofs of `ReadingForC`, `FaceOrdered` and their `Beyond`.
 use Prim.Native.Nat.{ℕ, ◌<◌}
 use mathlib.Core.Path.{◌≡◌, refl}
 use mathlib.Core.Bool.{true}
@@ -21,6 +21,7 @@ use Rattle.face.specs.Room.{room_rows, tell_room}
 use Rattle.face.specs.Advice.{upkeep_rows, upkeep_face}
 use Rattle.face.specs.Mending.{mend_face_rows, mend_face}
 use Rattle.face.specs.ReadingForC.{ReadingForC, FaceOrdered}
+use Rattle.face.specs.ReadingBeyond.{ReadingBeyond, OrderedBeyond}
 
 -- numbers told by a table
 tells : (rows : List Row) → Numbered rows → (old new : List ℕ)
@@ -80,16 +81,19 @@ roomiest g frames s h =
     )
 
 pub reading-for-c : ReadingForC
-reading-for-c =
-    record { counts = counts; slot = slot; failing = failing; roomiest = roomiest; room = room; upkeep = upkeep; mend = mend }
+reading-for-c = record { counts = counts; slot = slot; room = room; upkeep = upkeep }
+
+pub reading-beyond : ReadingBeyond
+reading-beyond = record { failing = failing; roomiest = roomiest; mend = mend }
 
 pub face-ordered : FaceOrdered
 face-ordered =
     record {
       counts = λ v xs. refl;
       slot = λ at v xs. refl;
-      failing = λ v xs report. refl;
       room = λ v xs. refl;
       upkeep = λ v m xs r report. refl;
-      mend = λ v m xs r p report. refl;
     }
+
+pub ordered-beyond : OrderedBeyond
+ordered-beyond = record { failing = λ v xs report. refl; mend = λ v m xs r p report. refl }

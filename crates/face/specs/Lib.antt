@@ -9,3 +9,4 @@ pub mod Advice
 pub mod Mending
 pub mod Claim
 pub mod ReadingForC
+pub mod ReadingBeyond
