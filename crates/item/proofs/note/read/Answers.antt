@@ -5,5 +5,4 @@ use Rattle.item.proofs.note.read.Goals as goal
 pub returns : goal.returns
 unfolding note_of
 returns c =
-    let d = c in
-    rw (d.u32_at.ensures, d.u16_at.ensures, c.byte.ensures, c.byte-2.ensures, c.u32_at-2.ensures)
+    rw (c.u32_at.ensures, c.u16_at.ensures, c.byte.ensures, c.byte-2.ensures, c.u32_at-2.ensures)

@@ -5,13 +5,11 @@ use Rattle.item.proofs.record.read.Goals as goal
 pub returns : goal.returns
 unfolding record_of
 returns c =
-    let d = c in
-    let b = d in
     rw (
-      b.u32_at.ensures,
-      d.u32_at-2.ensures,
-      d.u16_at.ensures,
-      d.byte.ensures,
+      c.u32_at.ensures,
+      c.u32_at-2.ensures,
+      c.u16_at.ensures,
+      c.byte.ensures,
       c.byte-2.ensures,
       c.u16_at-2.ensures,
       c.byte-3.ensures,

@@ -7,13 +7,10 @@ use Rattle.item.proofs.record.replay.Goals as goal
 
 pub apply-requires : goal.apply-requires
 apply-requires c =
-    let h = c in
-    let s = h in
-    let o = layout-obeys _ _ _ h.read.ensures h.held-c.ensures s.requires.1 in
-    (o.0, simp (length-take, length-drop) (omega (arith, o.1, s.requires.0)), s.requires.2)
+    let o = layout-obeys _ _ _ c.read.ensures c.held-c.ensures c.requires.1 in
+    (o.0, simp (length-take, length-drop) (omega (arith, o.1, c.requires.0)), c.requires.2)
 
 pub returns : goal.returns
 unfolding part
 returns c =
-    let h = c in
-    replay-is _ _ _ h.read.ensures h.held-c.ensures _ _ c.apply.ensures
+    replay-is _ _ _ c.read.ensures c.held-c.ensures _ _ c.apply.ensures

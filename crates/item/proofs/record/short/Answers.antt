@@ -8,23 +8,20 @@ use Rattle.item.proofs.record.short.Goals as goal
 
 pub returns-then-r-i-ne0 : goal.returns-then-r-i-ne0
 returns-then-r-i-ne0 c =
-    let s = c in
     let l = c.loop-i in
-    let r = s.args.r.now in
-    let len = s.requires.0 in
+    let r = c.args.r.now in
+    let len = c.requires.0 in
     sym (byte-not r len l.i c.loop-i-test.true c.if-r-i-ne0.true)
-    ∙ (l.invariant.1 ∙ left-part r len s.args.from (60 - s.args.from) (omega arith))
+    ∙ (l.invariant.1 ∙ left-part r len c.args.from (60 - c.args.from) (omega arith))
 
 pub loop-i-preserved : goal.loop-i-preserved
 loop-i-preserved c =
-    let s = c in
     let l = c.loop-i in
-    (search rules, sym (byte-on s.args.r.now s.requires.0 l.i c.loop-i-test.true c.if-r-i-ne0.false) ∙ l.invariant.1)
+    (search rules, sym (byte-on c.args.r.now c.requires.0 l.i c.loop-i-test.true c.if-r-i-ne0.false) ∙ l.invariant.1)
 
 pub returns : goal.returns
 returns c =
-    let s = c in
     let l = c.loop-i in
-    let r = s.args.r.now in
-    let len = s.requires.0 in
-    sym (none_left r len l.i c.loop-i-test.false) ∙ (l.invariant.1 ∙ left-part r len s.args.from (60 - s.args.from) (omega arith))
+    let r = c.args.r.now in
+    let len = c.requires.0 in
+    sym (none_left r len l.i c.loop-i-test.false) ∙ (l.invariant.1 ∙ left-part r len c.args.from (60 - c.args.from) (omega arith))

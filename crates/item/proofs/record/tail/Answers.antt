@@ -15,26 +15,23 @@ returns-then-i-gt52 c =
 
 pub returns-then-eight-ne0 : goal.returns-then-eight-ne0
 returns-then-eight-ne0 c =
-    let s = c in
     let l = c.loop-i in
-    let r = s.args.r.now in
-    let from = 16 + s.args.n in
-    sym (eight-not r s.requires.0 from l.i l.invariant.0 (omega arith) (λ z. c.if-eight-ne0.true (c.eight.ensures ∙ z)))
-    ∙ left-part r s.requires.0 from (44 - s.args.n) (omega arith)
+    let r = c.args.r.now in
+    let from = 16 + c.args.n in
+    sym (eight-not r c.requires.0 from l.i l.invariant.0 (omega arith) (λ z. c.if-eight-ne0.true (c.eight.ensures ∙ z)))
+    ∙ left-part r c.requires.0 from (44 - c.args.n) (omega arith)
 
 pub loop-i-preserved : goal.loop-i-preserved
 loop-i-preserved c =
-    let s = c in
     let l = c.loop-i in
-    let on = eight-on s.args.r.now s.requires.0 l.i (omega arith) (sym c.eight.ensures ∙ c.if-eight-ne0.false) in
+    let on = eight-on c.args.r.now c.requires.0 l.i (omega arith) (sym c.eight.ensures ∙ c.if-eight-ne0.false) in
     (omega arith, l.invariant.1, omega arith, sym on ∙ l.invariant.3)
 
 pub returns : goal.returns
 returns c =
-    let s = c in
     let l = c.loop-i in
-    let r = s.args.r.now in
-    let from = 16 + s.args.n in
+    let r = c.args.r.now in
+    let from = 16 + c.args.n in
     ap (λ (x : ℕ). eqb x 0) c.eight-2.ensures
-    ∙ (eight-last r s.requires.0 from l.i l.invariant.1 c.loop-i-test.false l.invariant.3
-    ∙ left-part r s.requires.0 from (44 - s.args.n) (omega arith))
+    ∙ (eight-last r c.requires.0 from l.i l.invariant.1 c.loop-i-test.false l.invariant.3
+    ∙ left-part r c.requires.0 from (44 - c.args.n) (omega arith))

@@ -50,40 +50,39 @@ module _ (c : goal.After-sums_at-t) where
 
 pub overflow_add-a : goal.overflow_add-a
 overflow_add-a c =
-    let d = c in
-    omega (arith, low-few (goal.at.overflow_add-a c).After-sums_at-t, lows-most (bytes_of (goal.at.overflow_add-a c).After-sums_at-t) (known (goal.at.overflow_add-a c).After-sums_at-t) (k-of (goal.at.overflow_add-a c).After-sums_at-t))
+    let w = (goal.at.overflow_add-a c).After-sums_at-t in
+    omega (arith, low-few w, lows-most (bytes_of w) (known w) (k-of w))
 
 pub overflow_mul-b : goal.overflow_mul-b
 overflow_mul-b c =
-    let d = c in
-    omega (arith, term-most c.above.result d.sums_at-t.result.a c.above.ensures.1 (low-few (goal.at.overflow_mul-b c).After-sums_at-t))
+    omega (arith, term-most c.above.result c.sums_at-t.result.a c.above.ensures.1 (low-few (goal.at.overflow_mul-b c).After-sums_at-t))
 
 pub overflow_add-b : goal.overflow_add-b
 overflow_add-b c =
-    let d = c in
+    let w = (goal.at.overflow_add-b c).After-sums_at-t in
     let u = c.above in
-    omega (arith, high-few (goal.at.overflow_add-b c).After-sums_at-t, term-most u.result d.sums_at-t.result.a u.ensures.1 (low-few (goal.at.overflow_add-b c).After-sums_at-t))
+    omega (arith, high-few w, term-most u.result c.sums_at-t.result.a u.ensures.1 (low-few w))
 
 pub overflow_add-b-in-loop-k : goal.overflow_add-b-in-loop-k
 overflow_add-b-in-loop-k c =
-    let d = c in
+    let w = (goal.at.overflow_add-b-in-loop-k c).After-sums_at-t in
     let u = c.above in
     omega (
       arith,
-      high-few (goal.at.overflow_add-b-in-loop-k c).After-sums_at-t,
-      highs-most (bytes_of (goal.at.overflow_add-b-in-loop-k c).After-sums_at-t) (known (goal.at.overflow_add-b-in-loop-k c).After-sums_at-t) (k-of (goal.at.overflow_add-b-in-loop-k c).After-sums_at-t),
-      term-most u.result d.sums_at-t.result.a u.ensures.1 (low-few (goal.at.overflow_add-b-in-loop-k c).After-sums_at-t),
+      high-few w,
+      highs-most (bytes_of w) (known w) (k-of w),
+      term-most u.result c.sums_at-t.result.a u.ensures.1 (low-few w),
     )
 
 pub loop-k-preserved : goal.loop-k-preserved
 loop-k-preserved c =
-    let d = c in
+    let w = (goal.at.loop-k-preserved c).After-sums_at-t in
     let u = c.above in
-    let l = d.loop-k in
-    let r = d.sums_at-t.result in (
+    let l = c.loop-k in
+    let r = c.sums_at-t.result in (
       omega arith,
-      lows-next (bytes_of (goal.at.loop-k-preserved c).After-sums_at-t) (k-of (goal.at.loop-k-preserved c).After-sums_at-t) l.a l.b r.a r.b u.result (is-low (goal.at.loop-k-preserved c).After-sums_at-t) l.invariant.1,
-      highs-next (bytes_of (goal.at.loop-k-preserved c).After-sums_at-t) (k-of (goal.at.loop-k-preserved c).After-sums_at-t) l.a l.b r.a r.b u.result (is-low (goal.at.loop-k-preserved c).After-sums_at-t) (is-high (goal.at.loop-k-preserved c).After-sums_at-t) u.ensures.0 l.invariant.2,
+      lows-next (bytes_of w) (k-of w) l.a l.b r.a r.b u.result (is-low w) l.invariant.1,
+      highs-next (bytes_of w) (k-of w) l.a l.b r.a r.b u.result (is-low w) (is-high w) u.ensures.0 l.invariant.2,
     )
 
 -- after the last part
@@ -129,10 +128,12 @@ pub overflow_mul-result : goal.overflow_mul-result
 overflow_mul-result c = omega (arith, c.folded.ensures.1)
 
 pub overflow_sub-a : goal.overflow_sub-a
-overflow_sub-a c = omega (arith, first_word (goal.at.overflow_sub-a c).After-loop-k, sum_low (goal.at.overflow_sub-a c).After-loop-k)
+overflow_sub-a c =
+    let w = (goal.at.overflow_sub-a c).After-loop-k in omega (arith, first_word w, sum_low w)
 
 pub overflow_sub-a-2 : goal.overflow_sub-a-2
-overflow_sub-a-2 c = omega (arith, first_word (goal.at.overflow_sub-a-2 c).After-loop-k, second_word (goal.at.overflow_sub-a-2 c).After-loop-k, sum_low (goal.at.overflow_sub-a-2 c).After-loop-k)
+overflow_sub-a-2 c =
+    let w = (goal.at.overflow_sub-a-2 c).After-loop-k in omega (arith, first_word w, second_word w, sum_low w)
 
 pub folded-requires-2 : goal.folded-requires-2
 folded-requires-2 c = omega (arith, few-low (goal.at.folded-requires-2 c).After-loop-k)
@@ -142,11 +143,11 @@ overflow_add-result c = omega (arith, c.folded.ensures.1, c.folded-2.ensures.1)
 
 pub returns : goal.returns
 returns c =
-    let d = c in
-    let l = d.loop-k in
-    let v = d.u16_u32-v.result in
-    let w = d.u16_u32-w.result in
-    let e : l.a - v - w ≡ 1 + low (image (goal.at.returns c).After-loop-k) 126 = omega (arith, first_word (goal.at.returns c).After-loop-k, second_word (goal.at.returns c).After-loop-k, sum_low (goal.at.returns c).After-loop-k) in
-    let f : l.b - 32 * v - 31 * w ≡ 126 + high (image (goal.at.returns c).After-loop-k) 126 = omega (arith, first_word (goal.at.returns c).After-loop-k, second_word (goal.at.returns c).After-loop-k, sum-high (goal.at.returns c).After-loop-k) in
+    let k = (goal.at.returns c).After-loop-k in
+    let l = c.loop-k in
+    let v = c.u16_u32-v.result in
+    let w = c.u16_u32-w.result in
+    let e : l.a - v - w ≡ 1 + low (image k) 126 = omega (arith, first_word k, second_word k, sum_low k) in
+    let f : l.b - 32 * v - 31 * w ≡ 126 + high (image k) 126 = omega (arith, first_word k, second_word k, sum-high k) in
     rw (c.folded.ensures.0, c.folded-2.ensures.0, e, f)
-    (sym (image-checksum (image (goal.at.returns c).After-loop-k) d.requires))
+    (sym (image-checksum (image k) c.requires))

@@ -48,8 +48,8 @@ overflow_cast-twice c = x-cast (products c)
 
 pub returns-then-not-multiple_of_modulus : goal.returns-then-not-multiple_of_modulus
 returns-then-not-multiple_of_modulus c =
-    let d = c in
-    first-fails 30 (item (goal.at.returns-then-not-multiple_of_modulus c).After-lower-q) (bytes (goal.at.returns-then-not-multiple_of_modulus c).After-lower-q) (long (goal.at.returns-then-not-multiple_of_modulus c).After-lower-q) (failed c.if-not-multiple_of_modulus.true c.multiple_of_modulus.ensures (x-abs (products (goal.at.returns-then-not-multiple_of_modulus c).After-lower-q)))
+    let u = (goal.at.returns-then-not-multiple_of_modulus c).After-lower-q in
+    first-fails 30 (item u) (bytes u) (long u) (failed c.if-not-multiple_of_modulus.true c.multiple_of_modulus.ensures (x-abs (products u)))
 
 pub overflow_add-all : goal.overflow_add-all
 overflow_add-all c = all-more-fits (products (goal.at.overflow_add-all c).After-lower-q)
@@ -59,25 +59,25 @@ overflow_cast-all c = y-cast (products (goal.at.overflow_cast-all c).After-lower
 
 pub overflow_sub-all-2 : goal.overflow_sub-all-2
 overflow_sub-all-2 c =
-    let d = c in
-    rw (y-abs (products (goal.at.overflow_sub-all-2 c).After-lower-q)) (rest-low 30 (item (goal.at.overflow_sub-all-2 c).After-lower-q) (bytes (goal.at.overflow_sub-all-2 c).After-lower-q) (long (goal.at.overflow_sub-all-2 c).After-lower-q) c.four-c.result c.four-c.ensures)
+    let u = (goal.at.overflow_sub-all-2 c).After-lower-q in
+    rw (y-abs (products u)) (rest-low 30 (item u) (bytes u) (long u) c.four-c.result c.four-c.ensures)
 
 pub overflow_sub-all-3 : goal.overflow_sub-all-3
 overflow_sub-all-3 c =
-    let d = c in
-    rw (y-abs (products (goal.at.overflow_sub-all-3 c).After-lower-q)) (rest-high 30 (item (goal.at.overflow_sub-all-3 c).After-lower-q) (bytes (goal.at.overflow_sub-all-3 c).After-lower-q) (long (goal.at.overflow_sub-all-3 c).After-lower-q) c.four-c.result c.four-c.ensures)
+    let u = (goal.at.overflow_sub-all-3 c).After-lower-q in
+    rw (y-abs (products u)) (rest-high 30 (item u) (bytes u) (long u) c.four-c.result c.four-c.ensures)
 
 pub returns-then-not-multiple_of_modulus-2 : goal.returns-then-not-multiple_of_modulus-2
 returns-then-not-multiple_of_modulus-2 c =
-    let d = c in
+    let u = (goal.at.returns-then-not-multiple_of_modulus-2 c).After-lower-q in
     let f = c.four-c in
-    second-fails 30 (item (goal.at.returns-then-not-multiple_of_modulus-2 c).After-lower-q) (bytes (goal.at.returns-then-not-multiple_of_modulus-2 c).After-lower-q) (long (goal.at.returns-then-not-multiple_of_modulus-2 c).After-lower-q) f.result f.ensures
-    (failed c.if-not-multiple_of_modulus-2.true c.multiple_of_modulus-2.ensures (ap (y-rest f.result) (y-abs (products (goal.at.returns-then-not-multiple_of_modulus-2 c).After-lower-q))))
+    second-fails 30 (item u) (bytes u) (long u) f.result f.ensures
+    (failed c.if-not-multiple_of_modulus-2.true c.multiple_of_modulus-2.ensures (ap (y-rest f.result) (y-abs (products u))))
 
 pub returns : goal.returns
 returns c =
-    let d = c in
+    let u = (goal.at.returns c).After-lower-q in
     let f = c.four-c in
-    both-pass 30 (item (goal.at.returns c).After-lower-q) (bytes (goal.at.returns c).After-lower-q) (long (goal.at.returns c).After-lower-q) f.result f.ensures
-    (passed c.if-not-multiple_of_modulus.false c.multiple_of_modulus.ensures (x-abs (products (goal.at.returns c).After-lower-q)))
-    (passed c.if-not-multiple_of_modulus-2.false c.multiple_of_modulus-2.ensures (ap (y-rest f.result) (y-abs (products (goal.at.returns c).After-lower-q))))
+    both-pass 30 (item u) (bytes u) (long u) f.result f.ensures
+    (passed c.if-not-multiple_of_modulus.false c.multiple_of_modulus.ensures (x-abs (products u)))
+    (passed c.if-not-multiple_of_modulus-2.false c.multiple_of_modulus-2.ensures (ap (y-rest f.result) (y-abs (products u))))

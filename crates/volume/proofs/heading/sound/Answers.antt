@@ -4,5 +4,4 @@ use Rattle.volume.proofs.heading.sound.Goals as goal
 
 pub returns : goal.returns
 returns c =
-    let p = c in
-    known_read p.args.v.now _ _ p.args.g p.requires.0 p.requires.1 c.counts.ensures c.size-length.ensures
+    known_read c.args.v.now _ _ c.args.g c.requires.0 c.requires.1 c.counts.ensures c.size-length.ensures

@@ -6,11 +6,9 @@ use Rattle.volume.proofs.make.write.Goals as goal
 
 pub returns : goal.returns
 returns c =
-    let e = c in
-    let d = e in
     fresh _ _ _ _ _ _ _ _ _ _ _ _
-    d.requires d.fill.ensures
-    d.put_u32.ensures e.put_u32-2.ensures
-    e.put_u32-3.ensures
-    e.put_u32-4.ensures
+    c.requires c.fill.ensures
+    c.put_u32.ensures c.put_u32-2.ensures
+    c.put_u32-3.ensures
+    c.put_u32-4.ensures
     (c.put.ensures ∙ ap (splice _ 0) c.magic_bytes-magic.ensures)
