@@ -6,6 +6,5 @@ use Rattle.bench_calls.proofs.measure_restart.Goals as goal
 
 pub returns : goal.returns
 returns c =
-    let r = c in
-    let e = restart-is _ _ _ _ _ r.restart-restarted.ensures.outcome r.restart-restarted.ensures.memory c.refused.ensures.0 in
+    let e = restart-is _ _ _ _ _ c.restart-restarted.ensures.outcome c.restart-restarted.ensures.memory c.refused.ensures.0 in
     record { refused = ap (λ (x : Run). x.refused) e; memory = ap (λ (x : Run). x.memory) e }

@@ -13,11 +13,9 @@ loop-j-init c = (run_none _, search rules, search rules, search rules, search ru
 
 pub loop-j-preserved : goal.loop-j-preserved
 loop-j-preserved c =
-    let p = c in
-    let k = p in
-    let e = p.perform-o.ensures in (
-      run_more _ _ _ _ _ k.loop-j.invariant.0 p.command.ensures
-          (call-is k.loop-j.volume k.loop-j.memory _ _ (replicate 44 9) k.loop-j.store _ _ _ p.command.result e.outcome
+    let e = c.perform-o.ensures in (
+      run_more _ _ _ _ _ c.loop-j.invariant.0 c.command.ensures
+          (call-is c.loop-j.volume c.loop-j.memory _ _ (replicate 44 9) c.loop-j.store _ _ _ c.command.result e.outcome
           e.memory e.volume c.refused-total-in-loop-j.ensures.0),
       search rules,
       search rules,
@@ -28,11 +26,8 @@ loop-j-preserved c =
 
 pub returns : goal.returns
 returns c =
-    let a = c in
-    let r = a in
-    let s = r in
     let j : c.loop-j.j ≡ 7 * c.cut-most.result = omega arith in
-    let e = run-all _ _ s.args.count _ _ _ _
-    (restart-is _ _ _ _ _ r.restart-restarted.ensures.outcome r.restart-restarted.ensures.memory a.refused-total.ensures.0)
+    let e = run-all _ _ c.args.count _ _ _ _
+    (restart-is _ _ _ _ _ c.restart-restarted.ensures.outcome c.restart-restarted.ensures.memory c.refused-total.ensures.0)
     c.cut-most.ensures.0 j c.loop-j.invariant.0 in
     record { refused = ap (λ (x : Run). x.refused) e; volume = ap (λ (x : Run). x.volume) e; memory = ap (λ (x : Run). x.memory) e }

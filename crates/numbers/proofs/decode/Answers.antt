@@ -5,7 +5,6 @@ use Rattle.numbers.proofs.decode.Goals as goal
 pub returns : goal.returns
 unfolding state_of part
 returns c =
-    let f = c in
-    let n = f.note_from-note in
+    let n = c.note_from-note in
     let e = c.entries_of-index in
-    rw (n.ensures, f.frames_of-frames.ensures, e.ensures)
+    rw (n.ensures, c.frames_of-frames.ensures, e.ensures)

@@ -9,13 +9,10 @@ pub returns : goal.returns
 unfolding numbers_of
 returns c =
     let e = c.put_entries in
-    let b = c in
-    let f = b.put_frames in
-    let a = b in
-    let h = a.head-front in
-    let s = a in
-    let t = s.args.s in
-    let ea = a.copy.ensures ∙ h.ensures in
-    covered s.args.out.now a.copy.new.dst f.new.out e.new.out s.requires
+    let f = c.put_frames in
+    let h = c.head-front in
+    let t = c.args.s in
+    let ea = c.copy.ensures ∙ h.ensures in
+    covered c.args.out.now c.copy.new.dst f.new.out e.new.out c.requires
     (ap length ea ∙ head-long t.durable t.pending t.notes t.note) (search rules)
     ∙ rw (ea, f.ensures, e.ensures)

@@ -14,10 +14,9 @@ loop-i-init c = (omega arith, length-replicate {A = Entry} 64 empty_entry, refl)
 
 pub loop-i-preserved : goal.loop-i-preserved
 loop-i-preserved c =
-    let k = c in
-    let l = k.loop-i in
-    let t = k.loop-i-test.true in
-    let xs = k.args.xs.now in (
+    let l = c.loop-i in
+    let t = c.loop-i-test.true in
+    let xs = c.args.xs.now in (
       omega (arith, t),
       length-set l.index l.i _ ∙ l.invariant.1,
       more l.index (entries_of xs) l.i (l.i + 1) empty_entry _ (omega arith) (omega (arith, t, l.invariant.1))

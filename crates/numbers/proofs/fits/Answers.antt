@@ -10,7 +10,5 @@ returns-then-xs-ne360 c = sym (unlike c.args.xs.now c.if-xs-ne360.true)
 pub returns : goal.returns
 unfolding part
 returns c =
-    let n = c in
-    let i = n in
-    alike i.args.xs.now i.if-xs-ne360.false n.note_fits-note.result c.frames_fit-frames.result
-    c.entries_fit-entries.result n.note_fits-note.ensures c.frames_fit-frames.ensures c.entries_fit-entries.ensures
+    alike c.args.xs.now c.if-xs-ne360.false c.note_fits-note.result c.frames_fit-frames.result
+    c.entries_fit-entries.result c.note_fits-note.ensures c.frames_fit-frames.ensures c.entries_fit-entries.ensures

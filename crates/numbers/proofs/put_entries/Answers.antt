@@ -1,7 +1,7 @@
+-- `numbers::put_entries` meets its contract.
 use Rattle.laws.proofs.Tabulated.{length-mapped}
 use Rattle.numbers.proofs.put_entries.Goals.{Start}
 use Rattle.numbers.proofs.put_entries.Goals as goal
--- `numbers::put_entries` meets its contract.
 use mathlib.Core.Path.{◌≡◌, sym}
 use Prim.Native.Nat.{◌+◌, ◌*◌}
 use native.Mathlib.Omega.{arith}
@@ -28,15 +28,13 @@ bounds-out-k-in-loop-i-4 c = simp length-set (omega arith)
 
 pub loop-i-preserved : goal.loop-i-preserved
 loop-i-preserved c =
-    let k = c in
-    let l = k.loop-i in
-    let s = c in
-    let es = s.args.index in
+    let l = c.loop-i in
+    let es = c.args.index in
     let t = entry-told es l.i in
     let n = entries-long es in (
-      omega (arith, k.loop-i-test.true),
+      omega (arith, c.loop-i-test.true),
       simp length-set l.invariant.1,
-      five l.out (entry_numbers es) (5 * l.i) (5 * (l.i + 1)) _ _ _ _ _ (omega arith) (omega (arith, l.invariant.1, k.loop-i-test.true))
+      five l.out (entry_numbers es) (5 * l.i) (5 * (l.i + 1)) _ _ _ _ _ (omega arith) (omega (arith, l.invariant.1, c.loop-i-test.true))
           (omega (arith, l.invariant.1, n, long (goal.at.loop-i-preserved c).Start)) l.invariant.2 (sym t.last) (sym t.durable) (sym t.written) (sym t.slot)
           (sym t.backup),
     )

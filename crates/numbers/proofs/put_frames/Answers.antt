@@ -1,7 +1,7 @@
+-- `numbers::put_frames` meets its contract.
 use Rattle.laws.proofs.Tabulated.{length-mapped}
 use Rattle.numbers.proofs.put_frames.Goals.{Start}
 use Rattle.numbers.proofs.put_frames.Goals as goal
--- `numbers::put_frames` meets its contract.
 use mathlib.Core.Path.{◌≡◌, sym, ◌∙◌}
 use Prim.Native.Nat.{◌+◌, ◌*◌}
 use native.Mathlib.Omega.{arith}
@@ -19,14 +19,12 @@ bounds-out-k-in-loop-i c = simp length-set (omega arith)
 
 pub loop-i-preserved : goal.loop-i-preserved
 loop-i-preserved c =
-    let k = c in
-    let l = k.loop-i in
-    let s = c in
-    let fs = s.args.table in
+    let l = c.loop-i in
+    let fs = c.args.table in
     let n = frames-long fs in (
-      omega (arith, k.loop-i-test.true),
+      omega (arith, c.loop-i-test.true),
       simp length-set l.invariant.1,
-      two l.out (frame_numbers fs) (2 * l.i) (2 * (l.i + 1)) _ _ (omega arith) (omega (arith, l.invariant.1, k.loop-i-test.true))
+      two l.out (frame_numbers fs) (2 * l.i) (2 * (l.i + 1)) _ _ (omega arith) (omega (arith, l.invariant.1, c.loop-i-test.true))
           (omega (arith, l.invariant.1, n, long (goal.at.loop-i-preserved c).Start)) l.invariant.2 (sym (frame-page fs l.i))
           (c.bit.ensures ∙ sym (frame-dirty fs l.i)),
     )

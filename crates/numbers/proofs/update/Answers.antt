@@ -13,9 +13,8 @@ returns c = λ t lf li eo one.
     let f = c.put_frames in
     let a = c.copy in
     let h = c.head-front in
-    let b = c in
-    let x = b.args in
+    let x = c.args in
     let five : 40 + 5 * x.row + 5 - (40 + 5 * x.row) ≡ 5 = omega arith in
     let l : length f.new.out ≡ 32 = search rules in
-    row-updated t x.s x.out.now a.new.dst f.new.out k.new.dst x.row _ lf li eo one b.requires.1 five
+    row-updated t x.s x.out.now a.new.dst f.new.out k.new.dst x.row _ lf li eo one c.requires.1 five
     (a.ensures ∙ h.ensures) f.ensures l k.ensures

@@ -17,7 +17,6 @@ left-requires-2 c =
 
 pub returns : goal.returns
 returns c =
-    let r = c in
-    let s = r.scan-scanned in
-    done _ s.result _ _ _ _ s.ensures.refusal s.ensures.clean r.if-no-ne0.false r.geometry-g.ensures
-    r.resumed-s.ensures c.left.ensures c.left-2.ensures
+    let s = c.scan-scanned in
+    done _ s.result _ _ _ _ s.ensures.refusal s.ensures.clean c.if-no-ne0.false c.geometry-g.ensures
+    c.resumed-s.ensures c.left.ensures c.left-2.ensures

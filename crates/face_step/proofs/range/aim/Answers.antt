@@ -6,33 +6,27 @@ use Rattle.face_step.proofs.range.aim.Goals as goal
 
 pub returns-in-Force : goal.returns-in-Force
 returns-in-Force c = λ p.
-    let k = c in
-    let h = k.geometry-g in
-    let s = k in
+    let h = c.geometry-g in
     rw c.in-Force.is
-    (c.cut.ensures ∙ log-range h.result s.args.volume.now h.ensures s.args.s.durable
-    k.turned-before.result k.turned-before.ensures.0)
+    (c.cut.ensures ∙ log-range h.result c.args.volume.now h.ensures c.args.s.durable
+    c.turned-before.result c.turned-before.ensures.0)
 
 pub returns-in-Write : goal.returns-in-Write
 returns-in-Write c = λ p.
-    let k = c in
     rw c.in-Write.is
     (c.cut-in-Write.ensures ∙ rw c.page_at.ensures)
 
 pub returns-in-Backup : goal.returns-in-Backup
 returns-in-Backup c = λ p.
-    let k = c in
     rw c.in-Backup.is
-    (c.cut-in-Backup.ensures ∙ rw (c.slot_at.ensures, k.geometry-g.ensures))
+    (c.cut-in-Backup.ensures ∙ rw (c.slot_at.ensures, c.geometry-g.ensures))
 
 pub returns-in-Note : goal.returns-in-Note
 returns-in-Note c = λ p.
-    let k = c in
-    let h = k.geometry-g in
-    let s = k in
+    let h = c.geometry-g in
     rw c.in-Note.is
-    (c.cut-in-Note.ensures ∙ note-range h.result s.args.volume.now h.ensures s.args.s.notes
-    k.turned-before-in-Note.result k.turned-before-in-Note.ensures.0)
+    (c.cut-in-Note.ensures ∙ note-range h.result c.args.volume.now h.ensures c.args.s.notes
+    c.turned-before-in-Note.result c.turned-before-in-Note.ensures.0)
 
 pub returns-in-Restamp : goal.returns-in-Restamp
 returns-in-Restamp c = λ p.

@@ -2,5 +2,4 @@ use Rattle.face_step.proofs.report.told_numbers.Goals as goal
 
 pub returns-in-Repaired : goal.returns-in-Repaired
 returns-in-Repaired c =
-    let k = c in
     rw (c.in-Repaired.is, c.class_number.ensures, c.start_number.ensures)

@@ -23,23 +23,19 @@ whole c =
 
 pub returns-then-not-headed : goal.returns-then-not-headed
 returns-then-not-headed c =
-    let s = c in
-    let a = s.args in
+    let a = c.args in
     let h = c.headed in
-    unlike-headed (a.command, a.payload) a.volume.now a.memory.now a.state.now a.report.now a.own h.result s.requires
+    unlike-headed (a.command, a.payload) a.volume.now a.memory.now a.state.now a.report.now a.own h.result c.requires
     h.ensures c.if-not-headed.true
 
 pub returns-then-fits-report : goal.returns-then-fits-report
 returns-then-fits-report c =
-    let i = c in
-    let f = i.fits in
-    let e = i in
-    let h = e.headed in
-    let s = e in
-    let a = s.args in
+    let f = c.fits in
+    let h = c.headed in
+    let a = c.args in
     let w = c.valid-valid in
     unfit (a.command, a.payload) a.volume.now a.memory.now a.state.now a.report.now f.result f.ensures a.own
-    h.result w.result c.first.result i.if-fits-report.true s.requires h.ensures e.if-not-headed.false w.ensures c.first.ensures
+    h.result w.result c.first.result c.if-fits-report.true c.requires h.ensures c.if-not-headed.false w.ensures c.first.ensures
 
 pub decode-before-requires : goal.decode-before-requires
 decode-before-requires c = whole c
@@ -57,14 +53,13 @@ returns c =
     let r = c.row-row in
     let x = c.aim-x in
     let d = c.decode-before in
-    let i = c in
-    let a = i.args in
+    let a = c.args in
     let z = ap (λ y. y.store.state) o.ensures.outcome in
     let h =
-    fitting (a.command, a.payload) a.volume.now a.memory.now a.state.now a.report.now i.fits.result
-    i.fits.ensures i.if-fits-report.false in
-    fit (a.command, a.payload) a.volume.now a.memory.now a.state.now a.report.now i.fits.result
-    i.fits.ensures i.if-fits-report.false
+    fitting (a.command, a.payload) a.volume.now a.memory.now a.state.now a.report.now c.fits.result
+    c.fits.ensures c.if-fits-report.false in
+    fit (a.command, a.payload) a.volume.now a.memory.now a.state.now a.report.now c.fits.result
+    c.fits.ensures c.if-fits-report.false
     d.result d.ensures o.result.answer o.result.store.state x.result c.number.result
     u.new.out c.tell.new.report o.new.memory o.new.volume
     (ap (λ y. y.answer) o.ensures.outcome) z o.ensures.memory o.ensures.volume

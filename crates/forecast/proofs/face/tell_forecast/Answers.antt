@@ -26,8 +26,7 @@ returns-then-no-ne0 c =
 
 pub returns : goal.returns
 returns c =
-    let f = c in
-    let a = f.args in
-    let t = told a.volume.now a.figures.now f.if-figures-ne128.false f.forecast-f.result f.forecast-f.ensures _
+    let a = c.args in
+    let t = told a.volume.now a.figures.now c.if-figures-ne128.false c.forecast-f.result c.forecast-f.ensures _
     c.if-no-ne0.false c.tell.ensures in
     record { answer = t.0; figures = t.1 }

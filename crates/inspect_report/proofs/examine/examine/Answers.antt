@@ -22,11 +22,10 @@ returns-then-report-ne3 c =
 
 pub returns : goal.returns
 returns c =
-    let i = c in
-    let a = i.args in
-    let t = alike a.volume.now a.page a.buffer.now a.report.now i.if-report-ne3.false i.inspect-a.result
-    i.inspect-a.ensures.answer
-    i.inspect-a.new.buffer c.tell.new.report i.inspect-a.ensures.buffer
+    let a = c.args in
+    let t = alike a.volume.now a.page a.buffer.now a.report.now c.if-report-ne3.false c.inspect-a.result
+    c.inspect-a.ensures.answer
+    c.inspect-a.new.buffer c.tell.new.report c.inspect-a.ensures.buffer
     c.tell.ensures c.number.result
     c.number.ensures in
     record { answer = t.0; buffer = t.1; report = t.2 }

@@ -20,22 +20,20 @@ loop-i-init c =
 
 pub returns-then-full : goal.returns-then-full
 returns-then-full c =
-    let l = c in
-    let a = l.args in
-    let h = log-tested a.g a.volume.now a.s l.loop-i.i _ _ true c.after.ensures c.full.ensures
+    let a = c.args in
+    let h = log-tested a.g a.volume.now a.s c.loop-i.i _ _ true c.after.ensures c.full.ensures
     c.if-full.true in
-    (sym (first-here _ _ _ c.loop-i-test.true h) ∙ l.loop-i.invariant.2, l.loop-i.invariant.0)
+    (sym (first-here _ _ _ c.loop-i-test.true h) ∙ c.loop-i.invariant.2, c.loop-i.invariant.0)
 
 pub loop-i-preserved : goal.loop-i-preserved
 loop-i-preserved c =
-    let l = c in
-    let a = l.args in
-    let p = l.requires in
-    let h = log-tested a.g a.volume.now a.s l.loop-i.i _ _ false c.after.ensures c.full.ensures
+    let a = c.args in
+    let p = c.requires in
+    let h = log-tested a.g a.volume.now a.s c.loop-i.i _ _ false c.after.ensures c.full.ensures
     c.if-full.false in
-    let n = log-numbers a.g a.volume.now (after_records a.s l.loop-i.i) h in
+    let n = log-numbers a.g a.volume.now (after_records a.s c.loop-i.i) h in
     let m = most-high a.volume.now a.g p.0 p.1 in
-    (omega (arith, n, m), search rules, sym (first_on _ _ _ c.loop-i-test.true h) ∙ l.loop-i.invariant.2)
+    (omega (arith, n, m), search rules, sym (first_on _ _ _ c.loop-i-test.true h) ∙ c.loop-i.invariant.2)
 
 pub returns : goal.returns
 returns c =

@@ -42,7 +42,6 @@ record-requires c =
 
 pub returns : goal.returns
 returns c =
-    let f = c in
     let r = c.read in
-    log-page-some _ _ _ _ _ f.most.ensures f.full.ensures f.if-not-left-full.false r.result
+    log-page-some _ _ _ _ _ c.most.ensures c.full.ensures c.if-not-left-full.false r.result
     (r.ensures ∙ ap record_of c.«record».ensures)

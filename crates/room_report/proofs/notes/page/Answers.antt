@@ -32,6 +32,5 @@ stored-requires c = let p = c.requires in (p.0, p.1, omega (arith, (past (goal.a
 
 pub returns : goal.returns
 returns c =
-    let f = c in
-    note-page-some _ _ _ _ _ f.most_notes.ensures f.full.ensures f.if-not-left-full.false
+    note-page-some _ _ _ _ _ c.most_notes.ensures c.full.ensures c.if-not-left-full.false
     c.stored.result c.stored.ensures
