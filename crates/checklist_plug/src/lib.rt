@@ -1,6 +1,7 @@
 // Check 2 of `checklist`: the plug pulled while a record is being stored, at every byte of it. Nothing is proved of it
 // but that it is safe and ends.
 #![tactic(auto)]
+
 ghost use Rattle.std.specs.Prelude.{◌≤◌};
 
 use checklist_steps::disk::{Image, Memory, Volume};
@@ -8,14 +9,15 @@ use checklist_steps::{disk, steps, text, verdict};
 use codec::number::one32;
 use model::answer::Answer;
 use print::{phrase, say};
+use std::io;
 use store::Store;
 
 // A line, written; a second, forced. `old` gets the volume as it was before the Force, which stores nothing else.
-fn done(v: &mut Volume, m: &mut Memory, old: &mut Volume) {
-    let a = steps::opened(v, m);
-    let b = steps::write(a, v, m, 1);
+fn done(rt: &impl Print, v: &mut Volume, m: &mut Memory, old: &mut Volume) -> io::Result<()> {
+    let a = steps::opened(rt, v, m).done()?;
+    let b = steps::write(rt, a, v, m, 1).done()?;
     disk::give_back(old, v, 0, disk::SIZE);
-    steps::put(b, v, m, 1, 44, b"06:18 bed 4 is free");
+    steps::put(rt, b, v, m, 1, 44, b"06:18 bed 4 is free").said
 }
 
 fn accepted(a: Answer) -> bool {
@@ -76,68 +78,95 @@ fn count(
 }
 
 // A cut, shown in full.
-fn example(trial: &mut Volume, m: &mut Memory, old: &Volume, new: &Volume, stored: usize)
+fn example(
+    rt: &impl Print,
+    trial: &mut Volume,
+    m: &mut Memory,
+    old: &Volume,
+    new: &Volume,
+    stored: usize,
+) -> io::Result<()>
     requires { stored ≤ 64 }
 {
     let mut buffer = [0u8; 256];
     phrase(
+        rt,
         b"  Damage: the plug is pulled in that last Force, with ",
         stored as u32,
         b" of the record's 64 bytes stored.\n   ",
-    );
+    )?;
     cut(trial, old, new, stored);
-    steps::restart(trial, m);
-    verdict::inspect(trial, 1, &mut buffer);
+    steps::restart(rt, trial, m).done()?;
+    verdict::inspect(rt, trial, 1, &mut buffer).said
 }
 
 // What all the cuts left.
-fn summary(whole: u32, not: u32, refused: u32, other: u32) -> bool {
-    say(b"  The plug is pulled after each byte, from none of the 64 to all: 65 cuts.\n");
-    phrase(b"    The line is kept: ", whole, b". It is not kept: ");
-    phrase(b"", not, b". Refused: ");
-    phrase(b"", refused, b". Any other text: ");
-    phrase(b"", other, b".\n");
-    (0 < not) & ((0 < whole) & ((refused == 0) & (other == 0)))
+fn summary(rt: &impl Print, whole: u32, not: u32, refused: u32, other: u32) -> io::Result<bool> {
+    say(
+        rt,
+        b"  The plug is pulled after each byte, from none of the 64 to all: 65 cuts.\n",
+    )?;
+    phrase(rt, b"    The line is kept: ", whole, b". It is not kept: ")?;
+    phrase(rt, b"", not, b". Refused: ")?;
+    phrase(rt, b"", refused, b". Any other text: ")?;
+    phrase(rt, b"", other, b".\n")?;
+    Ok((0 < not) & ((0 < whole) & ((refused == 0) & (other == 0))))
 }
 
 // Counts each outcome; without and with are what Inspect gives before and after the Force.
 fn tally(
+    rt: &impl Print,
     old: &Volume,
     new: &Volume,
     m: &mut Memory,
     without: &Image,
     with: &Image,
     trial: &mut Volume,
-) -> bool {
+) -> io::Result<bool> {
     let not = count(old, new, m, without, with, trial, 0);
     let whole = count(old, new, m, without, with, trial, 1);
     let refused = count(old, new, m, without, with, trial, 2);
     let other = count(old, new, m, without, with, trial, 3);
-    summary(whole, not, refused, other)
+    summary(rt, whole, not, refused, other)
 }
 
-fn cuts(old: &Volume, new: &Volume, m: &mut Memory, trial: &mut Volume) -> bool {
+fn cuts(
+    rt: &impl Print,
+    old: &Volume,
+    new: &Volume,
+    m: &mut Memory,
+    trial: &mut Volume,
+) -> io::Result<bool> {
     let mut without = [0u8; 256];
     let mut with = [0u8; 256];
-    example(trial, m, old, new, 40);
-    example(trial, m, old, new, 64);
+    example(rt, trial, m, old, new, 40)?;
+    example(rt, trial, m, old, new, 64)?;
     Store::inspect(old, 1, &mut without);
     Store::inspect(new, 1, &mut with);
-    tally(old, new, m, &without, &with, trial)
+    tally(rt, old, new, m, &without, &with, trial)
 }
 
-fn play(v: &mut Volume, m: &mut Memory, old: &mut Volume, trial: &mut Volume) -> bool {
+fn play(
+    rt: &impl Print,
+    v: &mut Volume,
+    m: &mut Memory,
+    old: &mut Volume,
+    trial: &mut Volume,
+) -> io::Result<bool> {
     let mut buffer = [0u8; 256];
-    done(v, m, old);
-    verdict::before(v, &mut buffer);
-    cuts(old, v, m, trial)
+    done(rt, v, m, old)?;
+    verdict::before(rt, v, &mut buffer)?;
+    cuts(rt, old, v, m, trial)
 }
 
-pub fn check() -> bool {
+pub fn check(rt: &impl Print) -> io::Result<bool> {
     let mut volume = [0u8; disk::SIZE];
     let mut memory = [0u8; 1536];
     let mut old = [0u8; disk::SIZE];
     let mut trial = [0u8; disk::SIZE];
-    say(b"\nCHECK 2. The plug pulled while a log record is being stored, at every byte\n");
-    play(&mut volume, &mut memory, &mut old, &mut trial)
+    say(
+        rt,
+        b"\nCHECK 2. The plug pulled while a log record is being stored, at every byte\n",
+    )?;
+    play(rt, &mut volume, &mut memory, &mut old, &mut trial)
 }
