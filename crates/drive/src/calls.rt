@@ -2,6 +2,7 @@
 use model::answer::Answer;
 use script::session::{Session, Turn};
 use script::{cell, session};
+use std::io;
 use store::{Returned, Store};
 
 // Make under either heading, with the cell's four counts.
@@ -18,11 +19,17 @@ fn make(c: &[u8], volume: &mut [u8]) -> Answer {
 }
 
 // Make and Inspect, which take no state.
-pub fn plain(b: Session, c: &[u8], volume: &mut [u8], lent: &mut [u8]) -> Turn {
+pub fn plain(
+    rt: &impl Print,
+    b: Session,
+    c: &[u8],
+    volume: &mut [u8],
+    lent: &mut [u8],
+) -> io::Result<Turn> {
     if cell::op(c) == 10 {
-        session::told(b, Store::inspect(volume, cell::page(c), lent))
+        session::told(rt, b, Store::inspect(volume, cell::page(c), lent))
     } else {
-        session::told(b, make(c, volume))
+        session::told(rt, b, make(c, volume))
     }
 }
 
@@ -36,11 +43,17 @@ fn call(s: Store, c: &[u8], volume: &mut [u8], memory: &mut [u8]) -> Returned {
 }
 
 // The calls that take or give a state. A change of no kind is skipped.
-pub fn stateful(b: Session, c: &[u8], volume: &mut [u8], memory: &mut [u8]) -> Turn {
+pub fn stateful(
+    rt: &impl Print,
+    b: Session,
+    c: &[u8],
+    volume: &mut [u8],
+    memory: &mut [u8],
+) -> io::Result<Turn> {
     let kind = cell::kind(c);
     if (cell::op(c) == 5) & !((1 <= kind) & (kind <= 3)) {
-        return session::skipped(b);
+        return session::skipped(rt, b);
     }
     let s = b.store;
-    session::came(b, call(s, c, volume, memory))
+    session::came(rt, b, call(s, c, volume, memory))
 }

@@ -8,31 +8,33 @@
 mod lists;
 mod table;
 
-use libc::STDIN_FILENO;
+use print::input;
+use std::io;
 
-fn main() {
+fn main(rt: HostRuntime) -> io::Result<()> {
     let mut space = [0u8; 1025];
-    let n = io::read_full(STDIN_FILENO, &mut space);
+    let n = input::fill(&mut rt.stdin(), &mut space)?;
     if n == 0 {
         table::print(
+            &rt,
             lists::stays(),
             false,
             b"A reader who stays at the end of a thread of 16 pages, each begun and changed 20 times\n",
-        );
-        table::print(
+        )?;
+        return table::print(
+            &rt,
             lists::rereads(),
             false,
             b"\nA reader who rereads the whole thread after every 7th change of a page\n",
         );
-        return;
     }
     if 1024 < n {
-        print::refusal(25);
-        return;
+        return print::refusal(&rt, 25);
     }
     table::print(
+        &rt,
         lists::given(&space[0..n]),
         true,
         b"The list on standard input\n",
-    );
+    )
 }
