@@ -25,11 +25,11 @@ DOCUMENTS = ["README.md", "CONTRIBUTING.md", "CHANGELOG.md", "crates/README.md"]
 DOCUMENTS += sorted(str(p.relative_to(ROOT)) for p in (ROOT / "docs").glob("*.md"))
 TRACE = "docs/TRACE.md"
 # of the past, where a name may be no more: what its definitions and theorems were called stays
-PAST = ("docs/LANDINGS.md", "CHANGELOG.md")
+PAST = ("docs/LANDINGS.md", "docs/PORT.md", "CHANGELOG.md")
 CHECKS = (names.check_functions, names.check_edits, names.check_files, names.check_c, names.check_cited,
           names.check_rattle)
 # documents whose tables have one row an entry, however long
-LONG_ROWS = ("docs/TRACE.md", "docs/DECISIONS.md", "docs/READING.md")
+LONG_ROWS = ("docs/TRACE.md", "docs/DECISIONS.md", "docs/READING.md", "docs/PORT.md")
 NARROW = ["include/*.h", "lib/*", "examples/*.c", "tests/c/*", "bench/sqlite/*"]
 
 
