@@ -1,5 +1,5 @@
 // The page store as a static library for C. Each exported function has the clauses of the function of its name in
-// `capi` and only calls it. `include/pagestore.h` declares them.
+// `capi` and only calls it. `include/pagestore.h` declares them, but for mending (docs/PORT.md).
 #![tactic(auto)]
 
 mod advice;

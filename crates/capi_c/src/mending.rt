@@ -1,4 +1,4 @@
-// What mending says of a page, as numbers. `include/pagestore.h` declares it.
+// What mending says of a page, as numbers.
 ghost use Rattle.std.specs.Prelude.{◌≡◌};
 ghost use Rattle.face.specs.Mending.{mend_face};
 
