@@ -1,5 +1,5 @@
 //! Links the libraries for C, each into the programs that call it: the store (`make library`), and `bench_calls`, which
-//! has functions for the benchmark (`rt staticlib bench_calls`).
+//! has functions for the benchmark (`tools/prove.py staticlib bench_calls`).
 
 use std::path::Path;
 
