@@ -23,7 +23,7 @@ from crates import ROOT, listed
 COPIES = ROOT / "target/edits"
 EDITS = ROOT / "tests/edits"
 # what antt says where the code asks for other needs than the proof lists: a name, or the list, that no longer fits
-UNFIT = re.compile(r"can be named from here|-spec`: expected type")
+UNFIT = re.compile(r"can be named (?:from )?here|has no field|not in scope|-spec`: expected type")
 
 
 def lay_out(copy):

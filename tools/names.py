@@ -2,7 +2,7 @@
 
 Functions are written `crate::module::name`, must-fail edits `crate/label`, theorems and values `name` (crate), or
 crate: `name`, `name`; behind a theorem, field `name` is one of its claim. The trace's column of definitions has
-File.name. Any other word in backquotes that has the shape of a Rattle name (a-b, aB, Ab) is declared somewhere.
+File.name. Any other word in backquotes that has the shape of a Rattle name (a-b, a_b, Ab) is declared somewhere.
 """
 import functools
 import re
@@ -13,7 +13,7 @@ from crates import ROOT
 # crates whose definitions the trace may name by their file alone
 DEFINING = (*crates.DEFINITIONS, "face", "called", "history")
 # words in backquotes with the shape of a Rattle name that are none: folders, commands, the kit's and the system's words
-OTHERS = {"must-fail", "rattle-kit", "libsqlite3-dev", "Store", "Minus", "Refusal"}
+OTHERS = {"must-fail", "rattle-kit", "libsqlite3-dev", "Store", "Minus", "Refusal", "sqlite3_blob_write"}
 NAMES = r"`[\w-]+`(?:(?:, | and )`[\w-]+`)*"
 CRATE = "(" + "|".join(crates.listed()) + ")"
 
@@ -37,10 +37,11 @@ def declarations(text, indent=" *"):
 
 @functools.cache
 def declared(crate, indent=""):
-    """What a crate's definitions and proofs declare, their files, the claims of its theorems, its code's types."""
+    """What a crate's definitions and proofs declare, their files, the claims of its theorems, its code's types,
+    functions and modules."""
     rattle = {**sources(crate, "specs"), **sources(crate, "proofs")}
     claims = (re.findall(r"^pub [\w-]+ : (\w+)$", text, re.M) for text in rattle.values())
-    types = re.findall(r"\b(?:struct|enum) (\w+)|^    ([A-Z]\w*)[,({]", "".join(sources(crate, "src").values()), re.M)
+    types = re.findall(r"\b(?:struct|enum|fn|mod) (\w+)|^    ([A-Z]\w*)[,({]", "".join(sources(crate, "src").values()), re.M)
     names = (declarations(text, indent) for text in rattle.values())
     return {path.stem for path in rattle}.union(*names, *claims, *types)
 
@@ -129,10 +130,10 @@ def check_cited(document, text):
 def check_rattle(document, text):
     """Words in backquotes with the shape of a Rattle name, also in front of arguments: declared somewhere."""
     known = OTHERS.union(crates.listed(), *(declared(crate, " *") for crate in crates.listed()))
-    shape = r"[a-z]\w*(?:-\w+)+|[a-z]+[A-Z]\w*|[A-Z]\w*[a-z]\w*"
+    shape = r"[a-z]\w*(?:-\w+)+|(?!pagestore_)[a-z][a-z0-9]*(?:_[a-z0-9]+)+|[A-Z]\w*[a-z]\w*"
     for word, part in re.findall(rf"`({shape})(?:\.({shape}|[a-z]+))?(?: [^`:\n]*)?`", text):
         missing = [name for name in (word, part) if name and name not in known]
-        if missing and part != "antt":
+        if missing and part not in ("antt", "c", "py"):
             yield f"{document}: nothing declares {missing[0]}"
 
 

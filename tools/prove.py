@@ -33,7 +33,7 @@ def command(how, crate):
 def current(crate, made):
     """What was made is there, and newer than every file of the crates that it needs (edits that must fail aside)."""
     folders = [ROOT / "crates" / name / part for name in needed(crate) for part in ("src", "specs", "proofs")]
-    files = [f for folder in folders for f in folder.rglob("*") if f.is_file()]
+    files = [ROOT / "crates.txt", ROOT / "rattle-kit", *(f for folder in folders for f in folder.rglob("*") if f.is_file())]
     return made is not None and made.is_file() and max(f.stat().st_mtime for f in files) < made.stat().st_mtime
 
 

@@ -14,8 +14,7 @@ loop-i-init c = (omega arith, none_told _ _ c.requires)
 pub bounds-figures-i-in-loop-i : goal.bounds-figures-i-in-loop-i
 bounds-figures-i-in-loop-i c =
     let k = c.loop-i in
-    let a = c.args in
-    let l = length-set k.figures (2 * k.i) (get_or a.pages k.i (counted 0)).refusal in
+    let l = length-set k.figures (2 * k.i) _ in
     omega (arith, k.invariant.1.size, c.loop-i-test.true, l)
 
 pub loop-i-preserved : goal.loop-i-preserved
