@@ -1,9 +1,7 @@
 -- `forecast::face::tell` meets its contract: the loop writes two numbers a page.
-use Prim.Native.Nat.{◌*◌}
 use mathlib.Core.Path.{refl}
 use native.Mathlib.Omega.{arith}
-use lib.ListN.{get_or, length-set}
-use Rattle.reports.specs.Forecast.{counted}
+use lib.ListN.{length-set}
 use borrow.Author.Rules.{rules}
 use Rattle.forecast.proofs.Fills.{none_told, one_told, all_told}
 use Rattle.forecast.proofs.face.tell.Goals as goal
@@ -14,8 +12,7 @@ loop-i-init c = (omega arith, none_told _ _ c.requires)
 pub bounds-figures-i-in-loop-i : goal.bounds-figures-i-in-loop-i
 bounds-figures-i-in-loop-i c =
     let k = c.loop-i in
-    let l = length-set k.figures (2 * k.i) _ in
-    omega (arith, k.invariant.1.size, c.loop-i-test.true, l)
+    rw length-set (omega (arith, k.invariant.1.size, c.loop-i-test.true))
 
 pub loop-i-preserved : goal.loop-i-preserved
 loop-i-preserved c =
