@@ -14,7 +14,7 @@ use Rattle.model.specs.Demand1.{Arrays}
 use Rattle.model.specs.Health.{Untouched}
 use Rattle.model.specs.WellFormed.{StaysFormed}
 use Rattle.model.specs.declared.{geometry.Heading.TheVariants.Second, state.State.State}
-use Rattle.model.specs.declared.{state.PendingNote.TheVariants.Absent, answer.Class.TheVariants.Good}
+use Rattle.model.specs.declared.{answer.Class.TheVariants.Good}
 use Rattle.cases.specs.Opened.{opened}
 use Rattle.cases.specs.Build.{small, image}
 use Rattle.cases.specs.Table.{record1, body1}
@@ -23,6 +23,7 @@ use Rattle.cases.specs.Rings.{put}
 use Rattle.laws.proofs.StaysFormed.{keeps-well-formed}
 use Rattle.laws.proofs.Health.{health}
 use Rattle.cases.proofs.Tests.{holds}
+use Rattle.model.specs.Types.{None}
 
 -- ---- the last number of a ring
 
@@ -34,7 +35,7 @@ frames = replicate 1536 0
 
 -- one number is left; page 1 is in a frame
 abbrev state_one_left : State
-state_one_left = state_with 4294967294 0 0 Absent (frame 1 true) (frame 0 false) (entry 1 1 0 0 0) none none
+state_one_left = state_with 4294967294 0 0 None (frame 1 true) (frame 0 false) (entry 1 1 0 0 0) none none
 
 one_left : well_formed (geometry_of ring_volume) (frame_count (length frames)) state_one_left ≡ true
 unfolding opened

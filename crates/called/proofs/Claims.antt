@@ -22,9 +22,8 @@ use Rattle.model.specs.Index.{empty_entry, entry_row}
 use Rattle.model.specs.State.{empty_frame, frame_row, frame_fits, entry_fits, page_fits, pending_note_fits, well_formed, last_number, held}
 use Rattle.model.specs.Outcome.{StoredItem, nothing, one_item, new_heading, Outcome, volume_after, refusal_of}
 use Rattle.model.specs.Calls.{outcome_of, Call}
-use Rattle.model.specs.declared.{state.State.State, state.PendingNote.PendingNote, answer.Answer.Answer}
+use Rattle.model.specs.declared.{state.State.State, answer.Answer.Answer}
 use Rattle.model.specs.declared.command.Command.TheVariants.{Begin, Load, Force, Write, Release, StartCarry, Restamp, FinishCarry}
-use Rattle.model.specs.declared.state.PendingNote.TheVariants.{Absent, Present}
 use Rattle.model.specs.declared.answer.Answer.TheVariants.{Refused, Nothing, Done, Repaired}
 use Rattle.model.specs.declared.command.Command.TheVariants.{Change, Backup, Note}
 use Rattle.model.specs.Demand1.{StoresItem, Arrays}
@@ -33,6 +32,7 @@ use Rattle.called.specs.Unchanged.{memory_const, volume_const, RefusalsLeave, Ou
 use Rattle.face.specs.Face.{answer_number, told_range, report_after, faced, face_of}
 use Rattle.numbers.proofs.NumberLaws.{Stated, NoteTold, state-back, arrays}
 use Rattle.numbers.proofs.FitLaws.{numbers-back, stated-fits}
+use Rattle.model.specs.Types.{PendingNote, None, Some}
 
 -- ---- the numbers of a well-formed state fit
 
@@ -61,8 +61,8 @@ module _ (v : List ℕ) (k : ℕ) (s : State) (a : Arrays s) (ok : valid_volume 
 
   note-told : (p : PendingNote) → pending_note_fits (geometry_of v) s.notes s.durable p ≡ true → NoteTold p
   unfolding pending_note_fits note_layout
-  note-told Absent e = tt
-  note-told (Present n) e =
+  note-told None e = tt
+  note-told (Some n) e =
       let f = formed-note (geometry_of v) s.notes s.durable n e in
       let g = valid-facts v ok in
       let w : (is_written n || within (geometry_of v).slots n.slot) ≡ true = all-at

@@ -10,8 +10,7 @@ use Rattle.cases.specs.Calls.{begin, write, backup}
 use Rattle.model.specs.History.{Power, on}
 use Rattle.model.specs.Claim.{start_stands}
 use Rattle.model.specs.declared.{geometry.Heading.TheVariants.Second, change.Change.TheVariants.Put}
-use Rattle.model.specs.declared.{state.Entry.Entry, state.PendingNote.PendingNote}
-use Rattle.model.specs.declared.state.PendingNote.TheVariants.{Absent}
+use Rattle.model.specs.declared.{state.Entry.Entry}
 use Rattle.cases.specs.Rows.{Row, row}
 use Rattle.cases.specs.Opened.{opened}
 use Rattle.cases.specs.Words.{bit, numbers, refused, done, yes, no, accepted, refusal}
@@ -19,6 +18,7 @@ use Rattle.cases.specs.Build.{image, broken, written_note, backup_note, stored_i
 use Rattle.cases.specs.States.{entry, none, frame, pending_note, state_with}
 use Rattle.cases.specs.Refused.{numbers_in}
 use Rattle.cases.specs.Rings.{record_no, log_with, put}
+use Rattle.model.specs.Types.{PendingNote, None}
 
 -- what a Restart answers on a volume
 abbrev restarts : List ℕ → List ℕ
@@ -85,25 +85,25 @@ ring_edges =
     ∷ row "ring: 5 6 3 4, where 6 names 5, and where it names 2, which is below the run: 17"
     (restarts (six_names 5) ++ restarts (six_names 2)) (done ++ refused 17)
     ∷ row "ring: 12 at the largest number, durable or pending"
-    (appends (ring_of 2) (only_page 4294967294 0 0 Absent (entry 1 1 0 0 0))
-    ++ (appends (ring_of 2) (only_page 4294967295 0 0 Absent (entry 1 1 0 0 0))
-    ++ appends (ring_of 2) (only_page 4294967294 1 0 Absent (entry 1 1 0 0 0))))
+    (appends (ring_of 2) (only_page 4294967294 0 0 None (entry 1 1 0 0 0))
+    ++ (appends (ring_of 2) (only_page 4294967295 0 0 None (entry 1 1 0 0 0))
+    ++ appends (ring_of 2) (only_page 4294967294 1 0 None (entry 1 1 0 0 0))))
     (accepted ∷ accepted ∷ refusal 12 ∷ refusal 12 ∷ refusal 12 ∷ refusal 12 ∷ [])
     ∷ row "ring: 14 at the largest number"
-    (stores (ring_of 2) (only_page 1 0 4294967294 Absent (entry 1 1 0 0 0))
-    ++ stores (ring_of 2) (only_page 1 0 4294967295 Absent (entry 1 1 0 0 0)))
+    (stores (ring_of 2) (only_page 1 0 4294967294 None (entry 1 1 0 0 0))
+    ++ stores (ring_of 2) (only_page 1 0 4294967295 None (entry 1 1 0 0 0)))
     (accepted ∷ accepted ∷ refusal 14 ∷ refusal 14 ∷ [])
     ∷ row "ring: 14 at N 0"
-    (stores (ring_of 1) (only_page 1 0 0 Absent (entry 1 1 0 0 0))
-    ++ stores (ring_of 0) (only_page 1 0 0 Absent (entry 1 1 0 0 0)))
+    (stores (ring_of 1) (only_page 1 0 0 None (entry 1 1 0 0 0))
+    ++ stores (ring_of 0) (only_page 1 0 0 None (entry 1 1 0 0 0)))
     (accepted ∷ accepted ∷ refusal 14 ∷ refusal 14 ∷ [])
     ∷ row "ring: 13 before 14, and 14"
     (stores notes_needed (only_page 1 0 2 (pending_note 3 1 1 0 1) (entry 1 1 1 1 1))
-    ++ stores notes_needed (only_page 1 0 2 Absent (entry 1 1 1 1 1)))
+    ++ stores notes_needed (only_page 1 0 2 None (entry 1 1 1 1 1)))
     (refusal 13 ∷ refusal 13 ∷ refusal 14 ∷ refusal 14 ∷ [])
     ∷ row "ring: a backup's number without a slot is no noted backup: 12"
-    (appends records_stand (only_page 2 0 0 Absent (entry 2 2 0 0 2))
-    ++ appends records_stand (only_page 2 0 0 Absent (entry 2 2 0 1 2)))
+    (appends records_stand (only_page 2 0 0 None (entry 2 2 0 0 2))
+    ++ appends records_stand (only_page 2 0 0 None (entry 2 2 0 1 2)))
     (refusal 12 ∷ refusal 12 ∷ accepted ∷ accepted ∷ [])
     ∷ row "ring: a start stands by the backup at its noted number, or by an own image there or above"
     (stands (at 2) (broken (at 3)) ∷ stands (at 1) (broken (at 3)) ∷ stands (broken (at 2)) (at 1)

@@ -10,7 +10,6 @@ use Rattle.model.specs.Restart.{restart_of}
 use Rattle.model.specs.declared.geometry.Heading.{Heading}
 use Rattle.model.specs.declared.geometry.Heading.TheVariants.{First, Second}
 use Rattle.model.specs.declared.{state.Entry.Entry, state.Frame.Frame}
-use Rattle.model.specs.declared.state.PendingNote.TheVariants.{Absent}
 use Rattle.cases.specs.Rows.{Row, row, Hold}
 use Rattle.cases.specs.Opened.{opened}
 use Rattle.cases.specs.Words.{bit, numbers, done, yes, no}
@@ -18,6 +17,7 @@ use Rattle.cases.specs.Build.{memory}
 use Rattle.cases.specs.States.{entry, none, frame, state_with}
 use Rattle.cases.specs.Rings.{log_with}
 use Rattle.cases.proofs.Cases.{all}
+use Rattle.model.specs.Types.{None}
 
 -- what a Restart answers on L 4 with records 1 to 4, and the count that it finds
 abbrev pub filled : Heading → List ℕ
@@ -27,7 +27,7 @@ filled h =
 
 -- whether a state with two durable records, these frames and these entries of pages 1 and 2 is well formed: P 2, B 1
 abbrev pub sound : Frame → Frame → Entry → Entry → ℕ
-sound f g e k = bit (well_formed (geometry_of (empty_volume Second 2 1 4 4)) 2 (state_with 2 0 0 Absent f g e k none))
+sound f g e k = bit (well_formed (geometry_of (empty_volume Second 2 1 4 4)) 2 (state_with 2 0 0 None f g e k none))
 
 unfoldable pub open_points : List Row
 unfolding opened

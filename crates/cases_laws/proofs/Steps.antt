@@ -14,15 +14,15 @@ use Rattle.model.specs.Outcome.{StoredItem, Outcome, decided}
 use Rattle.model.specs.Effects.{note_stored, backup_done, begin_done, change_done, force_done, load_done, release_done, restamp_done, write_outcome}
 use Rattle.model.specs.Calls.{Call, rows_of, outcome_of}
 use Rattle.model.specs.Restart.{restart_of}
-use Rattle.model.specs.declared.{state.PendingNote.PendingNote, state.State.State}
+use Rattle.model.specs.declared.{state.State.State}
 use Rattle.model.specs.declared.command.Command.TheVariants.{Begin, Load, Force, Write, Release, StartCarry, Restamp, FinishCarry}
-use Rattle.model.specs.declared.state.PendingNote.TheVariants.{Absent, Present}
 use Rattle.model.specs.declared.command.Command.TheVariants.{Change, Backup, Note}
 use Rattle.model.specs.AbstractLog.{AbstractLog, forget, step_call}
 use Rattle.model.specs.History.{Power, off, on, Machine, Event, restart, perform, crash, crash_in, damage, lent, call_in}
 use Rattle.model.specs.History.{refused_in, step, step_log}
 use Rattle.cases.specs.Build.{asked_in}
 use Rattle.cases.specs.Worked.{is_refused, call_step, event_step, answer_to}
+use Rattle.model.specs.Types.{PendingNote, None, Some}
 
 -- ---- a call is refused exactly where a row of its table holds
 
@@ -31,8 +31,8 @@ either true o p h k = h
 either false o p h k = k
 
 noted : (v m : List ℕ) (s : State) (n : PendingNote) → is_refused (note_stored v m s n).answer ≡ false
-noted v m s Absent = refl
-noted v m s (Present n) = refl
+noted v m s None = refl
+noted v m s (Some n) = refl
 
 by_call : (c : Call) (v m : List ℕ) (s : State) → is_refused (outcome_of c v m s).answer ≡ not (eqb (first_of (rows_of c v m s)) 0)
 unfolding decided begin_done load_done change_done force_done write_outcome backup_done release_done restamp_done

@@ -10,7 +10,6 @@ use Rattle.model.specs.Outcome.{one_item}
 use Rattle.model.specs.Restart.{restart_of}
 use Rattle.model.specs.History.{on}
 use Rattle.model.specs.declared.{geometry.Heading.TheVariants.Second, change.Change.TheVariants.Format}
-use Rattle.model.specs.declared.state.PendingNote.TheVariants.{Absent}
 use Rattle.cases.specs.Rows.{Row, row, Hold}
 use Rattle.cases.specs.Opened.{opened}
 use Rattle.cases.specs.Words.{numbers, refused, done, accepted, refusal}
@@ -19,6 +18,7 @@ use Rattle.cases.specs.States.{entry, none, frame, state_with}
 use Rattle.cases.specs.Calls.{write, backup}
 use Rattle.cases.specs.Refused.{numbers_in}
 use Rattle.cases.proofs.Cases.{all}
+use Rattle.model.specs.Types.{None}
 
 -- P 1, B 1, L 4, N 3: record 1 of page 1, its written note 1, its backup note 3, and this note in slot 2
 abbrev pub between : List ℕ → List ℕ
@@ -31,7 +31,7 @@ between n =
 abbrev pub fourth : List ℕ → List ℕ
 fourth n =
     numbers_in
-    (on (replicate 1536 0) (state_with 1 0 3 Absent (frame 1 true) (frame 0 false) (entry 1 1 1 0 0) none none))
+    (on (replicate 1536 0) (state_with 1 0 3 None (frame 1 true) (frame 0 false) (entry 1 1 1 0 0) none none))
     (between n) (write 1 ∷ backup 1 1 ∷ [])
 
 unfoldable pub notes_above : List Row

@@ -2,8 +2,8 @@
 use Rattle.std.specs.Prelude.{ℕ, ◌+◌, ◌*◌, ◌%◌, Bool, true, false, cond, ◌&&◌, List, [], ◌∷◌, ◌++◌, eqb, leb, length, get_or}
 use Rattle.model.specs.Tables.{all, every, tabulate}
 use Rattle.model.specs.Bytes.{part}
-use Rattle.model.specs.declared.{state.Entry.Entry, state.Frame.Frame, state.PendingNote.PendingNote, state.State.State}
-use Rattle.model.specs.declared.state.PendingNote.TheVariants.{Absent, Present}
+use Rattle.model.specs.declared.{state.Entry.Entry, state.Frame.Frame, state.State.State}
+use Rattle.model.specs.Types.{PendingNote, None, Some}
 
 -- ---- a state's numbers
 
@@ -13,8 +13,8 @@ bit_of false = 0
 
 -- kind (0: there is none), number, page, slot, lsn
 abbrev pub note_numbers : PendingNote → List ℕ
-note_numbers Absent = 0 ∷ 0 ∷ 0 ∷ 0 ∷ 0 ∷ []
-note_numbers (Present n) = n.kind ∷ n.number ∷ n.page ∷ n.slot ∷ n.lsn ∷ []
+note_numbers None = 0 ∷ 0 ∷ 0 ∷ 0 ∷ 0 ∷ []
+note_numbers (Some n) = n.kind ∷ n.number ∷ n.page ∷ n.slot ∷ n.lsn ∷ []
 
 unfoldable pub frame_numbers : List Frame → List ℕ
 frame_numbers [] = []
@@ -33,8 +33,8 @@ numbers_of s =
 
 abbrev pub note_from : ℕ → ℕ → ℕ → ℕ → ℕ → PendingNote
 note_from kind number page slot lsn =
-    cond (eqb kind 0) Absent
-    (Present (record { number = number; page = page % 65536; kind = kind % 256; slot = slot % 256; lsn = lsn }))
+    cond (eqb kind 0) None
+    (Some (record { number = number; page = page % 65536; kind = kind % 256; slot = slot % 256; lsn = lsn }))
 
 abbrev pub frame_from : ℕ → ℕ → Frame
 frame_from page dirty = record { page = page % 65536; dirty = eqb dirty 1 }

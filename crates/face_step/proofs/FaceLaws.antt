@@ -22,10 +22,9 @@ use Rattle.model.specs.Outcome.{StoredItem, nothing, one_item, new_heading, Outc
 use Rattle.model.specs.Effects.{note_stored, backup_done, begin_done, change_done, force_done, load_done, release_done, restamp_done, write_outcome}
 use Rattle.model.specs.Calls.{Call, rows_of, done_of, outcome_of, restamp_of, is_call, no_payload}
 use Rattle.model.specs.Restart.{restart_of}
-use Rattle.model.specs.declared.{geometry.Geometry.Geometry, state.State.State, state.PendingNote.PendingNote}
+use Rattle.model.specs.declared.{geometry.Geometry.Geometry, state.State.State}
 use Rattle.model.specs.declared.answer.Answer.{Answer}
 use Rattle.model.specs.declared.command.Command.TheVariants.{Begin, Load, Force, Write, Release, StartCarry, Restamp, FinishCarry}
-use Rattle.model.specs.declared.state.PendingNote.TheVariants.{Absent, Present}
 use Rattle.model.specs.declared.answer.Answer.TheVariants.{Refused, Nothing, Done, Repaired}
 use Rattle.model.specs.declared.command.Command.TheVariants.{Change, Backup, Note}
 use Rattle.model.specs.Demand1.{StoresItem, Arrays}
@@ -36,6 +35,7 @@ use Rattle.face_step.specs.declared.range.Range.{Range}
 use Rattle.numbers.proofs.NumberLaws.{arrays}
 use Rattle.numbers.proofs.FitLaws.{numbers-back}
 use Rattle.volume.proofs.Readings.{unknown-read}
+use Rattle.model.specs.Types.{PendingNote, None, Some}
 
 -- ---- the range that the code finds
 
@@ -127,8 +127,8 @@ module _ (v m : List ℕ) (s : State) where
 
   noted : (p : PendingNote) → Aimed (target (Note, no_payload) v s) (note_stored v m s p)
   unfolding is_done
-  noted Absent = refl
-  noted (Present n) = refl
+  noted None = refl
+  noted (Some n) = refl
 
   aimed : (c : Call) → Arrays s → Aimed (target c v s) (outcome_of c v m s)
   unfolding is_done decided begin_done load_done change_done force_done write_outcome backup_done release_done restamp_done

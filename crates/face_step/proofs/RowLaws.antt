@@ -23,15 +23,15 @@ use Rattle.model.specs.Outcome.{Outcome, unchanged, decided}
 use Rattle.model.specs.Effects.{appended_state, forced_state, noted_state, note_stored, backup_done, begin_done, change_done}
 use Rattle.model.specs.Effects.{force_done, load_done, release_done, restamp_done, write_outcome}
 use Rattle.model.specs.Calls.{outcome_of, Call}
-use Rattle.model.specs.declared.{state.Entry.Entry, state.State.State, state.PendingNote.PendingNote}
+use Rattle.model.specs.declared.{state.Entry.Entry, state.State.State}
 use Rattle.model.specs.declared.command.Command.TheVariants.{Begin, Load, Force, Write, Release, StartCarry, Restamp, FinishCarry}
-use Rattle.model.specs.declared.state.PendingNote.TheVariants.{Absent, Present}
 use Rattle.model.specs.declared.command.Command.TheVariants.{Change, Backup, Note}
 use Rattle.face.specs.Numbers.{state_of, numbers_of, fits}
 use Rattle.log_scan.specs.Rows.{row_of}
 use Rattle.numbers.proofs.NumberLaws.{arrays}
 use Rattle.numbers.proofs.FitLaws.{numbers-back}
 use Rattle.face_step.specs.Targets.{touched, note_page}
+use Rattle.model.specs.Types.{PendingNote, None, Some}
 
 set-gone : (es : List Entry) (i : ℕ) (e : Entry) → length es ≤ i → set es i e ≡ es
 set-gone [] i e h = refl
@@ -64,8 +64,8 @@ module _ (v m : List ℕ) (s : State) where
 
   noted : (p : PendingNote) → length s.index ≡ 64 → OneRow (row_of (note_page p)) s.index (note_stored v m s p).state.index
   unfolding noted_state enter_note
-  noted Absent l = none _ s.index
-  noted (Present n) l = own n.page s.index _ l
+  noted None l = none _ s.index
+  noted (Some n) l = own n.page s.index _ l
 
   pub one-row : (c : Call) → length s.index ≡ 64
       → OneRow (row_of (touched c m s.durable s.note)) s.index (outcome_of c v m s).state.index

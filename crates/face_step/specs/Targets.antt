@@ -9,13 +9,13 @@ use Rattle.model.specs.Passes.{image_count, image_place, first_old}
 use Rattle.model.specs.Outcome.{StoredItem, nothing, one_item, new_heading}
 use Rattle.model.specs.Calls.{Call, is_call}
 use Rattle.model.specs.declared.{geometry.Geometry.Geometry, geometry.Heading.TheVariants.First}
-use Rattle.model.specs.declared.{state.PendingNote.PendingNote, state.State.State, answer.Answer.Answer}
+use Rattle.model.specs.declared.{state.State.State, answer.Answer.Answer}
 use Rattle.model.specs.declared.command.Command.TheVariants.{Begin, Load, Force, Write, Release, StartCarry, Restamp, FinishCarry}
-use Rattle.model.specs.declared.state.PendingNote.TheVariants.{Absent, Present}
 use Rattle.model.specs.declared.answer.Answer.TheVariants.{Refused, Nothing, Done, Repaired}
 use Rattle.model.specs.declared.command.Command.TheVariants.{Change, Backup, Note}
 use Rattle.reports.specs.Examine.{class_number, start_number}
 use Rattle.face_step.specs.declared.range.Range.{Range}
+use Rattle.model.specs.Types.{PendingNote, None, Some}
 
 pub data Target : Type 0 where
   none : Target
@@ -53,8 +53,8 @@ range_of g (place p) = record { at = start g p % 4294967296; size = width p }
 range_of g front = record { at = 0; size = 4 }
 
 abbrev pub note_page : PendingNote → ℕ
-note_page Absent = 0
-note_page (Present n) = n.page
+note_page None = 0
+note_page (Some n) = n.page
 
 -- the page whose entry a call may change, by the memory, the durable count and the pending note; 0 where it changes none
 abbrev pub touched : Call → List ℕ → ℕ → PendingNote → ℕ

@@ -18,11 +18,10 @@ use Rattle.model.specs.Refusals.{page_dirty, begin_rows, load_rows, change_rows,
 use Rattle.model.specs.Outcome.{StoredItem, nothing, one_item, Outcome, volume_after, decided}
 use Rattle.model.specs.Effects.{is_good, note_stored, backup_done, begin_done, change_done, force_done, load_done, release_done, write_outcome}
 use Rattle.model.specs.Calls.{Call, rows_of, outcome_of, no_payload}
-use Rattle.model.specs.declared.{geometry.Geometry.Geometry, item.Note.Note, state.PendingNote.PendingNote}
+use Rattle.model.specs.declared.{geometry.Geometry.Geometry, item.Note.Note}
 use Rattle.model.specs.declared.state.State.{State}
 use Rattle.model.specs.declared.command.Command.TheVariants.{Begin, Load, Force, Write, Release, StartCarry, Restamp, FinishCarry}
 use Rattle.model.specs.declared.answer.Answer.TheVariants.{Done, Repaired}
-use Rattle.model.specs.declared.state.PendingNote.TheVariants.{Absent, Present}
 use Rattle.model.specs.declared.command.Command.TheVariants.{Change, Backup, Note as NoteCall}
 use Rattle.model.specs.AbstractLog.{move_first, Logged, AbstractLog, Left, old, new, torn, forget, step_call, step_cut}
 use Rattle.model.specs.History.{off, left_volume, left_past, past_after, item_sealed, torn_fits, payload_fits}
@@ -36,6 +35,7 @@ use Rattle.history.proofs.Images.{StoreOk, write_store, backup-store}
 use Rattle.history.proofs.Forces.{force-store, forced, none-pending, some-pending, keep-force}
 use Rattle.history.proofs.Persists.{Writes, writes, written, keep-write, backs, keep-backup, note-store}
 use Rattle.history.proofs.Persists.{keep-note}
+use Rattle.model.specs.Types.{PendingNote, None, Some}
 
 -- ---- what these calls store counts as stored
 
@@ -169,8 +169,8 @@ module _ {C : Type 0} {g : Geometry} {v m : List ℕ} {past : List StoredItem} {
 
   cut-note : (y : PendingNote) → PendingOk C g v k x.ns y → (l : Left) → torn_fits (geometry_of v) (note_stored v m s y).stored l ≡ true
       → Cut (note_stored v m s y).stored l (record { durable = k; pending = w })
-  cut-note Absent t l f = cut-nothing l w
-  cut-note (Present y) t l f =
+  cut-note None t l f = cut-nothing l w
+  cut-note (Some y) t l f =
       cut-item (note_slot (geometry_of v) (s.notes + 1)) (note_bytes y) (x.ns ++ (y ∷ [])) (rw (geo x) (note-store x y t)) l f
 
   cut-decided : (rows : List Row) (done : Outcome) (b : AbstractLog) (l : Left)

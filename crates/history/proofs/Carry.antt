@@ -19,13 +19,12 @@ use Rattle.model.specs.Outcome.{StoredItem, one_item}
 use Rattle.model.specs.AbstractLog.{Logged}
 use Rattle.model.specs.History.{stored_before}
 use Rattle.model.specs.declared.{geometry.Geometry.Geometry, geometry.Heading.TheVariants.First, item.Note.Note}
-use Rattle.model.specs.declared.state.PendingNote.{PendingNote}
-use Rattle.model.specs.declared.state.PendingNote.TheVariants.{Absent, Present}
 use Rattle.history.proofs.Marks.{mark_at}
 use Rattle.history.proofs.Records.{ReplayOf, Faithful}
 use Rattle.history.proofs.Disk.{Holds, Noted, Copy}
 use Rattle.history.proofs.Inv.{Image, Past, past-cons, PendingOk}
 use Rattle.history.proofs.Stores.{page-holds, page-noted, page-slots, slot-holds, slot-noted, slot_same, slot-other, pending-keep}
+use Rattle.model.specs.Types.{PendingNote, None, Some}
 
 -- ---- an image in the place of another
 
@@ -79,8 +78,8 @@ module _ {C : Type 0} (g : Geometry) (v : List ℕ) (k : List Logged) (h : Holds
           let f = keeps p (subst (λ (y : Place). Faithful g p k (item g v y)) (sym e) (h.images p w.0 w.1)) in
           pending-keep C g v (store g v (page_at p) xs) k k ns y (λ q z f. f) (λ z f. f)
           (page-slots g v k h ns o p xs w.0 w.1 five f) t
-      go (slot_at b) e i Absent t = tt
-      go (slot_at b) e i (Present y) t = (
+      go (slot_at b) e i None t = tt
+      go (slot_at b) e i (Some y) t = (
         t.0,
         t.1,
         (λ z. faithful z (ℕ_discrete y.slot b)),

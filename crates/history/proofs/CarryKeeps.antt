@@ -26,10 +26,9 @@ use Rattle.model.specs.Refusals.{start_carry_rows}
 use Rattle.model.specs.Outcome.{StoredItem, one_item, new_heading}
 use Rattle.model.specs.AbstractLog.{Logged}
 use Rattle.model.specs.History.{on, off, stored_before, pending_carries, page_carries, carriable}
-use Rattle.model.specs.declared.{geometry.Geometry.Geometry, state.Entry.Entry, state.PendingNote.PendingNote}
+use Rattle.model.specs.declared.{geometry.Geometry.Geometry, state.Entry.Entry}
 use Rattle.model.specs.declared.state.State.{State}
 use Rattle.model.specs.declared.geometry.Heading.TheVariants.{First, Second}
-use Rattle.model.specs.declared.state.PendingNote.TheVariants.{Absent, Present}
 use Rattle.history.proofs.Marks.{mark_at, mark-ok}
 use Rattle.history.proofs.Entries.{slot-spare, spare-tabled}
 use Rattle.history.proofs.Records.{Faithful}
@@ -41,6 +40,7 @@ use Rattle.history.proofs.Turn.{SameImages, SamePending, turn_holds, turn-noted,
 use Rattle.history.proofs.Carry.{image_holds, image-noted, image-pending, restamp-lsn, restamp-valid}
 use Rattle.history.proofs.Carry.{restamp-faithful, restamp-image, restamp-past}
 use Rattle.history.proofs.Context.{Ctx, sized, geo, entry-is}
+use Rattle.model.specs.Types.{PendingNote, None, Some}
 
 module _ {C : Type 0} {g : Geometry} {v m : List ℕ} {past : List StoredItem} {s : State} {k w : List Logged}
     (x : Ctx C g v m past s k w) where
@@ -107,8 +107,8 @@ module _ {C : Type 0} {g : Geometry} {v m : List ℕ} {past : List StoredItem} {
         }
 
     started-pending : (y : PendingNote) → pending_carries g v y ≡ true → SamePending g carry_tag v y
-    started-pending Absent t = tt
-    started-pending (Present y) t = λ z.
+    started-pending None t = tt
+    started-pending (Some y) t = λ z.
         alike-started g y.page (item g v (slot_at y.slot)) tag
         (not-true (only_new g y.page (item g v (slot_at y.slot))) (rw z at t))
 
@@ -151,8 +151,8 @@ module _ {C : Type 0} {g : Geometry} {v m : List ℕ} {past : List StoredItem} {
         record { own = finished-own; copy = λ p lo hi nz. finished-copy p lo hi (mark_at p x.ns (length x.ns)).slot nz refl }
 
     finished-pending : (y : PendingNote) → PendingOk C g v k x.ns y → SamePending g (tag_of Second) v y
-    finished-pending Absent t = tt
-    finished-pending (Present y) t = λ z.
+    finished-pending None t = tt
+    finished-pending (Some y) t = λ z.
         let bk = t.0.backed z in
         let i : within g.slots y.slot ≡ true = within-holds g.slots y.slot bk.low bk.high in
         let unused : slot_used y.slot s.index ≡ false =

@@ -25,8 +25,6 @@ use Rattle.model.specs.AbstractLog.{Logged, AbstractLog, forget}
 use Rattle.model.specs.Passes.{is_image, valid_as_noted, passes_at}
 use Rattle.model.specs.History.{Power, off, on, restarted, stored_before}
 use Rattle.model.specs.declared.{geometry.Geometry.Geometry, item.Note.Note, state.Entry.Entry, state.Frame.Frame}
-use Rattle.model.specs.declared.state.PendingNote.{PendingNote}
-use Rattle.model.specs.declared.state.PendingNote.TheVariants.{Absent, Present}
 use Rattle.history.proofs.Logs.{last_at}
 use Rattle.history.proofs.Marks.{mark_at}
 use Rattle.history.proofs.Entries.{entry_from, Indexed, spare-tabled, slot-spare}
@@ -40,6 +38,7 @@ use Rattle.history.proofs.LogScan.{durable-count}
 use Rattle.history.proofs.Inv.{image-fine, Past, PendingOk, frame, Alive, PowerInv, Inv}
 use Rattle.history.proofs.Stores.{page-holds, page-noted, page-slots, slot-holds, slot-noted, slot_same, slot-other, pending-keep}
 use Rattle.history.proofs.Memory.{memory-is}
+use Rattle.model.specs.Types.{PendingNote, None, Some}
 
 -- ---- Restart
 
@@ -165,8 +164,8 @@ module _ {C : Type 0} (g : Geometry) (v : List ℕ) (k : List Logged) (h : Holds
 
   pending-damage : (i : ℕ) (xs : List ℕ) → 1 ≤ i → i ≤ g.slots → length xs ≡ 256 → (C → ⊥) → SlotDamage g k ns i xs → (y : PendingNote)
       → PendingOk C g v k ns y → PendingOk C g (store g v (slot_at i) xs) k ns y
-  pending-damage i xs lo hi five no-c d Absent t = tt
-  pending-damage i xs lo hi five no-c d (Present y) t = (t.0, t.1, (λ z. go z (ℕ_discrete y.slot i)), t.3, (λ c z. absurd (no-c c)))
+  pending-damage i xs lo hi five no-c d None t = tt
+  pending-damage i xs lo hi five no-c d (Some y) t = (t.0, t.1, (λ z. go z (ℕ_discrete y.slot i)), t.3, (λ c z. absurd (no-c c)))
     where
       go : is_written y ≡ false → Dec (y.slot ≡ i) → Faithful g y.page k (item g (store g v (slot_at i) xs) (slot_at y.slot))
       go z (yes e) =

@@ -26,9 +26,8 @@ use Rattle.model.specs.Effects.{with_frame, with_frames, appended_state, forced_
 use Rattle.model.specs.Effects.{begin_done, change_done, force_done, load_done, release_done, restamp_done, write_outcome}
 use Rattle.model.specs.Calls.{begin_of, load_of, release_of, Call, outcome_of, no_payload}
 use Rattle.model.specs.declared.{geometry.Geometry.Geometry, answer.Answer.TheVariants.Done, state.Entry.Entry}
-use Rattle.model.specs.declared.{state.Frame.Frame, state.PendingNote.PendingNote, state.State.State}
+use Rattle.model.specs.declared.{state.Frame.Frame, state.State.State}
 use Rattle.model.specs.declared.command.Command.TheVariants.{Begin, Load, Force, Write, Release, StartCarry, Restamp, FinishCarry}
-use Rattle.model.specs.declared.state.PendingNote.TheVariants.{Absent, Present}
 use Rattle.model.specs.declared.command.Command.TheVariants.{Change, Backup, Note}
 use Rattle.model.specs.AbstractLog.{Logged, AbstractLog, logged_change}
 use Rattle.model.specs.History.{on}
@@ -47,6 +46,7 @@ use Rattle.history.proofs.Refusals.{call-refusal, own_rows, rows_are}
 use Rattle.history.proofs.Theorem.{load-refusal, loaded_bytes}
 use Rattle.history.proofs.Steps.{context}
 use Rattle.history.proofs.Reached.{present, tied, live}
+use Rattle.model.specs.Types.{PendingNote, None, Some}
 
 -- what a call that took page p out of its frame leaves, in a machine that keeps the invariant
 record Leaves (g : Geometry) (v m : List ℕ) (s : State) (p : ℕ) (o : Outcome) : Type 0 where
@@ -262,8 +262,8 @@ module _ {C : Type 0} {g : Geometry} {v m : List ℕ} {past : List StoredItem} {
   leaves (Note, _) = by-table (note_rows v m s) (note_stored v m s s.note) (λ e. noted s.note)
     where
       noted : (y : PendingNote) → held (note_stored v m s y).state p ≡ false → Leaves g v m s p (note_stored v m s y)
-      noted Absent = stays _ (refl, λ i. refl)
-      noted (Present y) = stays _ (refl, λ i. refl)
+      noted None = stays _ (refl, λ i. refl)
+      noted (Some y) = stays _ (refl, λ i. refl)
 
 -- ---- every legal history
 

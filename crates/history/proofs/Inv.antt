@@ -21,14 +21,14 @@ use Rattle.model.specs.Outcome.{StoredItem, nothing, one_item, new_heading}
 use Rattle.model.specs.AbstractLog.{Logged, AbstractLog}
 use Rattle.model.specs.History.{Power, off, on, place_numbers, equal_place, stored_before}
 use Rattle.model.specs.declared.{geometry.Geometry.Geometry, item.Note.Note, state.Frame.Frame}
-use Rattle.model.specs.declared.{state.PendingNote.PendingNote, state.State.State}
-use Rattle.model.specs.declared.state.PendingNote.TheVariants.{Absent, Present}
+use Rattle.model.specs.declared.{state.State.State}
 use Rattle.history.proofs.Logs.{no_logged, at, last_at, last_of, body_of}
 use Rattle.history.proofs.Marks.{NoteOk, Later}
 use Rattle.history.proofs.Entries.{Indexed}
 use Rattle.history.proofs.Leaf.{valid-page}
 use Rattle.history.proofs.Records.{AllFair, rec_of, ReplayOf, Faithful, replay-grows}
 use Rattle.history.proofs.Disk.{Holds, Noted, Copy, Spare}
+use Rattle.model.specs.Types.{PendingNote, None, Some}
 
 -- ---- what calls stored
 
@@ -105,8 +105,8 @@ Room g ns = (1 ≤ g.notes) × ((i : ℕ) → i < length ns → length ns ≡ i 
 
 -- the note that is pending
 abbrev pub PendingOk : Type 0 → Geometry → List ℕ → List Logged → List Note → PendingNote → Type 0
-PendingOk C g v k ns Absent = Unit {0}
-PendingOk C g v k ns (Present x) =
+PendingOk C g v k ns None = Unit {0}
+PendingOk C g v k ns (Some x) =
     NoteOk g.pages g.slots k ns (length ns) x × (length ns < most_notes g)
     × (is_written x ≡ false → Faithful g x.page k (item g v (slot_at x.slot))) × Room g ns
     × (C → is_written x ≡ false → Copy g v x.page x.slot x.lsn)

@@ -23,9 +23,8 @@ use Rattle.model.specs.Outcome.{StoredItem, nothing, one_item, new_heading, deci
 use Rattle.model.specs.Effects.{note_stored, backup_done, begin_done, change_done, force_done, load_done, release_done, restamp_done, write_outcome}
 use Rattle.model.specs.Calls.{Call, outcome_of, force_of, note_call}
 use Rattle.model.specs.declared.{command.Command.Command, geometry.Geometry.Geometry, item.Note.Note}
-use Rattle.model.specs.declared.{state.PendingNote.PendingNote, state.State.State}
+use Rattle.model.specs.declared.{state.State.State}
 use Rattle.model.specs.declared.command.Command.TheVariants.{Begin, Load, Force, Write, Release, StartCarry, Restamp, FinishCarry}
-use Rattle.model.specs.declared.state.PendingNote.TheVariants.{Absent, Present}
 use Rattle.model.specs.declared.command.Command.TheVariants.{Change, Backup, Note as NoteCall}
 use Rattle.model.specs.AbstractLog.{Logged}
 use Rattle.model.specs.RingClaim.{SpareRecord, SpareNote, RecordFree, NoteFree}
@@ -38,6 +37,7 @@ use Rattle.history.proofs.Context.{Ctx, geo, len}
 use Rattle.history.proofs.Asked.{read, whole}
 use Rattle.history.proofs.Lost.{spare-record}
 use Rattle.history.proofs.Marks.{note as note_in}
+use Rattle.model.specs.Types.{PendingNote, None, Some}
 
 -- ---- which calls store there
 
@@ -98,8 +98,8 @@ module _ (v m : List ℕ) (s : State) where
       (λ t. rw t (go s.note)) (λ t. rw t (λ z. absurd (omega arith), λ z. refl))
     where
       go : (n : PendingNote) → (sort_of (note_stored v m s n).stored ≡ 3 → NoteCall ≡ Force) × (sort_of (note_stored v m s n).stored ≡ 4 → NoteCall ≡ NoteCall)
-      go Absent = (λ z. absurd (omega arith), λ z. refl)
-      go (Present x) = (λ z. absurd (omega arith), λ z. refl)
+      go None = (λ z. absurd (omega arith), λ z. refl)
+      go (Some x) = (λ z. absurd (omega arith), λ z. refl)
   only (StartCarry, _) = by_cases (eqb (first_of (start_carry_rows v m s)) 0)
       (λ t. rw t (λ z. absurd (omega arith), λ z. absurd (omega arith))) (λ t. rw t (λ z. absurd (omega arith), λ z. absurd (omega arith)))
   only (Restamp, _) = by_cases (eqb (first_of (restamp_rows v m s)) 0)
@@ -124,16 +124,16 @@ module _ (v m : List ℕ) (s : State) where
       (λ t. rw t (λ e. absurd (let z : 0 ≡ 3 = ap sort_of e in omega arith)))
 
   note-stores : (i : ℕ) (xs : List ℕ) → (note_call v m s).stored ≡ one_item (note_at i) xs
-      → (x : Note) × (s.note ≡ Present x) × (slot_of (geometry_of v).notes (s.notes + 1) ≡ i)
+      → (x : Note) × (s.note ≡ Some x) × (slot_of (geometry_of v).notes (s.notes + 1) ≡ i)
   unfolding decided
   note-stores i xs = by_cases (eqb (first_of (note_rows v m s)) 0)
       (λ t. rw t (go s.note refl))
       (λ t. rw t (λ e. absurd (let z : 0 ≡ 4 = ap sort_of e in omega arith)))
     where
       go : (n : PendingNote) → s.note ≡ n → (note_stored v m s n).stored ≡ one_item (note_at i) xs
-          → (x : Note) × (s.note ≡ Present x) × (slot_of (geometry_of v).notes (s.notes + 1) ≡ i)
-      go Absent q e = absurd (let z : 0 ≡ 4 = ap sort_of e in omega arith)
-      go (Present x) q e = (x, q, ap slot_in e)
+          → (x : Note) × (s.note ≡ Some x) × (slot_of (geometry_of v).notes (s.notes + 1) ≡ i)
+      go None q e = absurd (let z : 0 ≡ 4 = ap sort_of e in omega arith)
+      go (Some x) q e = (x, q, ap slot_in e)
 
 -- ---- what they overwrite
 
@@ -176,7 +176,7 @@ module _ {C : Type 0} {g : Geometry} {v m : List ℕ} {past : List StoredItem} {
       rw (geo x) (log-free st.0 i (rw (geo x, n) at st.1))
 
   -- the slot of the next note
-  notes-free : (y : Note) → s.note ≡ Present y → (i : ℕ) → slot_of g.notes (suc (length x.ns)) ≡ i
+  notes-free : (y : Note) → s.note ≡ Some y → (i : ℕ) → slot_of g.notes (suc (length x.ns)) ≡ i
       → sealed 12 (item g v (note_at i)) ≡ true → SpareNote v i (note_of (item g v (note_at i)))
   notes-free y p i e t =
       elim (dec_lt (length x.ns) g.notes) [
@@ -190,7 +190,7 @@ module _ {C : Type 0} {g : Geometry} {v m : List ℕ} {past : List StoredItem} {
             old j q same
       ]
     where
-      room : PendingOk C g v k x.ns (Present y)
+      room : PendingOk C g v k x.ns (Some y)
       room = subst (λ (n : PendingNote). PendingOk C g v k x.ns n) p x.al.note-ok
 
       old : (j : ℕ) → length x.ns ≡ j + g.notes → slot_of g.notes (suc j) ≡ i → SpareNote v i (note_of (item g v (note_at i)))

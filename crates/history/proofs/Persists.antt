@@ -20,10 +20,9 @@ use Rattle.model.specs.Outcome.{StoredItem, one_item, Outcome, volume_after, unc
 use Rattle.model.specs.Effects.{with_frame, with_frames, next_note, noted_state, note_stored}
 use Rattle.model.specs.AbstractLog.{Logged}
 use Rattle.model.specs.History.{on}
-use Rattle.model.specs.declared.{geometry.Geometry.Geometry, item.Note.Note, state.PendingNote.PendingNote}
+use Rattle.model.specs.declared.{geometry.Geometry.Geometry, item.Note.Note}
 use Rattle.model.specs.declared.state.State.{State}
 use Rattle.model.specs.declared.answer.Answer.TheVariants.{Done, Nothing}
-use Rattle.model.specs.declared.state.PendingNote.TheVariants.{Absent, Present}
 use Rattle.history.proofs.Marks.{len_n}
 use Rattle.history.proofs.Disk.{Spare}
 use Rattle.history.proofs.Asked.{notes-room, notes-asked}
@@ -35,10 +34,11 @@ use Rattle.history.proofs.FrameSteps.{frames-clean}
 use Rattle.history.proofs.Context.{Ctx, Preserved, passed, in-range, sized, geo, Found, found-frame, keep_same}
 use Rattle.history.proofs.Images.{StoreOk, sealed-size, sealed-valid, sealed-lsn, image-is, write-note}
 use Rattle.history.proofs.Images.{backup-note, write_store, backup-store}
+use Rattle.model.specs.Types.{PendingNote, None, Some}
 
-no_note : (n : PendingNote) → note_pending n ≡ false → n ≡ Absent
-no_note Absent e = refl
-no_note (Present y) e = absurd (true-not-false refl e)
+no_note : (n : PendingNote) → note_pending n ≡ false → n ≡ None
+no_note None e = refl
+no_note (Some y) e = absurd (true-not-false refl e)
 
 module _ {C : Type 0} {g : Geometry} {v m : List ℕ} {past : List StoredItem} {s : State} {k w : List Logged}
     (x : Ctx C g v m past s k w) where
@@ -47,7 +47,7 @@ module _ {C : Type 0} {g : Geometry} {v m : List ℕ} {past : List StoredItem} {
   -- what a write that is not refused has been asked
   pub record Writes (p : ℕ) : Type 0 where
     pub frame-of : Found x p
-    pub ready : page_dirty s p ≡ true → (s.note ≡ Absent) × (notes_full g v s ≡ false) × (image_lsn (frame_bytes m (holder s p)) ≤ s.durable)
+    pub ready : page_dirty s p ≡ true → (s.note ≡ None) × (notes_full g v s ≡ false) × (image_lsn (frame_bytes m (holder s p)) ≤ s.durable)
 
   pub writes : (p : ℕ) → first_of (write_rows v m s p) ≡ 0 → Writes p
   unfolding write_rows
@@ -182,7 +182,7 @@ module _ {C : Type 0} {g : Geometry} {v m : List ℕ} {past : List StoredItem} {
 
   -- ---- Note
 
-  pub note-store : (y : Note) → PendingOk C g v k x.ns (Present y)
+  pub note-store : (y : Note) → PendingOk C g v k x.ns (Some y)
       → StoreOk C g v past k x.ns (note_slot g (s.notes + 1)) (note_bytes y) k (x.ns ++ (y ∷ []))
   note-store y t =
       let e : s.notes + 1 ≡ suc (length x.ns) = omega (arith, x.al.notes-is) in
@@ -200,8 +200,8 @@ module _ {C : Type 0} {g : Geometry} {v m : List ℕ} {past : List StoredItem} {
   pub keep-note : (y : PendingNote) → PendingOk C g v k x.ns y
       → Preserved C g v past (note_stored v m s y) (record { durable = k; pending = w })
   unfolding volume_after noted_state
-  keep-note Absent t = keep_same x Nothing
-  keep-note (Present y) t =
+  keep-note None t = keep_same x Nothing
+  keep-note (Some y) t =
       let st = note-store y t in
       rw (geo x) (record {
         ns = x.ns ++ (y ∷ []);

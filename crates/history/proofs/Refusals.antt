@@ -28,9 +28,8 @@ use Rattle.model.specs.Effects.{note_stored, backup_done, begin_done, change_don
 use Rattle.model.specs.Calls.{load_of, Call, rows_of, outcome_of, no_payload}
 use Rattle.model.specs.Restart.{restart_of, inspect_of}
 use Rattle.model.specs.declared.{geometry.Geometry.Geometry, geometry.Heading.TheVariants.First, item.Note.Note}
-use Rattle.model.specs.declared.{state.PendingNote.PendingNote, state.State.State}
+use Rattle.model.specs.declared.{state.State.State}
 use Rattle.model.specs.declared.command.Command.TheVariants.{Begin, Load, Force, Write, Release, StartCarry, Restamp, FinishCarry}
-use Rattle.model.specs.declared.state.PendingNote.TheVariants.{Absent, Present}
 use Rattle.model.specs.declared.command.Command.TheVariants.{Change, Backup, Note as NoteCall}
 use Rattle.model.specs.Passes.{old_left}
 use Rattle.model.specs.Carry.{carries}
@@ -43,6 +42,7 @@ use Rattle.history.proofs.LogScan.{valid-log}
 use Rattle.history.proofs.Context.{Ctx, in-range, geo, len, last_entry, durable-last}
 use Rattle.history.proofs.Loads.{Others, none_other, until, never-broken}
 use Rattle.history.proofs.WellFormed.{state-ok, memory-ok, volume-ok}
+use Rattle.model.specs.Types.{PendingNote, None, Some}
 
 -- the answer of a call is what its table says
 decided-refusal : (rows : List Row) (m : List ℕ) (s : State) (done : Outcome) → refusal_of done.answer ≡ 0
@@ -65,8 +65,8 @@ call-refusal (FinishCarry, _) v m s = decided-refusal (finish_carry_rows v m s) 
 call-refusal (NoteCall, _) v m s = decided-refusal (note_rows v m s) m s _ (stored s.note)
   where
     stored : (y : PendingNote) → refusal_of (note_stored v m s y).answer ≡ 0
-    stored Absent = refl
-    stored (Present y) = refl
+    stored None = refl
+    stored (Some y) = refl
 
 pub restart-refusal : (v m : List ℕ) → refusal_of (restart_of v m).answer ≡ first_of (restart_rows v m)
 unfolding restart_of decided

@@ -14,13 +14,13 @@ use Rattle.model.specs.Geometry.{Place, page_at, slot_at, record_at, note_at, st
 use Rattle.model.specs.Geometry.{note_slot}
 use Rattle.model.specs.Item.{image_lsn, valid_image}
 use Rattle.model.specs.AbstractLog.{Logged}
-use Rattle.model.specs.declared.{geometry.Geometry.Geometry, item.Note.Note, state.PendingNote.PendingNote}
-use Rattle.model.specs.declared.state.PendingNote.TheVariants.{Absent, Present}
+use Rattle.model.specs.declared.{geometry.Geometry.Geometry, item.Note.Note}
 use Rattle.history.proofs.Marks.{mark_at, NoteOk, mark-ok, Later}
 use Rattle.history.proofs.Records.{Faithful}
 use Rattle.history.proofs.Sections.{Volume, Sized, volume-sized, volume-store, store_same, store_other, Tail}
 use Rattle.history.proofs.Disk.{Holds, Noted, Copy, Stands, Torn, Spare, NoteStands, NoteTorn, LogRun, NoteRun}
 use Rattle.history.proofs.Inv.{PendingOk}
+use Rattle.model.specs.Types.{PendingNote, None, Some}
 
 -- two volumes that read alike where it matters
 module _ (g : Geometry) (v v' : List ℕ) where
@@ -161,8 +161,8 @@ pub pending-keep : (C : Type 0) (g : Geometry) (v v' : List ℕ) (k k' : List Lo
     → ((x : Note) → NoteOk g.pages g.slots k ns (length ns) x → NoteOk g.pages g.slots k' ns (length ns) x)
     → ((i : ℕ) → 1 ≤ i → i ≤ g.slots → item g v' (slot_at i) ≡ item g v (slot_at i))
     → PendingOk C g v k ns w → PendingOk C g v' k' ns w
-pending-keep C g v v' k k' ns Absent up nup e t = tt
-pending-keep C g v v' k k' ns (Present x) up nup e t = (
+pending-keep C g v v' k k' ns None up nup e t = tt
+pending-keep C g v v' k k' ns (Some x) up nup e t = (
   nup x t.0,
   t.1,
   λ z. let bk = t.0.backed z in rw (e x.slot bk.low bk.high) (up x.page (item g v (slot_at x.slot)) (t.2 z)),

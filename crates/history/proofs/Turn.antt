@@ -18,13 +18,13 @@ use Rattle.model.specs.Passes.{is_image}
 use Rattle.model.specs.Outcome.{StoredItem, new_heading}
 use Rattle.model.specs.AbstractLog.{Logged}
 use Rattle.model.specs.declared.{geometry.Geometry.Geometry, geometry.Heading.TheVariants.Second, item.Note.Note}
-use Rattle.model.specs.declared.{state.PendingNote.PendingNote, state.State.State}
-use Rattle.model.specs.declared.state.PendingNote.TheVariants.{Absent, Present}
+use Rattle.model.specs.declared.{state.State.State}
 use Rattle.history.proofs.Marks.{mark_at, mark-ok, Later}
 use Rattle.history.proofs.Records.{Faithful}
 use Rattle.history.proofs.Sections.{Volume, Sized, volume-sized, Tail}
 use Rattle.history.proofs.Disk.{Holds, Noted, Copy, Stands, Torn, Spare, NoteStands, NoteTorn, LogRun, NoteRun}
 use Rattle.history.proofs.Inv.{Image, Past, past-cons, PendingOk, Alive}
+use Rattle.model.specs.Types.{PendingNote, None, Some}
 
 -- the images that the store relies on are valid under the new tag as they were
 pub record SameImages (g : Geometry) (tag : ℕ) (v : List ℕ) (ns : List Note) : Type 0 where
@@ -35,8 +35,8 @@ pub record SameImages (g : Geometry) (tag : ℕ) (v : List ℕ) (ns : List Note)
 
 -- and so is the one of a pending backup note
 abbrev pub SamePending : Geometry → ℕ → List ℕ → PendingNote → Type 0
-SamePending g tag v Absent = Unit {0}
-SamePending g tag v (Present y) = is_written y ≡ false
+SamePending g tag v None = Unit {0}
+SamePending g tag v (Some y) = is_written y ≡ false
     → valid_image (with_tag g tag) y.page (item g v (slot_at y.slot)) ≡ valid_image g y.page (item g v (slot_at y.slot))
 
 module _ {C : Type 0} (g : Geometry) (v : List ℕ) (k : List Logged) (h : Holds g v k) (ns : List Note) (o : Noted C g v k ns) (tag : ℕ)
@@ -135,8 +135,8 @@ module _ {C : Type 0} (g : Geometry) (v : List ℕ) (k : List Logged) (h : Holds
 
   turn-pending : (y : PendingNote) → SamePending g tag v y → PendingOk C g v k ns y
       → PendingOk C (with_tag g tag) (store_heading v tag) k ns y
-  turn-pending Absent e t = tt
-  turn-pending (Present y) e t = (
+  turn-pending None e t = tt
+  turn-pending (Some y) e t = (
     t.0,
     omega (arith, t.1, more-notes),
     (λ z. let bk = t.0.backed z in turn-faithful y.page (slot_at y.slot) (bk.low, bk.high) (e z) (t.2 z)),

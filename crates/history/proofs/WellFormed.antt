@@ -18,9 +18,8 @@ use Rattle.model.specs.State.{frame_count, valid_memory, frame_row, held, blank,
 use Rattle.model.specs.State.{entry_fits, page_fits, well_formed}
 use Rattle.model.specs.Outcome.{StoredItem}
 use Rattle.model.specs.AbstractLog.{Logged}
-use Rattle.model.specs.declared.{geometry.Geometry.Geometry, item.Note.Note, state.PendingNote.PendingNote}
+use Rattle.model.specs.declared.{geometry.Geometry.Geometry, item.Note.Note}
 use Rattle.model.specs.declared.state.State.{State}
-use Rattle.model.specs.declared.state.PendingNote.TheVariants.{Absent, Present}
 use Rattle.history.proofs.Logs.{last_at, last_of, last-le, last-mono}
 use Rattle.history.proofs.Marks.{mark_at, NoteOk, mark-ok, mark-past}
 use Rattle.history.proofs.Entries.{entry_from}
@@ -28,6 +27,7 @@ use Rattle.history.proofs.Records.{last-past}
 use Rattle.history.proofs.Inv.{PendingOk}
 use Rattle.history.proofs.Memory.{frame-count, memory-valid}
 use Rattle.history.proofs.Context.{Ctx, geo, len, sum, fair, last_entry, durable-last, nowhere}
+use Rattle.model.specs.Types.{PendingNote, None, Some}
 
 -- the layout of a note that may follow
 pub layout-ok : (P B : ℕ) (l : List Logged) (ns : List Note) (n : ℕ) (y : Note) → NoteOk P B l ns n y → note_layout y ≡ true
@@ -40,8 +40,8 @@ module _ {C : Type 0} {g : Geometry} {v m : List ℕ} {past : List StoredItem} {
     (x : Ctx C g v m past s k w) where
   note-fits : (y : PendingNote) → PendingOk C g v k x.ns y → pending_note_fits g s.notes s.durable y ≡ true
   unfolding pending_note_fits
-  note-fits Absent t = refl
-  note-fits (Present y) t =
+  note-fits None t = refl
+  note-fits (Some y) t =
       let f = t.0 in
       and_both (lt-ltb s.notes (most_notes g) (omega (arith, t.1, x.al.notes-is)))
       (and_both (lt-ltb 0 g.notes t.3.0)

@@ -34,11 +34,11 @@ use Rattle.model.specs.Calls.{begin_of, load_of, change_call, force_of, write_of
 use Rattle.model.specs.Calls.{start_carry_of, restamp_of, finish_carry_of, Call, rows_of, outcome_of}
 use Rattle.model.specs.Restart.{restart_of, make_of, inspect_of, Made, Inspected}
 use Rattle.model.specs.declared.{geometry.Heading.Heading, geometry.Heading.TheVariants.First, change.Change.Change}
-use Rattle.model.specs.declared.{state.State.State, state.PendingNote.PendingNote}
+use Rattle.model.specs.declared.{state.State.State}
 use Rattle.model.specs.declared.command.Command.TheVariants.{Begin, Load, Force, Write, Release, StartCarry, Restamp, FinishCarry}
-use Rattle.model.specs.declared.state.PendingNote.TheVariants.{Absent, Present}
 use Rattle.model.specs.declared.command.Command.TheVariants.{Change as ChangeCall, Backup, Note}
 use Rattle.model.specs.Demand1.{ByTable, StoresItem, Keeps, Arrays, Demand1}
+use Rattle.model.specs.Types.{PendingNote, None, Some}
 
 -- ---- the calls that store nothing
 
@@ -175,14 +175,14 @@ backup-keeps v m s page slot a =
     (image-length v m s rest r a page w.0 (not-false _ (none 2))))
 
 note-stored-accepts : (v m : List ℕ) (s : State) (n : PendingNote) → refusal_of (note_stored v m s n).answer ≡ 0
-note-stored-accepts v m s Absent = refl
-note-stored-accepts v m s (Present n) = refl
+note-stored-accepts v m s None = refl
+note-stored-accepts v m s (Some n) = refl
 
 note-stored-one : (v m : List ℕ) (s : State) → valid_volume v ≡ true
     → (n : PendingNote) → pending_note_fits (geometry_of v) s.notes s.durable n ≡ true
     → StoresItem v (note_stored v m s n).stored
-note-stored-one v m s ok Absent h = tt
-note-stored-one v m s ok (Present n) h =
+note-stored-one v m s ok None h = tt
+note-stored-one v m s ok (Some n) h =
     let f = formed-note (geometry_of v) s.notes s.durable n h in
     stored-within v ok (note_slot (geometry_of v) (s.notes + 1)) (note_bytes n)
     (omega arith, mod-lt (s.notes + 1 - 1) f.slots) (note-length n)

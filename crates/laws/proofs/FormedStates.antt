@@ -25,7 +25,8 @@ use Rattle.model.specs.State.{frame_fits, entry_fits, page_fits, well_formed}
 use Rattle.model.specs.Refusals.{frame_blocked}
 use Rattle.model.specs.Effects.{with_frame, with_frames, appended_state, next_note}
 use Rattle.model.specs.Demand1.{Arrays}
-use Rattle.model.specs.declared.{geometry.Geometry.Geometry, state.PendingNote.PendingNote, state.State.State}
+use Rattle.model.specs.declared.{geometry.Geometry.Geometry, state.State.State}
+use Rattle.model.specs.Types.{PendingNote}
 
 -- what stays
 pub record Good (g : Geometry) (frames : ℕ) (s : State) : Type 0 where

@@ -13,8 +13,8 @@ use Rattle.model.specs.Tables.{within}
 use Rattle.model.specs.Geometry.{top_number, ring, most, most_notes, with_tag}
 use Rattle.model.specs.Item.{note_layout, is_written}
 use Rattle.model.specs.State.{pending_note_fits, frame_fits, entry_fits, page_fits, well_formed}
-use Rattle.model.specs.declared.{geometry.Geometry.Geometry, state.PendingNote.PendingNote, state.State.State}
-use Rattle.model.specs.declared.state.PendingNote.TheVariants.{Absent, Present}
+use Rattle.model.specs.declared.{geometry.Geometry.Geometry, state.State.State}
+use Rattle.model.specs.Types.{PendingNote, None, Some}
 
 -- a bound that may only rise
 rises : (t : Bool) (n : ℕ) → n ≤ top_number → n ≤ cond t top_number n
@@ -31,8 +31,8 @@ module _ (g : Geometry) (plain : ring g ≡ false) (l-high : g.records ≤ 1024)
   note-tag : (notes durable : ℕ) (y : PendingNote) → pending_note_fits g notes durable y ≡ true
       → pending_note_fits (with_tag g tag) notes durable y ≡ true
   unfolding pending_note_fits
-  note-tag notes durable Absent h = refl
-  note-tag notes durable (Present n) h =
+  note-tag notes durable None h = refl
+  note-tag notes durable (Some n) h =
       let tests = ltb notes (most_notes g) ∷ ltb 0 g.notes ∷ note_layout n ∷ eqb n.number (notes + 1) ∷ within g.pages n.page
       ∷ (is_written n || within g.slots n.slot) ∷ leb n.lsn durable ∷ [] in
       let f = formed-note g notes durable n h in

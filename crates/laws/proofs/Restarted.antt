@@ -29,7 +29,8 @@ use Rattle.model.specs.Restart.{restart_state, restart_of}
 use Rattle.model.specs.Demand1.{Arrays}
 use Rattle.model.specs.WellFormed.{GivesWellFormed}
 use Rattle.model.specs.declared.{geometry.Geometry.Geometry, state.Entry.Entry, state.Frame.Frame}
-use Rattle.model.specs.declared.{state.PendingNote.TheVariants.Absent, state.State.State}
+use Rattle.model.specs.declared.{state.State.State}
+use Rattle.model.specs.Types.{None}
 
 -- ---- the counts
 
@@ -57,7 +58,7 @@ module _ (g : Geometry) (v : List ℕ) (o : Octets v) where
 
 abbrev idle_state : ℕ → ℕ → List Entry → State
 idle_state durable notes index =
-    record { durable = durable; pending = 0; notes = notes; note = Absent; frames = replicate 16 empty_frame; index = index }
+    record { durable = durable; pending = 0; notes = notes; note = None; frames = replicate 16 empty_frame; index = index }
 
 idle-row : (g : Geometry) (frames durable notes : ℕ) (index : List Entry) (i : ℕ)
     → RowFits g frames (idle_state durable notes index) i

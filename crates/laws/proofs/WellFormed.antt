@@ -19,7 +19,7 @@ use Rattle.model.specs.State.{frame_row, frame_of, holder_from, holder, held, bl
 use Rattle.model.specs.State.{frame_fits, page_fits, well_formed}
 use Rattle.model.specs.Refusals.{state_rows}
 use Rattle.model.specs.declared.{geometry.Geometry.Geometry, item.Note.Note, state.Frame.Frame, state.State.State}
-use Rattle.model.specs.declared.state.PendingNote.TheVariants.{Present}
+use Rattle.model.specs.Types.{Some}
 
 -- ---- the clauses
 
@@ -54,7 +54,7 @@ pub record FormedNote (g : Geometry) (notes durable : ℕ) (n : Note) : Type 0 w
   pub high : n.page ≤ g.pages
   pub lsn : n.lsn ≤ durable
 
-pub formed-note : (g : Geometry) (notes durable : ℕ) (n : Note) → pending_note_fits g notes durable (Present n) ≡ true
+pub formed-note : (g : Geometry) (notes durable : ℕ) (n : Note) → pending_note_fits g notes durable (Some n) ≡ true
     → FormedNote g notes durable n
 unfolding pending_note_fits
 formed-note g notes durable n h =

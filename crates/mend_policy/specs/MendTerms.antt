@@ -15,14 +15,13 @@ use Rattle.model.specs.History.{Power, off, on, Machine, Event, restart, perform
 use Rattle.model.specs.Carry.{carries}
 use Rattle.model.specs.Claim.{History, reached, durable_of, inspection, ShowsReplay}
 use Rattle.model.specs.declared.{state.Entry.Entry, state.State.State}
-use Rattle.model.specs.declared.state.PendingNote.{PendingNote}
-use Rattle.model.specs.declared.state.PendingNote.TheVariants.{Absent, Present}
 use Rattle.model.specs.declared.command.Command.{Command}
 use Rattle.model.specs.declared.command.Command.TheVariants.{Begin, Load, Force, Write, Release, StartCarry, Restamp, FinishCarry}
 use Rattle.model.specs.declared.command.Command.TheVariants.{Change, Backup, Note}
 use Rattle.upkeep_policy.specs.Upkeep.{Advice, idle, stuck, make, upkeep_of, advice_of, upkeep_events}
 use Rattle.upkeep_policy.specs.UpkeepClaim.{LostIn}
 use Rattle.mend_policy.specs.Mend.{stands, margin, whole_page, may_write, mend_of, Mending, whole, single, lost, ahead, full, call}
+use Rattle.model.specs.Types.{PendingNote, None, Some}
 
 -- ---- by the volume alone
 
@@ -57,8 +56,8 @@ carries_in (damage at xs ∷ es) = carries_in es
 
 -- slot b is that of an owed backup note of p
 abbrev pub owed_slot : PendingNote → ℕ → ℕ → Bool
-owed_slot Absent p b = false
-owed_slot (Present n) p b = not (is_written n) && (eqb n.page p && eqb n.slot b)
+owed_slot None p b = false
+owed_slot (Some n) p b = not (is_written n) && (eqb n.page p && eqb n.slot b)
 
 abbrev pub owed_in : Power → ℕ → ℕ → Bool
 owed_in off p b = false

@@ -18,8 +18,6 @@ use Rattle.model.specs.AbstractLog.{Logged}
 use Rattle.model.specs.History.{Power, on, Machine, perform, call_in, allowed, step}
 use Rattle.model.specs.Claim.{History, Legal, fresh, reached}
 use Rattle.model.specs.declared.{geometry.Geometry.Geometry, item.Note.Note, state.State.State}
-use Rattle.model.specs.declared.state.PendingNote.{PendingNote}
-use Rattle.model.specs.declared.state.PendingNote.TheVariants.{Absent, Present}
 use Rattle.model.specs.declared.command.Command.TheVariants.{Backup, Note as NoteCall}
 use Rattle.history.proofs.Disk.{Copy}
 use Rattle.history.proofs.Images.{sealed-valid, sealed-lsn, sealed-size}
@@ -40,13 +38,14 @@ use Rattle.mend_theory.proofs.Follows.{allowed-more, call-leaves, by-power}
 use Rattle.mend_theory.proofs.Stored.{leaves-geo}
 use Rattle.mend_theory.proofs.Rests.{called}
 use Rattle.mend_theory.proofs.Risks.{after_one}
+use Rattle.model.specs.Types.{PendingNote, None, Some}
 
 -- ---- the Backup
 
 -- a backup note of page p is owed, and its slot holds the copy
 pub record Owing (g : Geometry) (p : ℕ) (v : List ℕ) (y : PendingNote) : Type 0 where
   pub note : Note
-  pub is-owed : y ≡ Present note
+  pub is-owed : y ≡ Some note
   pub is-backup : is_written note ≡ false
   pub page-is : note.page ≡ p
   pub copy : Copy g v p note.slot note.lsn
@@ -80,7 +79,7 @@ module _ {C : Type 0} {g : Geometry} {v m : List ℕ} {past : List StoredItem} {
 
   note-stands : (lo : 1 ≤ p) (hi : p ≤ g.pages) → Owing g p v s.note
       → Kept g p (volume_after v (outcome_of (NoteCall, no_payload) v m s).stored)
-      × ((outcome_of (NoteCall, no_payload) v m s).state.note ≡ Absent)
+      × ((outcome_of (NoteCall, no_payload) v m s).state.note ≡ None)
       × (geometry_of (volume_after v (outcome_of (NoteCall, no_payload) v m s).stored) ≡ g)
   unfolding decided own_rows noted_state volume_after
   note-stands lo hi y =

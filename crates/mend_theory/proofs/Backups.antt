@@ -33,8 +33,6 @@ use Rattle.model.specs.History.{Power, off, on, left_volume}
 use Rattle.model.specs.History.{item_sealed, torn_fits}
 use Rattle.model.specs.Carry.{carries}
 use Rattle.model.specs.declared.{geometry.Geometry.Geometry, item.Note.Note, state.Entry.Entry, state.State.State}
-use Rattle.model.specs.declared.state.PendingNote.{PendingNote}
-use Rattle.model.specs.declared.state.PendingNote.TheVariants.{Absent, Present}
 use Rattle.model.specs.declared.command.Command.TheVariants.{Begin, Load, Force, Write, Release, StartCarry, Restamp, FinishCarry}
 use Rattle.model.specs.declared.command.Command.TheVariants.{Change, Backup, Note as NoteCall}
 use Rattle.history.proofs.Marks.{mark_at, mark-hit, mark-miss, mark-append, len_n, note_n}
@@ -50,6 +48,7 @@ use Rattle.history.proofs.Persists.{writes, backs, note-store}
 use Rattle.history.proofs.Forces.{force-store}
 use Rattle.history.proofs.Context.{Ctx, geo, sized}
 use Rattle.history.proofs.WellFormed.{memory-ok}
+use Rattle.model.specs.Types.{PendingNote, None, Some}
 
 -- every slot reads as before
 abbrev SlotsSame : Geometry → List ℕ → List ℕ → Type 0
@@ -62,8 +61,8 @@ module _ (g : Geometry) (p : ℕ) where
 
   -- the owed one
   abbrev pub Owed : List ℕ → PendingNote → Type 0
-  Owed v Absent = Unit {0}
-  Owed v (Present n) = is_written n ≡ false → n.page ≡ p → Copy g v p n.slot n.lsn
+  Owed v None = Unit {0}
+  Owed v (Some n) = is_written n ≡ false → n.page ≡ p → Copy g v p n.slot n.lsn
 
   abbrev pub OwedIn : List ℕ → Power → Type 0
   OwedIn v off = Unit {0}
@@ -104,15 +103,15 @@ module _ (g : Geometry) (p : ℕ) (lo : 1 ≤ p) (hi : p ≤ g.pages) where
   module _ {C : Type 0} {v m : List ℕ} {past : List StoredItem} {s : State} {k w : List Logged} (x : Ctx C g v m past s k w) where
     -- an owed note keeps its slot
     owed_same : (v' : List ℕ) → SlotsSame g v v' → (y : PendingNote) → PendingOk C g v k x.ns y → Owed g p v y → Owed g p v' y
-    owed_same v' e Absent t f = tt
-    owed_same v' e (Present n) t f = λ z q. let b = t.0.backed z in rw (e n.slot b.low b.high) (f z q)
+    owed_same v' e None t f = tt
+    owed_same v' e (Some n) t f = λ z q. let b = t.0.backed z in rw (e n.slot b.low b.high) (f z q)
 
     same : (v' : List ℕ) (k' : List Logged) → Holds g v' k' → Noted C g v' k' x.ns → SlotsSame g v v' → Kept g p v → Kept g p v'
     same v' k' h' o' e f = kept_same v v' k k' x.ns x.hs x.no h' o' e f
 
     -- one more note
-    new-note : (n : Note) → PendingOk C g v k x.ns (Present n) → (v' : List ℕ) → Holds g v' k → Noted C g v' k (x.ns ++ (n ∷ []))
-        → SlotsSame g v v' → Kept g p v → Owed g p v (Present n) → Kept g p v'
+    new-note : (n : Note) → PendingOk C g v k x.ns (Some n) → (v' : List ℕ) → Holds g v' k → Noted C g v' k (x.ns ++ (n ∷ []))
+        → SlotsSame g v v' → Kept g p v → Owed g p v (Some n) → Kept g p v'
     new-note n t v' h' o' e f u =
         let ns = x.ns in
         from-mark v' k h' (ns ++ (n ∷ [])) o' (rw (len_n ns n) (elim (ℕ_discrete n.page p) [
@@ -128,7 +127,7 @@ module _ (g : Geometry) (p : ℕ) (lo : 1 ≤ p) (hi : p ≤ g.pages) where
         ]))
 
     -- p's own backup note: its slot holds the copy, whatever the one before it held
-    pub new-backup : (n : Note) → PendingOk C g v k x.ns (Present n) → is_written n ≡ false → n.page ≡ p
+    pub new-backup : (n : Note) → PendingOk C g v k x.ns (Some n) → is_written n ≡ false → n.page ≡ p
         → Copy g v p n.slot n.lsn → (v' : List ℕ) → Holds g v' k → Noted C g v' k (x.ns ++ (n ∷ []))
         → SlotsSame g v v' → Kept g p v'
     new-backup n t q y u v' h' o' e =
@@ -172,8 +171,8 @@ module _ (g : Geometry) (p : ℕ) (lo : 1 ≤ p) (hi : p ≤ g.pages) where
     note-after : (y : PendingNote) → s.note ≡ y → PendingOk C g v k x.ns y → Kept g p v → Owed g p v s.note
         → After (note_stored v m s y)
     unfolding volume_after noted_state
-    note-after Absent e t f u = (f, u)
-    note-after (Present n) e t f u =
+    note-after None e t f u = (f, u)
+    note-after (Some n) e t f u =
         let st = note-store x n t in
         rw (geo x) (new-note n t _ st.holds' st.noted' (note-slots (note_bytes n) (note-length n) t.3.0) f (rw e at u), tt)
 
@@ -244,8 +243,8 @@ module _ (g : Geometry) (p : ℕ) (lo : 1 ≤ p) (hi : p ≤ g.pages) where
     torn-note : (y : PendingNote) → PendingOk C g v k x.ns y → (xs : List ℕ) → Kept g p v
         → torn_fits (geometry_of v) (note_stored v m s y).stored (torn xs) ≡ true → TornAt (note_stored v m s y).stored xs
     unfolding volume_after
-    torn-note Absent t xs f a = f
-    torn-note (Present n) t xs f a =
+    torn-note None t xs f a = f
+    torn-note (Some n) t xs f a =
         let z = size_of (note_slot g (s.notes + 1)) xs a in
         let st = (note-store x n t).torn' xs z.1 z.0 in
         rw (geo x) (same _ k st.0 st.1 (note-slots xs z.0 t.3.0) f)

@@ -22,8 +22,7 @@ use Rattle.model.specs.AbstractLog.{Logged}
 use Rattle.model.specs.declared.{change.Change.TheVariants.Put, geometry.Geometry.Geometry, item.Note.Note}
 use Rattle.model.specs.declared.command.Command.TheVariants.{Force}
 use Rattle.model.specs.declared.command.Command.TheVariants.{Note as NoteCall}
-use Rattle.model.specs.declared.{state.PendingNote.PendingNote, state.State.State}
-use Rattle.model.specs.declared.state.PendingNote.TheVariants.{Absent, Present}
+use Rattle.model.specs.declared.{state.State.State}
 use Rattle.history.proofs.Context.{Ctx, geo}
 use Rattle.upkeep_policy.specs.Upkeep.{make, note_position, free_slot, upkeep_of, ever_written}
 use Rattle.upkeep_theory.proofs.Halfway.{Halfway, halfway-force, halfway-write, halfway-put}
@@ -36,6 +35,7 @@ use Rattle.upkeep_theory.proofs.Step.{place2, needs-second}
 use Rattle.upkeep_theory.proofs.Tidy.{Tidy}
 use Rattle.upkeep_theory.proofs.Written.{few-live, few-next}
 use Rattle.mend_policy.specs.MendClaim.{writes_page}
+use Rattle.model.specs.Types.{PendingNote, None, Some}
 
 -- where in the four calls a state is, with four for each durable change, and one for each call
 pub data Beat (g : Geometry) (v : List ℕ) (s : State) (n : ℕ) : Type 0 where
@@ -53,9 +53,9 @@ beat-least g v s n (putting z q y le) = omega (arith, le)
 beat-least g v s n (forced z q y le) = le
 beat-least g v s n (owing z q le) = omega (arith, le)
 
-is-owed : (y : PendingNote) → note_pending y ≡ true → (n : Note) × (y ≡ Present n)
-is-owed Absent t = absurd (true-not-false t refl)
-is-owed (Present n) t = (n, refl)
+is-owed : (y : PendingNote) → note_pending y ≡ true → (n : Note) × (y ≡ Some n)
+is-owed None t = absurd (true-not-false t refl)
+is-owed (Some n) t = (n, refl)
 
 module _ {C : Type 0} {g : Geometry} {v m : List ℕ} {past : List StoredItem} {s : State} {k w : List Logged}
     (x : Ctx C g v m past s k w) (turns : ring g ≡ true) (l2 : 2 ≤ g.records) (n2 : 2 ≤ g.notes) (W : ℕ)

@@ -27,8 +27,6 @@ use Rattle.model.specs.Calls.{Call, rows_of, outcome_of, no_payload}
 use Rattle.model.specs.AbstractLog.{Logged, AbstractLog, move_first, step_call}
 use Rattle.model.specs.declared.{geometry.Geometry.Geometry, change.Change.TheVariants.Put}
 use Rattle.model.specs.declared.{state.Entry.Entry, state.Frame.Frame, state.State.State}
-use Rattle.model.specs.declared.state.PendingNote.{PendingNote}
-use Rattle.model.specs.declared.state.PendingNote.TheVariants.{Absent, Present}
 use Rattle.model.specs.declared.command.Command.TheVariants.{Load, Force, Write}
 use Rattle.model.specs.declared.command.Command.TheVariants.{Backup, Note as NoteCall}
 use Rattle.history.proofs.Logs.{last_of, number-miss}
@@ -45,6 +43,7 @@ use Rattle.upkeep_theory.proofs.Shape.{Renewal, loads, backs, writes, puts, Advi
 use Rattle.upkeep_theory.proofs.Text.{put-found}
 use Rattle.mend_theory.proofs.OwnSteps.{record-page, note-page, slot-page, page-page}
 use Rattle.mend_theory.proofs.Loaded.{good-is}
+use Rattle.model.specs.Types.{PendingNote, None, Some}
 
 module _ (g : Geometry) (p : ℕ) (lo : 1 ≤ p) (hi : p ≤ g.pages) where
   -- the own image has the newest number
@@ -194,8 +193,8 @@ module _ (g : Geometry) (p : ℕ) (lo : 1 ≤ p) (hi : p ≤ g.pages) where
     note-done : (y : PendingNote) → PendingOk C g v k x.ns y → Clean here v s
         → Clean here (volume_after v (note_stored v m s y).stored) (note_stored v m s y).state
     unfolding volume_after noted_state
-    note-done Absent t n = n
-    note-done (Present y) t n =
+    note-done None t n = n
+    note-done (Some y) t n =
         rw (geo x) (keep here _ refl (note-page g p 0 lo hi x (note_bytes y) (note-length y) t.3.0) n)
 
     note-clean : Clean here v s → After (NoteCall, no_payload)

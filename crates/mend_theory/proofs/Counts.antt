@@ -18,20 +18,19 @@ use Rattle.model.specs.Calls.{Call, done_of, rows_of, outcome_of}
 use Rattle.model.specs.Tables.{first_of}
 use Rattle.model.specs.History.{Power, off, on, Machine, Event, perform, call_in, step, run}
 use Rattle.model.specs.declared.state.State.{State}
-use Rattle.model.specs.declared.state.PendingNote.{PendingNote}
-use Rattle.model.specs.declared.state.PendingNote.TheVariants.{Absent, Present}
 use Rattle.model.specs.declared.command.Command.TheVariants.{Begin, Load, Force, Write, Release, StartCarry, Restamp, FinishCarry}
 use Rattle.model.specs.declared.command.Command.TheVariants.{Change, Backup, Note}
 use Rattle.upkeep_policy.specs.Upkeep.{Advice, idle, stuck, make, advice_of, then_call, upkeep_events}
 use Rattle.upkeep_policy.specs.UpkeepClaim.{Rests}
+use Rattle.model.specs.Types.{PendingNote, None, Some}
 
 -- ---- notes
 
 module _ (v m : List ℕ) (s : State) where
   note-done : (y : PendingNote) → (note_stored v m s y).state.notes ≤ suc s.notes
   unfolding noted_state
-  note-done Absent = omega arith
-  note-done (Present n) = omega arith
+  note-done None = omega arith
+  note-done (Some n) = omega arith
 
   done-notes : (c : Call) → (done_of c v m s).state.notes ≤ suc s.notes
   unfolding begin_done load_done change_done force_done write_outcome backup_done release_done restamp_done appended_state forced_state

@@ -24,8 +24,7 @@ use Rattle.model.specs.History.{Power, on, Machine, Event, restart, perform, cra
 use Rattle.model.specs.Carry.{starts_in}
 use Rattle.model.specs.Claim.{History, Legal, fresh, reached, log_of}
 use Rattle.model.specs.declared.{change.Change.TheVariants.Put, geometry.Geometry.Geometry, item.Note.Note}
-use Rattle.model.specs.declared.{state.PendingNote.PendingNote, state.State.State}
-use Rattle.model.specs.declared.state.PendingNote.TheVariants.{Absent, Present}
+use Rattle.model.specs.declared.{state.State.State}
 use Rattle.history.proofs.Logs.{last_at, last-le, last-page}
 use Rattle.history.proofs.Marks.{mark_at, mark-ok}
 use Rattle.history.proofs.Disk.{Holds, Noted}
@@ -44,6 +43,7 @@ use Rattle.upkeep_theory.proofs.Written.{entry-written}
 use Rattle.mend_policy.specs.MendClaim.{MendFollows, WrittenAtMost}
 use Rattle.mend_theory.proofs.Named.{named}
 use Rattle.mend_theory.proofs.Stored.{Leaves, renewal-stored, stored-leaves, leaves-geo, leaves-index}
+use Rattle.model.specs.Types.{PendingNote, None, Some}
 
 -- ---- more events
 
@@ -167,8 +167,8 @@ module _ {C : Type 0} (g : Geometry) (v : List ℕ) (k : List Logged) (h : Holds
 
 owed-page : {C : Type 0} {g : Geometry} {v m : List ℕ} {past : List StoredItem} {s : State} {k w : List Logged}
     (x : Ctx C g v m past s k w) (i : ℕ) (y : PendingNote) → s.note ≡ y → pending_written y (suc i) ≡ true → suc i ≤ g.pages
-owed-page x i Absent e t = absurd (true-not-false t refl)
-owed-page x i (Present n) e t =
+owed-page x i None e t = absurd (true-not-false t refl)
+owed-page x i (Some n) e t =
     let q = eqb-true n.page (suc i) (and_right (is_written n) (eqb n.page (suc i)) t) in
     omega (arith, q, (noting-ok x n e).high)
 

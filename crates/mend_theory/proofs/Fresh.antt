@@ -29,8 +29,6 @@ use Rattle.model.specs.Calls.{Call, rows_of, outcome_of, no_payload}
 use Rattle.model.specs.AbstractLog.{Logged}
 use Rattle.model.specs.declared.{geometry.Geometry.Geometry, change.Change.TheVariants.Put, item.Note.Note}
 use Rattle.model.specs.declared.{state.Entry.Entry, state.State.State}
-use Rattle.model.specs.declared.state.PendingNote.{PendingNote}
-use Rattle.model.specs.declared.state.PendingNote.TheVariants.{Absent, Present}
 use Rattle.model.specs.declared.command.Command.TheVariants.{Load, Force, Write}
 use Rattle.model.specs.declared.command.Command.TheVariants.{Backup, Note as NoteCall}
 use Rattle.history.proofs.Marks.{mark-ok}
@@ -48,6 +46,7 @@ use Rattle.upkeep_theory.proofs.Shape.{Renewal, loads, backs, writes, puts, Advi
 use Rattle.mend_policy.specs.Mend.{is_stale}
 use Rattle.mend_policy.specs.MendClaim.{writes_page}
 use Rattle.mend_theory.proofs.OwnSteps.{record-page, note-page, slot-page, page-page}
+use Rattle.model.specs.Types.{PendingNote, None, Some}
 
 -- such an image is not Stale
 pub not-stale : (valid : Bool) (n d w : ℕ) → w ≤ n → is_stale (class_of valid n d w) ≡ false
@@ -59,8 +58,8 @@ not-stale true n d w le = by_cases (eqb n d) (λ t. rw t refl)
 module _ (g : Geometry) (p : ℕ) (lo : 1 ≤ p) (hi : p ≤ g.pages) where
   -- the number of the owed written note of the page (0: none)
   abbrev owes : PendingNote → ℕ
-  owes Absent = 0
-  owes (Present n) = cond (is_written n && eqb n.page p) n.lsn 0
+  owes None = 0
+  owes (Some n) = cond (is_written n && eqb n.page p) n.lsn 0
 
   abbrev pub Fresh : List ℕ → State → Type 0
   Fresh v s = ((entry_of s.index p).written ≤ image_lsn (item g v (page_at p))) × (owes s.note ≤ image_lsn (item g v (page_at p)))
@@ -108,7 +107,7 @@ module _ (g : Geometry) (p : ℕ) (lo : 1 ≤ p) (hi : p ≤ g.pages) where
         ) n))
 
     -- the index with a note entered
-    noted-fresh : (y : Note) → 1 ≤ y.page → (i : ℕ) → (entry_of s.index p).written ≤ i → owes (Present y) ≤ i
+    noted-fresh : (y : Note) → 1 ≤ y.page → (i : ℕ) → (entry_of s.index p).written ≤ i → owes (Some y) ≤ i
         → (entry_of (enter_note s.index y) p).written ≤ i
     unfolding enter_note
     noted-fresh y l i a b = elim (ℕ_discrete y.page p) [
@@ -126,8 +125,8 @@ module _ (g : Geometry) (p : ℕ) (lo : 1 ≤ p) (hi : p ≤ g.pages) where
     note-done : (y : PendingNote) → PendingOk C g v k x.ns y → s.note ≡ y → Fresh v s
         → Fresh (volume_after v (note_stored v m s y).stored) (note_stored v m s y).state
     unfolding volume_after noted_state
-    note-done Absent t e n = n
-    note-done (Present y) t e n =
+    note-done None t e n = n
+    note-done (Some y) t e n =
         rw (geo x, note-page g p 0 lo hi x (note_bytes y) (note-length y) t.3.0)
         (noted-fresh y t.0.low _ n.0 (rw e at n.1), omega arith)
 

@@ -5,14 +5,13 @@ use Rattle.model.specs.Outcome.{StoredItem}
 use Rattle.model.specs.AbstractLog.{Logged, AbstractLog}
 use Rattle.model.specs.History.{Power, off, on}
 use Rattle.model.specs.declared.{geometry.Geometry.Geometry, item.Note.Note}
-use Rattle.model.specs.declared.state.PendingNote.{PendingNote}
-use Rattle.model.specs.declared.state.PendingNote.TheVariants.{Absent, Present}
 use Rattle.history.proofs.Inv.{Inv, PendingOk, PowerInv}
+use Rattle.model.specs.Types.{PendingNote, None, Some}
 
 pending-less : (C : Type 0) (g : Geometry) (v : List ℕ) (k : List Logged) (ns : List Note) (y : PendingNote)
     → PendingOk C g v k ns y → PendingOk ⊥ g v k ns y
-pending-less C g v k ns Absent t = tt
-pending-less C g v k ns (Present n) t = (t.0, t.1, t.2, t.3, (λ c. absurd c))
+pending-less C g v k ns None t = tt
+pending-less C g v k ns (Some n) t = (t.0, t.1, t.2, t.3, (λ c. absurd c))
 
 power-less : (C : Type 0) (g : Geometry) (v : List ℕ) (x : Power) (b : AbstractLog) (ns : List Note)
     → PowerInv C g v x b ns → PowerInv ⊥ g v x b ns

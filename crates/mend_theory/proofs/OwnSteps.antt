@@ -30,8 +30,6 @@ use Rattle.model.specs.History.{Power, off, on, Machine, Event, restart, perform
 use Rattle.model.specs.History.{item_sealed, torn_fits, stored_before, allowed, step, step_log, all_allowed, run, log_after}
 use Rattle.model.specs.Carry.{carries}
 use Rattle.model.specs.declared.{geometry.Geometry.Geometry, state.State.State}
-use Rattle.model.specs.declared.state.PendingNote.{PendingNote}
-use Rattle.model.specs.declared.state.PendingNote.TheVariants.{Absent, Present}
 use Rattle.model.specs.declared.command.Command.TheVariants.{Begin, Load, Force, Write, Release, StartCarry, Restamp, FinishCarry}
 use Rattle.model.specs.declared.command.Command.TheVariants.{Change, Backup, Note as NoteCall}
 use Rattle.history.proofs.Logs.{last_of, len_a}
@@ -47,6 +45,7 @@ use Rattle.history.proofs.Steps.{context}
 use Rattle.mend_policy.specs.MendClaim.{carries_in, is_own, writes_page, left_torn, hits_own, spares_own}
 use Rattle.mend_theory.proofs.Own.{Reach, reach-more, reach-new}
 use Rattle.mend_theory.proofs.Two.{one-inv, apart, no-starts, both}
+use Rattle.model.specs.Types.{PendingNote, None, Some}
 
 module _ (g : Geometry) (p F : ℕ) (lo : 1 ≤ p) (hi : p ≤ g.pages) where
   abbrev pub Near : List Logged → List ℕ → Type 0
@@ -103,8 +102,8 @@ module _ (g : Geometry) (p F : ℕ) (lo : 1 ≤ p) (hi : p ≤ g.pages) where
 
     note-near : (y : PendingNote) → PendingOk C g v k x.ns y → Near k v → Near k (volume_after v (note_stored v m s y).stored)
     unfolding volume_after
-    note-near Absent t n = n
-    note-near (Present y) t n = rw (geo x) (keep _ (note-page (note_bytes y) (note-length y) t.3.0) n)
+    note-near None t n = n
+    note-near (Some y) t n = rw (geo x) (keep _ (note-page (note_bytes y) (note-length y) t.3.0) n)
 
     write-near : (q : ℕ) → first_of (write_rows v m s q) ≡ 0 → page_dirty s q ≡ true → Near k v
         → Near k (store g v (page_at q) (seal_image g (frame_bytes m (holder s q))))
@@ -158,8 +157,8 @@ module _ (g : Geometry) (p F : ℕ) (lo : 1 ≤ p) (hi : p ≤ g.pages) where
     torn-note : (y : PendingNote) → PendingOk C g v k x.ns y → (xs : List ℕ) → Near k v
         → torn_fits (geometry_of v) (note_stored v m s y).stored (torn xs) ≡ true → Near k (left_volume v (note_stored v m s y).stored (torn xs))
     unfolding volume_after
-    torn-note Absent t xs n a = n
-    torn-note (Present y) t xs n a = rw (geo x) (keep _ (note-page xs (size_of (note_slot g (s.notes + 1)) xs a) t.3.0) n)
+    torn-note None t xs n a = n
+    torn-note (Some y) t xs n a = rw (geo x) (keep _ (note-page xs (size_of (note_slot g (s.notes + 1)) xs a) t.3.0) n)
 
     pub torn-near : (c : Call) → carries c ≡ false → writes_page p c.0 ≡ false → (xs : List ℕ) → Near k v
         → torn_fits (geometry_of v) (outcome_of c v m s).stored (torn xs) ≡ true → Near k (left_volume v (outcome_of c v m s).stored (torn xs))

@@ -21,8 +21,7 @@ use Rattle.model.specs.AbstractLog.{Logged}
 use Rattle.model.specs.History.{Power, on, Machine, Event, perform, call_in, step, run}
 use Rattle.model.specs.Claim.{History, Legal, fresh, reached}
 use Rattle.model.specs.declared.{geometry.Geometry.Geometry}
-use Rattle.model.specs.declared.{state.PendingNote.PendingNote, state.State.State}
-use Rattle.model.specs.declared.state.PendingNote.TheVariants.{Absent, Present}
+use Rattle.model.specs.declared.{state.State.State}
 use Rattle.history.proofs.Context.{Ctx, geo}
 use Rattle.history.proofs.Reached.{live}
 use Rattle.history.proofs.Refusals.{call-refusal}
@@ -44,6 +43,7 @@ use Rattle.mend_policy.specs.Mend.{twofold, call, mend_of}
 use Rattle.mend_policy.specs.MendClaim.{MendRests}
 use Rattle.mend_theory.proofs.Named.{named, mend-is-done}
 use Rattle.mend_theory.proofs.Follows.{mend-follows, written-at-most}
+use Rattle.model.specs.Types.{PendingNote, None, Some}
 
 -- ---- at the end of a disciplined history
 
@@ -87,8 +87,8 @@ module _ {C : Type 0} {g : Geometry} {v m : List ℕ} {past : List StoredItem} {
       omega (arith, c, written-pages g v k x.hs x.ns x.no (geo x))
     where
       none : (y : PendingNote) → note_pending y ≡ false → (i : ℕ) → pending_written y (suc i) ≡ true → ⊥
-      none Absent q i t = true-not-false t refl
-      none (Present n) q i t = true-not-false refl q
+      none None q i t = true-not-false t refl
+      none (Some n) q i t = true-not-false refl q
 
   module _ (l2 : 2 ≤ g.records) (n2 : 2 ≤ g.notes) (r p : ℕ) (written : Bool) (W : ℕ) (few : ever_written s ≤ W) where
     renewal-after : (c : Call) → Renewal v m s r p written c → first_of (rows_of c v m s) ≡ 0

@@ -27,8 +27,6 @@ use Rattle.model.specs.History.{torn_fits, stored_before, is_start_carry, allowe
 use Rattle.model.specs.Carry.{carries, starts_in}
 use Rattle.model.specs.Claim.{History, Legal, fresh, reached, log_of, Proviso}
 use Rattle.model.specs.declared.{geometry.Geometry.Geometry, item.Note.Note, state.State.State}
-use Rattle.model.specs.declared.state.PendingNote.{PendingNote}
-use Rattle.model.specs.declared.state.PendingNote.TheVariants.{Absent, Present}
 use Rattle.history.proofs.Inv.{Inv, PendingOk, PowerInv}
 use Rattle.history.proofs.Stores.{slot-high}
 use Rattle.history.proofs.Sections.{store_other}
@@ -42,6 +40,7 @@ use Rattle.mend_policy.specs.MendClaim.{NotLost, BackupHolds}
 use Rattle.mend_theory.proofs.Less.{less}
 use Rattle.mend_theory.proofs.Stored.{index_stays}
 use Rattle.mend_theory.proofs.Backups.{Kept, Owed, OwedIn, slot_is, call-safe, torn-safe}
+use Rattle.model.specs.Types.{PendingNote, None, Some}
 
 -- ---- on a ring, without a carrying
 
@@ -86,8 +85,8 @@ module _ (g : Geometry) (p : ℕ) (lo : 1 ≤ p) (hi : p ≤ g.pages) where
   owed-apart : (v v' : List ℕ) (b : ℕ) → ((i : ℕ) → 1 ≤ i → i ≤ g.slots → i ≢ b → item g v' (slot_at i) ≡ item g v (slot_at i))
       → (C : Type 0) (k : List Logged) (ns : List Note) (y : PendingNote) → PendingOk C g v k ns y → owed_slot y p b ≡ false
       → Owed g p v y → Owed g p v' y
-  owed-apart v v' b e C k ns Absent t n f = tt
-  owed-apart v v' b e C k ns (Present y) t n f = λ z q.
+  owed-apart v v' b e C k ns None t n f = tt
+  owed-apart v v' b e C k ns (Some y) t n f = λ z q.
       let bk = t.0.backed z in
       let ne : y.slot ≢ b = λ a. true-not-false (rw (z, eq-eqb y.page p q, eq-eqb y.slot b a) refl) n in
       rw (e y.slot bk.low bk.high ne) (f z q)
@@ -120,8 +119,8 @@ module _ (g : Geometry) (p : ℕ) (lo : 1 ≤ p) (hi : p ≤ g.pages) where
       and_no false = refl
 
       zero-slot : (y : PendingNote) → PendingOk ⊥ g v b.durable i.ns y → owed_slot y p 0 ≡ false
-      zero-slot Absent t = refl
-      zero-slot (Present y) t = by_cases (is_written y) (λ z. rw z refl) (λ z.
+      zero-slot None t = refl
+      zero-slot (Some y) t = by_cases (is_written y) (λ z. rw z refl) (λ z.
           let bk = t.0.backed z in
           rw (z, ne_eqb y.slot 0 (λ a. omega (arith, bk.low))) (and_no (eqb y.page p)))
 
@@ -234,8 +233,8 @@ none-owed g p v off t = tt
 none-owed g p v (on m s) t = go s.note t
   where
     go : (y : PendingNote) → not (note_pending y) ≡ true → Owed g p v y
-    go Absent t = tt
-    go (Present n) t = absurd (true-not-false t refl)
+    go None t = tt
+    go (Some n) t = absurd (true-not-false t refl)
 
 pub backup-holds : BackupHolds
 unfolding reached

@@ -13,7 +13,7 @@ use Rattle.model.specs.Passes.{image_count, image_place, first_old}
 use Rattle.model.specs.Repair.{state_view, repair_of, rebuilt, class_in}
 use Rattle.model.specs.State.{pending_at, pending_bytes, frame_at, frame_bytes, last_number, holder}
 use Rattle.model.specs.Outcome.{Outcome, nothing, one_item, leaves, unchanged, storing}
-use Rattle.model.specs.Types.{Change, Note, Frame, PendingNote, Absent, Present, State, Class, Good, Behind}
+use Rattle.model.specs.Types.{Change, Note, Frame, PendingNote, None, Some, State, Class, Good, Behind}
 use Rattle.model.specs.Types.{Stale, Failed, Ahead, Nothing, Done, Repaired}
 use Rattle.model.specs.declared.change.Change.TheVariants.{Format}
 
@@ -115,7 +115,7 @@ force_done v m s =
 -- the note that Write and Backup leave to be stored
 abbrev pub next_note : State → ℕ → ℕ → ℕ → ℕ → PendingNote
 next_note s page kind slot lsn =
-    Present (record { number = s.notes + 1; page = page; kind = kind; slot = slot; lsn = lsn })
+    Some (record { number = s.notes + 1; page = page; kind = kind; slot = slot; lsn = lsn })
 
 -- Write: "stores a dirty page's image, makes it clean, owes a written note. On a clean page it answers Nothing"
 unfoldable pub write_outcome : List ℕ → List ℕ → State → ℕ → Outcome
@@ -148,15 +148,15 @@ noted_state s n =
       durable = s.durable;
       pending = s.pending;
       notes = s.notes + 1;
-      note = Absent;
+      note = None;
       frames = s.frames;
       index = enter_note s.index n;
     }
 
 -- Note: "stores the owed note"
 abbrev pub note_stored : List ℕ → List ℕ → State → PendingNote → Outcome
-note_stored v m s Absent = unchanged Nothing m s
-note_stored v m s (Present n) =
+note_stored v m s None = unchanged Nothing m s
+note_stored v m s (Some n) =
     leaves Done (noted_state s n) m (one_item (note_slot (geometry_of v) (s.notes + 1)) (note_bytes n))
 
 -- ---- carrying a volume over (document 02, §4): Start, Restamp and Finish leave memory and state as given

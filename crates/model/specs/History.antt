@@ -15,7 +15,7 @@ use Rattle.model.specs.Outcome.{StoredItem, nothing, one_item, new_heading, volu
 use Rattle.model.specs.Calls.{Call, rows_of, outcome_of, is_call}
 use Rattle.model.specs.Restart.{restart_of, make_of}
 use Rattle.model.specs.AbstractLog.{AbstractLog, Left, old, new, torn, left_new, forget, step_call, step_cut}
-use Rattle.model.specs.Types.{Geometry, Heading, PendingNote, Absent, Present, State}
+use Rattle.model.specs.Types.{Geometry, Heading, PendingNote, None, Some, State}
 
 -- Memory and state live only while the power is on (document 01: after Make, a cut or a refused Restart there are
 -- none).
@@ -155,8 +155,8 @@ crash_fits (on m s) v c l = torn_fits (geometry_of v) (outcome_of c v m s).store
 
 -- the slot of a pending backup note holds no image that is its page's by bytes alone
 abbrev pub pending_carries : Geometry → List ℕ → PendingNote → Bool
-pending_carries g v Absent = true
-pending_carries g v (Present n) = is_written n || not (only_new g n.page (item g v (slot_at n.slot)))
+pending_carries g v None = true
+pending_carries g v (Some n) = is_written n || not (only_new g n.page (item g v (slot_at n.slot)))
 
 -- the same of page i + 1's own image, and of the image in the slot that the index gives it
 abbrev pub page_carries : Geometry → List ℕ → State → ℕ → Bool

@@ -10,7 +10,7 @@ use Rattle.model.specs.Repair.{scanned_view, repair_of, rebuilt}
 use Rattle.model.specs.State.{zero_state, empty_frame}
 use Rattle.model.specs.Refusals.{make_rows, restart_rows, inspect_rows}
 use Rattle.model.specs.Outcome.{Outcome, nothing, decided}
-use Rattle.model.specs.Types.{Heading, Absent, State, Answer, Refused, Done, Repaired}
+use Rattle.model.specs.Types.{Heading, None, State, Answer, Refused, Done, Repaired}
 
 -- the state that a volume's log and notes give, with no frame in use
 unfoldable pub restart_state : List ℕ → State
@@ -20,7 +20,7 @@ restart_state v =
       durable = durable_count g v;
       pending = 0;
       notes = note_count g v;
-      note = Absent;
+      note = None;
       frames = replicate 16 empty_frame;
       index = index_of g v;
     }

@@ -10,7 +10,7 @@ use Rattle.model.specs.Geometry.{ring, most, most_notes, item, log_slot, note_sl
 use Rattle.model.specs.Item.{note_layout, is_written}
 use Rattle.model.specs.Index.{empty_index, entry_row, entry_of}
 use Rattle.model.specs.Scan.{log_record, note_record}
-use Rattle.model.specs.Types.{Geometry, Entry, Frame, PendingNote, Absent, Present, State}
+use Rattle.model.specs.Types.{Geometry, Entry, Frame, PendingNote, None, Some, State}
 
 -- ---- the memory: 16 pending records, then F frames
 
@@ -43,7 +43,7 @@ empty_frame = record { page = 0; dirty = false }
 
 unfoldable pub zero_state : State
 zero_state =
-    record { durable = 0; pending = 0; notes = 0; note = Absent; frames = replicate 16 empty_frame; index = empty_index }
+    record { durable = 0; pending = 0; notes = 0; note = None; frames = replicate 16 empty_frame; index = empty_index }
 
 -- row i of the frame table, counted from 0, and that of frame f
 abbrev pub frame_row : State → ℕ → Frame
@@ -96,8 +96,8 @@ notes_full g v s =
     || (leb (most_notes g) k || (ring g && (leb g.notes k && note_needed g v k (suc k - g.notes))))
 
 abbrev pub note_pending : PendingNote → Bool
-note_pending Absent = false
-note_pending (Present n) = true
+note_pending None = false
+note_pending (Some n) = true
 
 -- the frame that holds page p, counted from 1, or 0
 unfoldable pub holder_from : ℕ → ℕ → List Frame → ℕ
@@ -120,8 +120,8 @@ blank s p = eqb (entry_of s.index p).last 0
 -- "an owed note obeys the layout, its own number notes + 1, its page 1 to P, a backup's slot 1 to B, its page log
 -- number at most the durable count"; notes are "below N if one is owed"
 unfoldable pub pending_note_fits : Geometry → ℕ → ℕ → PendingNote → Bool
-pending_note_fits g notes durable Absent = true
-pending_note_fits g notes durable (Present n) =
+pending_note_fits g notes durable None = true
+pending_note_fits g notes durable (Some n) =
     all
     (ltb notes (most_notes g) ∷ ltb 0 g.notes ∷ note_layout n ∷ eqb n.number (notes + 1)
     ∷ within g.pages n.page ∷ (is_written n || within g.slots n.slot) ∷ leb n.lsn durable ∷ [])

@@ -12,5 +12,9 @@ pub use Rattle.model.specs.declared.command.Command.TheVariants.{StartCarry, Res
 pub use Rattle.model.specs.declared.geometry.{Geometry.Geometry, Heading.Heading}
 pub use Rattle.model.specs.declared.geometry.Heading.TheVariants.{First, Second}
 pub use Rattle.model.specs.declared.item.{LogRecord.LogRecord, Note.Note}
-pub use Rattle.model.specs.declared.state.{Entry.Entry, Frame.Frame, PendingNote.PendingNote, State.State}
-pub use Rattle.model.specs.declared.state.PendingNote.TheVariants.{Absent, Present}
+pub use Rattle.model.specs.declared.state.{Entry.Entry, Frame.Frame, State.State}
+pub use Rattle.std.specs.Prelude.{Option, None, Some}
+
+-- the note that a Write or a Backup left to be stored, if any
+abbrev pub PendingNote : Type 0
+PendingNote = Option Note

@@ -1,7 +1,11 @@
+ghost use Rattle.std.specs.Prelude.{◌≡◌};
+ghost use Rattle.model.specs.Refused.{refusal_number};
+ghost use Rattle.model.specs.declared.answer.Answer.TheVariants.{Refused};
+
 use crate::state::State;
 
 // What a page's own image is worth.
-#[derive(Clone, Copy)]
+#[derive(Clone, Copy, Debug, PartialEq, Eq)]
 pub enum Class {
     Good,
     Behind,
@@ -11,7 +15,7 @@ pub enum Class {
 }
 
 // Where a replay starts.
-#[derive(Clone, Copy)]
+#[derive(Clone, Copy, Debug, PartialEq, Eq)]
 pub enum Start {
     Own,
     Backup,
@@ -19,7 +23,7 @@ pub enum Start {
 }
 
 // Where the chain walk stops: at a start, at a record that breaks the chain, or below the run.
-#[derive(Clone, Copy)]
+#[derive(Clone, Copy, Debug, PartialEq, Eq)]
 pub enum Stop {
     Own,
     Backup,
@@ -50,4 +54,51 @@ pub enum Answer {
 pub struct Reply {
     pub answer: Answer,
     pub state: State,
+}
+
+// Why a call is refused, one case for each number of the table in `docs/FORMAT.md`, chapter 6.
+#[derive(Clone, Copy, Debug, PartialEq, Eq)]
+pub enum Refusal {
+    BadVolume = 1,
+    BadBuffer = 2,
+    NoSuchPage = 3,
+    NoSuchFrame = 4,
+    NoSuchSlot = 5,
+    BadChange = 6,
+    BlankPage = 7,
+    NoFrame = 8,
+    PageInUse = 9,
+    ChangePending = 10,
+    PendingFull = 11,
+    LogFull = 12,
+    NotePending = 13,
+    NotesFull = 14,
+    NotDurable = 15,
+    SlotInUse = 16,
+    BadLog = 17,
+    BadNotes = 18,
+    BadRecord = 19,
+    OldImage = 20,
+    BadLength = 21,
+    BadArchive = 22,
+    PageLost = 23,
+    HistoryLost = 24,
+    BadRehearsal = 25,
+}
+
+// The refusal's number.
+impl From<Refusal> for u32 {
+    ghost from_gives = { λ r n. n ≡ refusal_number r };
+
+    fn from(r: Refusal) -> u32 {
+        r as u32
+    }
+}
+
+impl From<Refusal> for Answer {
+    ghost from_gives = { λ r a. a ≡ Refused (refusal_number r) };
+
+    fn from(r: Refusal) -> Answer {
+        Answer::Refused(u32::from(r))
+    }
 }

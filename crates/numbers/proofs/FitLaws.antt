@@ -15,12 +15,12 @@ use Rattle.laws.proofs.Parts.{part_length}
 use Rattle.model.specs.Tables.{all, every}
 use Rattle.model.specs.Bytes.{part}
 use Rattle.model.specs.State.{empty_frame}
-use Rattle.model.specs.declared.{state.PendingNote.PendingNote, state.State.State}
-use Rattle.model.specs.declared.state.PendingNote.TheVariants.{Absent, Present}
+use Rattle.model.specs.declared.{state.State.State}
 use Rattle.face.specs.Numbers.{bit_of, note_numbers, frame_numbers, entry_numbers, numbers_of}
 use Rattle.face.specs.Numbers.{note_from, frames_of, entries_of, state_of, note_held, frame_held, entry_held, fits}
 use Rattle.numbers.proofs.NumberLaws.{Stated, NoteTold, whole, frame-page, frame-dirty, frames-long, entry-told, entries-long}
 use Rattle.numbers.proofs.NumberLaws.{frames_of-long, frames_of-at, entries_of-long, entries_of-at, head-long, numbers-long}
+use Rattle.model.specs.Types.{PendingNote, None, Some}
 
 -- one more row that is held
 pub every-next : (p : ℕ → Bool) (i : ℕ) (b : Bool) → b ≡ every i p → (b && p i) ≡ every (i + 1) p
@@ -222,8 +222,8 @@ module _ (s : State) (h : Stated s) where
 
   note-held : (p : PendingNote) → NoteTold p → (xs : List ℕ)
       → (let ys = note_numbers p ++ xs in note_held (get_or ys 0 0) (get_or ys 1 0) (get_or ys 2 0) (get_or ys 3 0) (get_or ys 4 0)) ≡ true
-  note-held Absent k xs = refl
-  note-held (Present n) k xs =
+  note-held None k xs = refl
+  note-held (Some n) k xs =
       rw (
         ne_eqb n.kind 0 (omega (arith, k.0)),
         le-leb n.kind 2 k.1,

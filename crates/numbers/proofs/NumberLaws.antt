@@ -16,10 +16,10 @@ use Rattle.model.specs.Bytes.{part}
 use Rattle.model.specs.Demand1.{Arrays}
 use Rattle.model.specs.Index.{empty_entry}
 use Rattle.model.specs.State.{empty_frame}
-use Rattle.model.specs.declared.{state.Entry.Entry, state.Frame.Frame, state.PendingNote.PendingNote, state.State.State}
-use Rattle.model.specs.declared.state.PendingNote.TheVariants.{Absent, Present}
+use Rattle.model.specs.declared.{state.Entry.Entry, state.Frame.Frame, state.State.State}
 use Rattle.face.specs.Numbers.{bit_of, note_numbers, frame_numbers, entry_numbers, numbers_of}
 use Rattle.face.specs.Numbers.{note_from, frame_row, entry_row, frames_of, entries_of, state_of}
+use Rattle.model.specs.Types.{PendingNote, None, Some}
 
 -- ---- lists that agree so far
 
@@ -133,8 +133,8 @@ gone (x ∷ xs) zero h = absurd (omega arith)
 gone (x ∷ xs) (suc i) h = gone xs i (omega arith)
 
 pub note-long : (p : PendingNote) → length (note_numbers p) ≡ 5
-note-long Absent = refl
-note-long (Present n) = refl
+note-long None = refl
+note-long (Some n) = refl
 
 pub head-long : (a b c : ℕ) (p : PendingNote) → length (a ∷ b ∷ c ∷ note_numbers p) ≡ 8
 head-long a b c p = let h = note-long p in omega arith
@@ -161,8 +161,8 @@ numbers-long s hf hi =
 
 -- a note that the numbers can tell
 abbrev pub NoteTold : PendingNote → Type 0
-NoteTold Absent = Unit {0}
-NoteTold (Present n) = (1 ≤ n.kind) × (n.kind ≤ 2) × (n.page < 65536) × (n.slot < 256)
+NoteTold None = Unit {0}
+NoteTold (Some n) = (1 ≤ n.kind) × (n.kind ≤ 2) × (n.page < 65536) × (n.slot < 256)
 
 -- a state that the numbers can tell: as many rows as the code's arrays have, each number in its field
 pub record Stated (s : State) : Type 0 where
@@ -197,8 +197,8 @@ entries-back es l h =
 
 note-back : (p : PendingNote) → NoteTold p → (xs : List ℕ)
     → (let ys = note_numbers p ++ xs in note_from (get_or ys 0 0) (get_or ys 1 0) (get_or ys 2 0) (get_or ys 3 0) (get_or ys 4 0)) ≡ p
-note-back Absent h xs = refl
-note-back (Present n) h xs =
+note-back None h xs = refl
+note-back (Some n) h xs =
     let k : eqb n.kind 0 ≡ false = ne_eqb n.kind 0 (omega arith) in
     let a : n.kind % 256 ≡ n.kind = mod-eq_of_lt (omega (arith, h.1)) in
     let b : n.page % 65536 ≡ n.page = mod-eq_of_lt h.2 in

@@ -16,8 +16,8 @@ use Rattle.model.specs.Outcome.{one_item, unchanged, decided, volume_after}
 use Rattle.model.specs.Effects.{with_frame, with_frames, next_note, noted_state, note_stored, backup_done, write_outcome}
 use Rattle.model.specs.Calls.{write_of, backup_of, note_call}
 use Rattle.model.specs.declared.{geometry.Geometry.Geometry, item.Note.Note, state.Frame.Frame, state.State.State}
-use Rattle.model.specs.declared.state.PendingNote.TheVariants.{Absent, Present}
 use Rattle.model.specs.declared.answer.Answer.TheVariants.{Refused, Nothing, Done}
+use Rattle.model.specs.Types.{None, Some}
 
 -- an item stored at a place; the code's geometry and offset
 stored : (v m : List ℕ) (t u : State) (g : Geometry) (k : ℕ) (w x y : List ℕ) (at : Place) → t ≡ u → x ≡ y → g ≡ geometry_of v → k
@@ -76,12 +76,12 @@ module _ (v m : List ℕ) (s : State) where
   unfolding decided note_rows
   note-refused n = refused v m s (state_rows v m s []) _ n
 
-  pub note-idle : first_of (state_rows v m s []) ≡ 0 → s.note ≡ Absent → Gives v Nothing s v (note_call v m s)
+  pub note-idle : first_of (state_rows v m s []) ≡ 0 → s.note ≡ None → Gives v Nothing s v (note_call v m s)
   unfolding decided note_rows
   note-idle e d =
       gives-is v Nothing s v (unchanged Nothing m s) _ (sym (ap (note_stored v m s) d) ∙ passed v m s (state_rows v m s []) _ e) (idle v m s)
 
-  pub note-done : (n : Note) (g : Geometry) (k : ℕ) (t : State) (w : List ℕ) → first_of (state_rows v m s []) ≡ 0 → s.note ≡ Present n → g
+  pub note-done : (n : Note) (g : Geometry) (k : ℕ) (t : State) (w : List ℕ) → first_of (state_rows v m s []) ≡ 0 → s.note ≡ Some n → g
       ≡ geometry_of v
       → k ≡ start g (note_slot g (s.notes + 1))
       → t ≡ noted_state s n

@@ -16,8 +16,9 @@ use Rattle.model.specs.Item.{image_lsn}
 use Rattle.model.specs.Geometry.{most_notes, geometry_of, Place, page_at, slot_at, note_slot, width, start}
 use Rattle.model.specs.State.{frame_count, frame_at, frame_bytes, notes_full, holder, held, pending_note_fits}
 use Rattle.model.specs.Refusals.{state_rows, page_dirty, write_rows, backup_rows, write_tail, backup_tail}
-use Rattle.model.specs.declared.{geometry.Geometry.Geometry, item.Note.Note, state.PendingNote.TheVariants.Present}
+use Rattle.model.specs.declared.{geometry.Geometry.Geometry, item.Note.Note}
 use Rattle.model.specs.declared.state.State.{State}
+use Rattle.model.specs.Types.{Some}
 
 -- of an image that goes to a place; g is the code's geometry
 pub record Room (v m : List ℕ) (s : State) (g : Geometry) (page : ℕ) (at : Place) : Type 0 where
@@ -94,7 +95,7 @@ pub record NoteRoom (v : List ℕ) (s : State) (g : Geometry) (n : Note) : Type 
   pub place : start g (note_slot g (s.notes + 1)) + 16 ≤ length v
 
 pub note-room : (v m : List ℕ) (s : State) (g : Geometry) (n : Note) → g ≡ geometry_of v → first_of (state_rows v m s []) ≡ 0 → s.note
-    ≡ Present n → NoteRoom v s g n
+    ≡ Some n → NoteRoom v s g n
 note-room v m s g n eg h e =
     let k = ready v m s [] h in
     let f = valid-facts v k.volume in

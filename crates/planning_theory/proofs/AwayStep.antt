@@ -15,7 +15,6 @@ use Rattle.model.specs.Outcome.{StoredItem, nothing, Outcome, volume_after, deci
 use Rattle.model.specs.Effects.{with_frame, with_frames, release_done}
 use Rattle.model.specs.Calls.{release_of, no_payload}
 use Rattle.model.specs.declared.{geometry.Geometry.Geometry, answer.Answer.TheVariants.Done, state.Frame.Frame}
-use Rattle.model.specs.declared.state.PendingNote.TheVariants.{Absent}
 use Rattle.model.specs.declared.state.State.{State}
 use Rattle.model.specs.declared.command.Command.TheVariants.{Release}
 use Rattle.model.specs.AbstractLog.{Logged, step_call}
@@ -28,6 +27,7 @@ use Rattle.planning.specs.declared.rehearsal.Figures.{Figures}
 use Rattle.history.proofs.Context.{Ctx, sized, found-frame}
 use Rattle.planning_theory.proofs.Play.{Run, Stage, rows_none, run-as, ctx-as}
 use Rattle.planning_theory.proofs.Relation.{OnDisk, Sim, Backups, Rows, one-row}
+use Rattle.model.specs.Types.{None}
 
 release-done : (v m : List ℕ) (s : State) (p : ℕ) → first_of (release_rows v m s p) ≡ 0
     → release_of v m s p
@@ -40,7 +40,7 @@ pub record Away (t : Settings) (events : List ℕ) (ms : List FrameUse) (g : Geo
     (fs : List Figures) : Type 0 where
   pub sim : Sim t events ms g v s k f 0
   pub backs : Backups t g s k
-  pub quiet : s.note ≡ Absent
+  pub quiet : s.note ≡ None
   pub rows : Rows fs k
   pub left : ((frame_row s f).page ≡ q) ⊎ ((frame_row s f).page ≡ 0)
 
@@ -74,7 +74,7 @@ module _ {C : Type 0} {g : Geometry} {v m : List ℕ} {past : List StoredItem} {
 module _ {C : Type 0} {g : Geometry} {v m : List ℕ} {past : List StoredItem} {s : State} {k : List Logged} (x : Ctx C g v m past s k [])
     (t : Settings) (events : List ℕ) (ms : List FrameUse)
     (f : ℕ) (low : f < t.frames) (few : t.frames ≤ 16) (fs : List Figures) (rows : Rows fs k) (sim : Sim t events ms g v s k 16 0)
-    (bk : Backups t g s k) (quiet : s.note ≡ Absent) where
+    (bk : Backups t g s k) (quiet : s.note ≡ None) where
   f16 : f < 16
   f16 = omega arith
 

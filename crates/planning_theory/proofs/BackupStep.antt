@@ -23,7 +23,7 @@ use Rattle.model.specs.AbstractLog.{Logged, step_call}
 use Rattle.planning.specs.Rehearsal.{page_row, set_row, one_backup, one_note, with_backup}
 use Rattle.planning.specs.RehearsalRun.{Played, play_call}
 use Rattle.model.specs.declared.{geometry.Geometry.Geometry, answer.Answer.TheVariants.Done, item.Note.Note}
-use Rattle.model.specs.declared.{state.Entry.Entry, state.Frame.Frame, state.PendingNote.TheVariants.Absent}
+use Rattle.model.specs.declared.{state.Entry.Entry, state.Frame.Frame}
 use Rattle.model.specs.declared.state.State.{State}
 use Rattle.planning.specs.declared.rehearsal.Settings.{Settings}
 use Rattle.planning.specs.declared.rehearsal.FrameUse.{FrameUse}
@@ -39,6 +39,7 @@ use Rattle.planning_theory.proofs.Play.{Run, Stage, call_stays, rows_none, run-a
 use Rattle.planning_theory.proofs.Relation.{Arrived, Rows, row-twice, rows_same, sim-keep, all-is}
 use Rattle.planning_theory.proofs.StoreSteps.{note_step}
 use Rattle.planning_theory.proofs.ChangeStep.{mine-dirty, Changed}
+use Rattle.model.specs.Types.{None}
 
 -- ---- the state with a note stored
 
@@ -46,7 +47,7 @@ pub noted-frames : (s : State) (n : Note) → (noted_state s n).frames ≡ s.fra
 unfolding noted_state
 noted-frames s n = refl
 
-pub noted-quiet : (s : State) (n : Note) → (noted_state s n).note ≡ Absent
+pub noted-quiet : (s : State) (n : Note) → (noted_state s n).note ≡ None
 unfolding noted_state
 noted-quiet s n = refl
 

@@ -23,7 +23,7 @@ use Rattle.model.specs.Effects.{appended_state, appended_memory, changed_image, 
 use Rattle.model.specs.Calls.{begin_of, change_call, no_payload}
 use Rattle.model.specs.declared.{geometry.Geometry.Geometry, answer.Answer.TheVariants.Done, change.Change.Change}
 use Rattle.model.specs.declared.{change.Change.TheVariants.Put, state.Entry.Entry, state.Frame.Frame}
-use Rattle.model.specs.declared.{state.PendingNote.TheVariants.Absent, state.State.State}
+use Rattle.model.specs.declared.{state.State.State}
 use Rattle.model.specs.declared.command.Command.TheVariants.{Begin, Force}
 use Rattle.model.specs.AbstractLog.{Logged, logged_change, step_call}
 use Rattle.planning.specs.Rehearsal.{page_row, set_row, with_record}
@@ -43,6 +43,7 @@ use Rattle.planning_theory.proofs.Play.{Run, Stage, rows_none, run-as, ctx-as}
 use Rattle.planning_theory.proofs.Relation.{OnDisk, Mine, Sim, BackedAt, Backups, Rows, rows_more, backup-same, sim-keep}
 use Rattle.planning_theory.proofs.StoreSteps.{Forced, force-step}
 use Rattle.model.specs.declared.command.Command.TheVariants.{Change as ChangeCall}
+use Rattle.model.specs.Types.{None}
 
 -- ---- lists with one change more
 
@@ -107,7 +108,7 @@ module _ (s : State) (p f : ℕ) (size : length s.frames ≡ 16) (b : f < 16) wh
 pub record Changed (t : Settings) (events : List ℕ) (ms : List FrameUse) (g : Geometry) (v : List ℕ) (s : State) (k : List Logged)
     (f p n : ℕ) : Type 0 where
   pub sim : Sim t events ms g v s k f p
-  pub quiet : s.note ≡ Absent
+  pub quiet : s.note ≡ None
   pub row_is : frame_row s f ≡ record { page = p; dirty = true }
   pub alone : (j : ℕ) → j < 16 → j ≢ f → (frame_row s j).page ≢ p
   pub others : (q : ℕ) → 1 ≤ q → q ≤ g.pages → q ≢ p → BackedAt t s k q
@@ -125,7 +126,7 @@ module _ {C : Type 0} {g : Geometry} {v m : List ℕ} {past : List StoredItem} {
     (t : Settings) (events : List ℕ) (ms : List FrameUse)
     (f p but : ℕ) (low : f < t.frames) (few : t.frames ≤ 16) (lo : 1 ≤ p) (hi : p ≤ g.pages) (fs : List Figures) (rows : Rows fs k)
     (sim : Sim t events ms g v s k f but) (within-but : (q : ℕ) → q ≢ p → q ≢ but ⊎ (q ≡ 0)) (bk : Backups t g s k)
-    (quiet : s.note ≡ Absent)
+    (quiet : s.note ≡ None)
     (alone : (j : ℕ) → j < 16 → j ≢ f → (frame_row s j).page ≢ p)
     (c : Logged) (cp : c.page ≡ p) (first : eqb (kind_of c.change) 1 ≡ true → last_of c.page k ≡ 0) where
   abbrev k' : List Logged

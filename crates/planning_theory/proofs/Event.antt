@@ -13,7 +13,7 @@ use Rattle.laws.proofs.Frames.{not-held}
 use Rattle.model.specs.State.{frame_row, held, blank}
 use Rattle.model.specs.Outcome.{StoredItem}
 use Rattle.model.specs.Calls.{no_payload}
-use Rattle.model.specs.declared.{geometry.Geometry.Geometry, state.PendingNote.TheVariants.Absent, state.State.State}
+use Rattle.model.specs.declared.{geometry.Geometry.Geometry, state.State.State}
 use Rattle.model.specs.declared.command.Command.TheVariants.{Load, Write, Release}
 use Rattle.model.specs.declared.command.Command.TheVariants.{Note}
 use Rattle.model.specs.AbstractLog.{Logged}
@@ -36,13 +36,14 @@ use Rattle.planning_theory.proofs.Relation.{is-blank, not-blank, one-row}
 use Rattle.planning_theory.proofs.LoadStep.{load_step}
 use Rattle.planning_theory.proofs.AwayStep.{Away, away-clean, away-release}
 use Rattle.planning_theory.proofs.WriteStep.{away-write}
+use Rattle.model.specs.Types.{None}
 
 -- ---- between events
 
 pub record Full (t : Settings) (events : List ℕ) (mo : Rehearsal) (g : Geometry) (v : List ℕ) (s : State) (k : List Logged) : Type 0 where
   pub sim : Sim t events mo.frames g v s k 16 0
   pub backs : Backups t g s k
-  pub quiet : s.note ≡ Absent
+  pub quiet : s.note ≡ None
   pub rows : Rows mo.pages k
   pub changes : (p : ℕ) → 1 ≤ p → p ≤ 64 → changes_of p events ≡ count_of p k
 
@@ -77,7 +78,7 @@ gone-as {C} {g} {v} {m} {past} {s} {k} x t events mo f r r' l l' e q a =
 module _ {C : Type 0} {g : Geometry} {v m : List ℕ} {past : List StoredItem} {s : State} {k : List Logged} (x : Ctx C g v m past s k [])
     (t : Settings) (F16 : t.frames ≤ 16) (events : List ℕ) (mo : Rehearsal)
     (f : ℕ) (low : f < t.frames) (al : use_row mo.frames f ≡ stamped events (frame_row s f))
-    (sim : Sim t events mo.frames g v s k 16 0) (bk : Backups t g s k) (quiet : s.note ≡ Absent)
+    (sim : Sim t events mo.frames g v s k 16 0) (bk : Backups t g s k) (quiet : s.note ≡ None)
     (rows : Rows mo.pages k) where
   eviction : (d : Bool) → (frame_row s f).dirty ≡ d → (w : Victim) → t.victim ≡ w
       → (play_calls (Run v m past s mo.pages) (eviction_calls t (frame_row s f))).refused ≡ false

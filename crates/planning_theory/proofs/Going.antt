@@ -22,11 +22,10 @@ use Rattle.model.specs.Effects.{with_frame, with_frames, appended_state, appende
 use Rattle.model.specs.Effects.{forced_state, noted_state, backup_done, begin_done, change_done, force_done, load_done}
 use Rattle.model.specs.Effects.{release_done, write_outcome}
 use Rattle.model.specs.Calls.{Call, rows_of, outcome_of, no_payload}
-use Rattle.model.specs.declared.{geometry.Geometry.Geometry, change.Change.Change, state.PendingNote.PendingNote}
+use Rattle.model.specs.declared.{geometry.Geometry.Geometry, change.Change.Change}
 use Rattle.model.specs.declared.state.State.{State}
 use Rattle.model.specs.declared.command.Command.TheVariants.{Begin, Load, Force, Write, Release}
 use Rattle.model.specs.declared.answer.Answer.TheVariants.{Nothing, Done, Repaired}
-use Rattle.model.specs.declared.state.PendingNote.TheVariants.{Absent, Present}
 use Rattle.model.specs.declared.command.Command.TheVariants.{Change as ChangeCall, Backup, Note}
 use Rattle.model.specs.AbstractLog.{Logged, AbstractLog, step_call}
 use Rattle.model.specs.Carry.{carries}
@@ -47,6 +46,7 @@ use Rattle.planning_theory.proofs.Taken.{taken-call, note-free, force-free}
 use Rattle.planning_theory.proofs.StoreSteps.{read}
 use Rattle.planning_theory.proofs.Tally.{Tally, preserved-same, preserved-row, pending-same, tally-any}
 use Rattle.planning_theory.proofs.Tally.{tally-frames, splice-grows, tally-appended, tally-forced, tally-noted}
+use Rattle.model.specs.Types.{PendingNote, None, Some}
 
 pub record Going (C : Type 0) (g : Geometry) (t : Settings) (b : ℕ) (r : Played) : Type 0 where
   pub volume : List ℕ
@@ -124,9 +124,9 @@ module _ {C : Type 0} {g : Geometry} {v m : List ℕ} {past : List StoredItem} {
 
   note-at : (n : PendingNote) → s.note ≡ n → Going C g t b (play_call (Run v m past s fs) (Note, no_payload))
   unfolding decided
-  note-at Absent e = goes (Note, no_payload) refl refl refl (note-free x) (unchanged Nothing m s) (rw (note-free x, e)) y
-  note-at (Present n) e =
-      let o : PendingOk C g v k x.ns (Present n) = subst (λ (z : PendingNote). PendingOk C g v k x.ns z) e x.al.note-ok in
+  note-at None e = goes (Note, no_payload) refl refl refl (note-free x) (unchanged Nothing m s) (rw (note-free x, e)) y
+  note-at (Some n) e =
+      let o : PendingOk C g v k x.ns (Some n) = subst (λ (z : PendingNote). PendingOk C g v k x.ns z) e x.al.note-ok in
       let back = read x n e fs (taken-call v m past s fs (Note, no_payload) (note-free x)) in
       goes (Note, no_payload) refl refl refl (note-free x)
       (record {

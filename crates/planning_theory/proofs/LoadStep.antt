@@ -22,7 +22,7 @@ use Rattle.model.specs.Effects.{with_frame, with_frames, is_good, load_done}
 use Rattle.model.specs.Calls.{load_of, no_payload}
 use Rattle.model.specs.declared.{command.Command.TheVariants.Load, geometry.Geometry.Geometry}
 use Rattle.model.specs.declared.{answer.Answer.TheVariants.Repaired, state.Frame.Frame}
-use Rattle.model.specs.declared.{state.PendingNote.TheVariants.Absent, state.State.State}
+use Rattle.model.specs.declared.{state.State.State}
 use Rattle.model.specs.AbstractLog.{Logged, step_call}
 use Rattle.planning.specs.Rehearsal.{page_row, set_row, with_load, victim_written, replayed_by}
 use Rattle.planning.specs.RehearsalRun.{play_call}
@@ -38,6 +38,7 @@ use Rattle.planning_theory.proofs.Counts.{count_at, count_of, count-last}
 use Rattle.planning_theory.proofs.Chain.{Begun, view_tells}
 use Rattle.planning_theory.proofs.Play.{Run, Stage, rows_none, run-as, ctx-as}
 use Rattle.planning_theory.proofs.Relation.{Current, OnDisk, Mine, Sim, Backups, Arrived, Rows, rows_same, sim-keep, durable-is}
+use Rattle.model.specs.Types.{None}
 
 -- a valid own image with the page's last number
 module _ (g : Geometry) (p : ℕ) (w : View) (j : ℕ) (d : w.durable ≡ suc j) (t : valid_image g p w.own ≡ true)
@@ -130,7 +131,7 @@ module _ {C : Type 0} {g : Geometry} {v m : List ℕ} {past : List StoredItem} {
   unfolding decided load_done
   done-is = rw (rows0, geo x)
 
-  pub load_step : Sim t events ms g v s k f 0 → Backups t g s k → s.note ≡ Absent → Rows fs k
+  pub load_step : Sim t events ms g v s k f 0 → Backups t g s k → s.note ≡ None → Rows fs k
       → Stage C g (play_call (Run v m past s fs) (Load p (suc f), no_payload)) (set_row fs p (with_load (page_row fs p) (replayed_by t (count_of p k)))) k []
       (λ v' s'. Arrived t events ms g v' s' k f p (not (victim_written t.victim))
       × Rows (set_row fs p (with_load (page_row fs p) (replayed_by t (count_of p k)))) k)

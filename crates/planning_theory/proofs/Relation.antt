@@ -18,7 +18,7 @@ use Rattle.model.specs.AbstractLog.{Logged}
 use Rattle.planning.specs.Rehearsal.{access_of, page_in, unused, no_figures, page_row, set_row}
 use Rattle.planning.specs.RehearsalRun.{last_use}
 use Rattle.model.specs.declared.{geometry.Geometry.Geometry, state.Entry.Entry, state.Frame.Frame}
-use Rattle.model.specs.declared.{state.PendingNote.TheVariants.Absent, state.State.State}
+use Rattle.model.specs.declared.{state.State.State}
 use Rattle.planning.specs.declared.rehearsal.Victim.{Victim}
 use Rattle.planning.specs.declared.rehearsal.Victim.TheVariants.{Written, Released}
 use Rattle.planning.specs.declared.rehearsal.Settings.{Settings}
@@ -30,6 +30,7 @@ use Rattle.history.proofs.Context.{Ctx}
 use Rattle.planning_theory.proofs.Counts.{count_at, count_of, none-count, count_none, count-new, count-other}
 use Rattle.planning_theory.proofs.Chain.{Begun}
 use Rattle.planning_theory.proofs.Searches.{Alike}
+use Rattle.model.specs.Types.{None}
 
 -- ---- the relation
 
@@ -78,7 +79,7 @@ pub record Arrived (t : Settings) (events : List ℕ) (ms : List FrameUse) (g : 
     (d : Bool) : Type 0 where
   pub sim : Sim t events ms g v s k f p
   pub backs : Backups t g s k
-  pub quiet : s.note ≡ Absent
+  pub quiet : s.note ≡ None
   pub row_is : frame_row s f ≡ record { page = p; dirty = d }
   pub alone : (j : ℕ) → j < 16 → j ≢ f → (frame_row s j).page ≢ p
   pub mine : Mine t.victim g v k p d

@@ -19,7 +19,6 @@ use Rattle.planning.specs.Rehearsal.{rehearsal_of, step_on, total_of}
 use Rattle.planning.specs.RehearsalRun.{Choices, Played, play_calls, calls_in, play_events, Site, restarted_site, real_run}
 use Rattle.planning.specs.RehearsalRun.{Tried, free_slot, backed_up, Roomy, EnoughRoom}
 use Rattle.model.specs.declared.{geometry.Geometry.Geometry, change.Change.TheVariants.Put, state.Entry.Entry}
-use Rattle.model.specs.declared.{state.PendingNote.PendingNote, state.PendingNote.TheVariants.Absent}
 use Rattle.model.specs.declared.state.State.{State}
 use Rattle.planning.specs.declared.rehearsal.Settings.{Settings}
 use Rattle.planning.specs.declared.rehearsal.Figures.{Figures}
@@ -36,6 +35,7 @@ use Rattle.planning_theory.proofs.Tally.{PendingCounted, Tally, tally-free}
 use Rattle.planning_theory.proofs.Going.{Going, going, not-refused, tally-of}
 use Rattle.planning_theory.proofs.EventRoom.{Room, event-goes}
 use Rattle.planning_theory.proofs.Theorem.{history_of, restarts, clean, ctx, state-is, begins, same-figures}
+use Rattle.model.specs.Types.{PendingNote, None}
 
 -- ---- the events, one after the other
 
@@ -119,7 +119,7 @@ module _ (x : Site) (t : Settings) (F1 : 1 ≤ t.frames) (F16 : t.frames ≤ 16)
       go zero e = refl
       go (suc n) e = let f = (ctx x t F1 F16 make size).no.fit 0 (omega arith) in absurd (omega (arith, f.some, f.below))
 
-  quiet : (restart_of (fresh (history_of x [])).volume x.memory).state.note ≡ Absent
+  quiet : (restart_of (fresh (history_of x [])).volume x.memory).state.note ≡ None
   unfolding restart_state
   quiet = rw (state-is x t F1 F16 make size)
 

@@ -11,7 +11,7 @@ use Rattle.laws.proofs.Tables.{by_cases, true-not-false}
 use Rattle.model.specs.State.{frame_row}
 use Rattle.model.specs.Outcome.{StoredItem}
 use Rattle.model.specs.Calls.{Call, no_payload}
-use Rattle.model.specs.declared.{geometry.Geometry.Geometry, state.PendingNote.TheVariants.Absent, state.State.State}
+use Rattle.model.specs.declared.{geometry.Geometry.Geometry, state.State.State}
 use Rattle.model.specs.declared.command.Command.TheVariants.{Write, Release}
 use Rattle.model.specs.declared.command.Command.TheVariants.{Backup, Note}
 use Rattle.model.specs.AbstractLog.{Logged}
@@ -32,12 +32,13 @@ use Rattle.planning_theory.proofs.Taken.{write-free, backup-free, release-free}
 use Rattle.planning_theory.proofs.Totals.{notes-set, records-set, records-total}
 use Rattle.planning_theory.proofs.Tally.{Tally, tally-any}
 use Rattle.planning_theory.proofs.Going.{Going, going, going-any, tally-of, release-goes, write_goes, backup-goes, note-goes}
+use Rattle.model.specs.Types.{None}
 
 -- ---- the page of a frame makes way
 
 module _ {C : Type 0} {g : Geometry} {v m : List ℕ} {past : List StoredItem} {s : State} {k : List Logged} (x : Ctx C g v m past s k [])
     (t : Settings) (F16 : t.frames ≤ 16) (events : List ℕ) (mo : Rehearsal)
-    (f : ℕ) (low : f < t.frames) (al : use_row mo.frames f ≡ stamped events (frame_row s f)) (quiet : s.note ≡ Absent) (b : ℕ)
+    (f : ℕ) (low : f < t.frames) (al : use_row mo.frames f ≡ stamped events (frame_row s f)) (quiet : s.note ≡ None) (b : ℕ)
     (y : Tally t b m s mo.pages)
     (room : (total_of (evicted t mo f) 64).notes ≤ g.notes) where
   abbrev run : Played

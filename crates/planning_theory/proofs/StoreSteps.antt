@@ -22,7 +22,6 @@ use Rattle.model.specs.Effects.{forced_state, noted_state, force_done}
 use Rattle.model.specs.Calls.{force_of, note_call, no_payload}
 use Rattle.model.specs.declared.{command.Command.TheVariants.Force, geometry.Geometry.Geometry}
 use Rattle.model.specs.declared.{answer.Answer.TheVariants.Done, item.LogRecord.LogRecord, item.Note.Note}
-use Rattle.model.specs.declared.{state.PendingNote.PendingNote, state.PendingNote.TheVariants.Present}
 use Rattle.model.specs.declared.state.State.{State}
 use Rattle.model.specs.AbstractLog.{Logged, step_call}
 use Rattle.planning.specs.Rehearsal.{page_row, set_row, with_record, one_note}
@@ -39,6 +38,7 @@ use Rattle.history.proofs.Forces.{some-pending}
 use Rattle.planning_theory.proofs.Play.{Run, Stage, rows_none, run-as, ctx-as}
 use Rattle.planning_theory.proofs.Relation.{backup-same}
 use Rattle.model.specs.declared.command.Command.TheVariants.{Note as NoteCall}
+use Rattle.model.specs.Types.{PendingNote, Some}
 
 -- the page images as they were
 abbrev pub PagesStay : Geometry → List ℕ → List ℕ → Type 0
@@ -47,12 +47,12 @@ PagesStay g v v' = (q : ℕ) → 1 ≤ q → q ≤ g.pages → item g v' (page_a
 -- ---- Note
 
 module _ {C : Type 0} {g : Geometry} {v m : List ℕ} {past : List StoredItem} {s : State} {k w : List Logged} (x : Ctx C g v m past s k w)
-    (n : Note) (e : s.note ≡ Present n)
+    (n : Note) (e : s.note ≡ Some n)
     (fs : List Figures) (no : (play_call (Run v m past s fs) (NoteCall, no_payload)).refused ≡ false) where
   note0 : first_of (note_rows v m s) ≡ 0
   note0 = rows_none v m past s fs (NoteCall, no_payload) no
 
-  pending : PendingOk C g v k x.ns (Present n)
+  pending : PendingOk C g v k x.ns (Some n)
   pending = subst (λ (y : PendingNote). PendingOk C g v k x.ns y) e x.al.note-ok
 
   noted : Outcome

@@ -23,7 +23,7 @@ use Rattle.laws.proofs.Conditions.{not_durable}
 use Rattle.model.specs.Outcome.{StoredItem, refusal_of}
 use Rattle.model.specs.Calls.{outcome_of, Call, rows_of, no_payload}
 use Rattle.model.specs.declared.{geometry.Geometry.Geometry, change.Change.Change}
-use Rattle.model.specs.declared.{state.PendingNote.TheVariants.Absent, state.State.State}
+use Rattle.model.specs.declared.{state.State.State}
 use Rattle.model.specs.declared.command.Command.TheVariants.{Begin, Load, Force, Write, Release}
 use Rattle.model.specs.declared.command.Command.TheVariants.{Change as ChangeCall, Backup, Note}
 use Rattle.model.specs.AbstractLog.{Logged}
@@ -41,6 +41,7 @@ use Rattle.history.proofs.Loads.{load-unbroken, load-granted}
 use Rattle.history.proofs.Refusals.{call-refusal, own_rows, rows_are}
 use Rattle.planning_theory.proofs.Play.{Run}
 use Rattle.planning_theory.proofs.Relation.{all-is, last-is, durable-is}
+use Rattle.model.specs.Types.{None}
 
 pub taken-call : (v m : List ℕ) (past : List StoredItem) (s : State) (fs : List Figures) (c : Call) → first_of (rows_of c v m s) ≡ 0
     → (play_call (Run v m past s fs) c).refused ≡ false
@@ -135,7 +136,7 @@ module _ {C : Type 0} {g : Geometry} {v m : List ℕ} {past : List StoredItem} {
 
     -- ---- the calls
 
-    pub write-free : (p f : ℕ) → 1 ≤ p → p ≤ g.pages → f < 16 → (frame_row s f).page ≡ p → s.note ≡ Absent → s.notes < g.notes
+    pub write-free : (p f : ℕ) → 1 ≤ p → p ≤ g.pages → f < 16 → (frame_row s f).page ≡ p → s.note ≡ None → s.notes < g.notes
         → first_of (rows_of (Write p, no_payload) v m s) ≡ 0
     unfolding own_rows
     write-free p f lo hi b e quiet n =
@@ -155,7 +156,7 @@ module _ {C : Type 0} {g : Geometry} {v m : List ℕ} {past : List StoredItem} {
         )
 
     pub backup-free : (p f slot : ℕ) → 1 ≤ p → p ≤ g.pages → f < 16 → (frame_row s f).page ≡ p → 1 ≤ slot
-        → slot ≤ g.slots → s.note ≡ Absent
+        → slot ≤ g.slots → s.note ≡ None
         → s.notes < g.notes → slot_used slot s.index ≡ false
         → first_of (rows_of (Backup p slot, no_payload) v m s) ≡ 0
     unfolding own_rows

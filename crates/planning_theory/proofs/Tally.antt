@@ -16,19 +16,19 @@ use Rattle.model.specs.Index.{empty_entry, entry_of, set_entry, with_last, with_
 use Rattle.model.specs.State.{pending_at, frame_at, last_number}
 use Rattle.model.specs.Effects.{appended_state, appended_memory, forced_state, noted_state}
 use Rattle.planning.specs.Rehearsal.{page_row, set_row, one_note, total_of}
-use Rattle.model.specs.declared.{change.Change.Change, item.Note.Note, state.Entry.Entry, state.PendingNote.PendingNote}
+use Rattle.model.specs.declared.{change.Change.Change, item.Note.Note, state.Entry.Entry}
 use Rattle.model.specs.declared.state.State.{State}
-use Rattle.model.specs.declared.state.PendingNote.TheVariants.{Absent, Present}
 use Rattle.planning.specs.declared.rehearsal.Settings.{Settings}
 use Rattle.planning.specs.declared.rehearsal.Figures.{Figures}
 use Rattle.planning_theory.proofs.Relation.{column-same}
 use Rattle.planning_theory.proofs.Totals.{total-notes, notes-set, set-each, column-grows}
 use Rattle.planning_theory.proofs.Slots.{Covered}
+use Rattle.model.specs.Types.{PendingNote, None, Some}
 
 -- a pending note of a backup: the backup was counted; and while slot b is kept free there is none
 abbrev pub PendingCounted : ℕ → List Figures → PendingNote → Type 0
-PendingCounted b fs Absent = Unit {0}
-PendingCounted b fs (Present n) = is_written n ≡ false → ((page_row fs n.page).backups ≢ 0) × (b ≡ 0)
+PendingCounted b fs None = Unit {0}
+PendingCounted b fs (Some n) = is_written n ≡ false → ((page_row fs n.page).backups ≢ 0) × (b ≡ 0)
 
 -- slot b is free, unless it is 0
 pub record Tally (t : Settings) (b : ℕ) (m : List ℕ) (s : State) (fs : List Figures) : Type 0 where
@@ -69,8 +69,8 @@ covered_same index fs fs' up h p lo hi nz z = h p lo hi nz (omega (arith, up p))
 
 pub pending-same : (b : ℕ) (fs fs' : List Figures) → ((p : ℕ) → (page_row fs p).backups ≤ (page_row fs' p).backups) → (n : PendingNote)
     → PendingCounted b fs n → PendingCounted b fs' n
-pending-same b fs fs' up Absent o = tt
-pending-same b fs fs' up (Present n) o = λ w. (λ z. (o w).0 (omega (arith, up n.page)), (o w).1)
+pending-same b fs fs' up None o = tt
+pending-same b fs fs' up (Some n) o = λ w. (λ z. (o w).0 (omega (arith, up n.page)), (o w).1)
 
 -- ---- the index
 
@@ -107,7 +107,7 @@ module _ {t : Settings} {b : ℕ} {m : List ℕ} {s : State} {fs : List Figures}
       }
 
   -- slot c, too, may be kept free, where no note is pending
-  pub tally-free : (c : ℕ) → s.note ≡ Absent → slot_used c s.index ≡ false → Tally t c m s fs
+  pub tally-free : (c : ℕ) → s.note ≡ None → slot_used c s.index ≡ false → Tally t c m s fs
   tally-free c quiet e =
       record {
         frames = y.frames;
@@ -132,8 +132,8 @@ module _ {t : Settings} {b : ℕ} {m : List ℕ} {s : State} {fs : List Figures}
       }
     where
       any : (n : PendingNote) → PendingCounted b fs n → PendingCounted 0 fs n
-      any Absent o = tt
-      any (Present n) o = λ w. ((o w).0, refl)
+      any None o = tt
+      any (Some n) o = λ w. ((o w).0, refl)
 
   -- frames and a pending note
   pub tally-frames : (m' : List ℕ) (s' : State) (fs' : List Figures) → length m ≤ length m' → Preserved fs fs' → s'.notes ≡ s.notes
@@ -176,7 +176,7 @@ module _ {t : Settings} {b : ℕ} {m : List ℕ} {s : State} {fs : List Figures}
       go false = slots_same s.index
 
   -- the note is stored
-  module _ (n : Note) (lo : 1 ≤ n.page) (hi : n.page ≤ 64) (e : s.note ≡ Present n) where
+  module _ (n : Note) (lo : 1 ≤ n.page) (hi : n.page ≤ 64) (e : s.note ≡ Some n) where
     abbrev fs' : List Figures
     fs' = set_row fs n.page (one_note (page_row fs n.page))
 

@@ -18,7 +18,7 @@ use Rattle.model.specs.Outcome.{StoredItem, one_item, Outcome, volume_after, dec
 use Rattle.model.specs.Effects.{with_frame, with_frames, next_note, noted_state, write_outcome}
 use Rattle.model.specs.Calls.{write_of, no_payload}
 use Rattle.model.specs.declared.{geometry.Geometry.Geometry, answer.Answer.TheVariants.Done, item.Note.Note}
-use Rattle.model.specs.declared.{state.Entry.Entry, state.Frame.Frame, state.PendingNote.TheVariants.Absent}
+use Rattle.model.specs.declared.{state.Entry.Entry, state.Frame.Frame}
 use Rattle.model.specs.declared.state.State.{State}
 use Rattle.model.specs.declared.command.Command.TheVariants.{Write, Note as NoteCall}
 use Rattle.model.specs.AbstractLog.{Logged, step_call}
@@ -40,6 +40,7 @@ use Rattle.planning_theory.proofs.Relation.{backup-same, backups-same, all-is}
 use Rattle.planning_theory.proofs.StoreSteps.{note_step}
 use Rattle.planning_theory.proofs.BackupStep.{noted-frames, noted-quiet}
 use Rattle.planning_theory.proofs.AwayStep.{Away, low-page, high-page, q64, row_is}
+use Rattle.model.specs.Types.{None}
 
 -- a written note leaves every backup number
 noted-backups : (s : State) (n : Note) → n.kind ≡ 1 → (q : ℕ) → (entry_of (noted_state s n).index q).backup ≡ (entry_of s.index q).backup
@@ -53,7 +54,7 @@ noted-backups s n e q =
 module _ {C : Type 0} {g : Geometry} {v m : List ℕ} {past : List StoredItem} {s : State} {k : List Logged} (x : Ctx C g v m past s k [])
     (t : Settings) (events : List ℕ) (ms : List FrameUse)
     (f : ℕ) (low : f < t.frames) (few : t.frames ≤ 16) (fs : List Figures) (rows : Rows fs k) (sim : Sim t events ms g v s k 16 0)
-    (bk : Backups t g s k) (quiet : s.note ≡ Absent) where
+    (bk : Backups t g s k) (quiet : s.note ≡ None) where
   f16 : f < 16
   f16 = omega arith
 
@@ -157,7 +158,7 @@ module _ {C : Type 0} {g : Geometry} {v m : List ℕ} {past : List StoredItem} {
 
       after : (v' : List ℕ) (s' : State) → s' ≡ noted_state done.state note_for
           → ((r : ℕ) → 1 ≤ r → r ≤ g.pages → item g v' (page_at r) ≡ item g (volume_after v done.stored) (page_at r))
-          → Sim t events ms g v' s' k f 0 × Backups t g s' k × (s'.note ≡ Absent)
+          → Sim t events ms g v' s' k f 0 × Backups t g s' k × (s'.note ≡ None)
       after v' s' es pg =
           let fr : (j : ℕ) → j ≢ f → frame_row s' j ≡ frame_row s j =
           λ j n. ap (λ (l : List Frame). get_or l j empty_frame)

@@ -6,7 +6,7 @@ use Rattle.model.specs.Geometry.{most, most_notes}
 use Rattle.model.specs.State.{empty_frame, holder_from, pending_note_fits, entry_zero}
 use Rattle.model.specs.Index.{entry_row, entry_of}
 use Rattle.model.specs.declared.{geometry.Geometry.Geometry, state.Entry.Entry, state.Frame.Frame}
-use Rattle.model.specs.declared.state.PendingNote.{PendingNote}
+use Rattle.model.specs.Types.{PendingNote}
 
 -- no row of a frame table before row i holds its page
 abbrev pub first_in : List Frame → ℕ → Bool

@@ -19,8 +19,7 @@ use Rattle.model.specs.declared.change.Change.{Change}
 use Rattle.model.specs.declared.answer.Reply.{Reply}
 use Rattle.model.specs.declared.command.Command.{Command}
 use Rattle.model.specs.declared.state.State.{State}
-use Rattle.model.specs.declared.state.PendingNote.{PendingNote}
-use Rattle.model.specs.declared.state.PendingNote.TheVariants.{Absent, Present}
+use Rattle.model.specs.Types.{PendingNote, None, Some}
 
 module _ (v m : List ℕ) (s : State) where
   -- a call that stores nothing where it is not refused
@@ -70,8 +69,8 @@ module _ (v m : List ℕ) (s : State) where
   release-memory page = same_memory (release_rows v m s page) _ refl
 
   noted : (p : PendingNote) → (note_stored v m s p).memory ≡ m
-  noted Absent = refl
-  noted (Present n) = refl
+  noted None = refl
+  noted (Some n) = refl
 
   pub note-memory : m ≡ (note_call v m s).memory
   unfolding decided

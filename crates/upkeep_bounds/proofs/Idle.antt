@@ -15,7 +15,7 @@ use Rattle.model.specs.Outcome.{refusal_of}
 use Rattle.model.specs.Calls.{outcome_of}
 use Rattle.model.specs.Claim.{reached}
 use Rattle.model.specs.declared.{geometry.Heading.TheVariants.Second, answer.Answer.TheVariants.Nothing}
-use Rattle.model.specs.declared.{state.State.State, state.PendingNote.TheVariants.Absent}
+use Rattle.model.specs.declared.{state.State.State}
 use Rattle.upkeep_policy.specs.Upkeep.{Advice, idle, stuck, make, is_idle, free_slot, upkeep_of}
 use Rattle.upkeep_policy.specs.UpkeepClaim.{NotFull, NotBlocked, NumbersLeft}
 use Rattle.upkeep_theory.proofs.Holds.{upkeep-holds}
@@ -27,6 +27,7 @@ use Rattle.cases.specs.Rings.{reach_ring, put}
 use Rattle.cases.specs.States.{entry, none, frame, state_with}
 use Rattle.cases.proofs.Tests.{holds, state_in}
 use Rattle.upkeep_bounds.proofs.TwoPages.{two_pages, quiet, quiet-legal, quiet-on, legal, is-on}
+use Rattle.model.specs.Types.{None}
 
 is-idle : (a : Advice) → T (is_idle a) → a ≡ idle
 is-idle idle t = refl
@@ -40,7 +41,7 @@ ring_volume = empty_volume Second 1 1 2 2
 
 -- page 1 is in a frame and clean; one number is left for a record, and one for a note
 abbrev state_one_left : State
-state_one_left = state_with 4294967294 0 4294967294 Absent (frame 1 false) (frame 0 false) (entry 1 1 0 0 0) none none
+state_one_left = state_with 4294967294 0 4294967294 None (frame 1 false) (frame 0 false) (entry 1 1 0 0 0) none none
 
 a-ring : ring (geometry_of ring_volume) ≡ true
 unfolding opened
@@ -66,7 +67,7 @@ pub taken : (refusal_of (outcome_of (put 5) ring_volume (memory 2) state_one_lef
 taken = (safe.not-pending, safe.not-log, safe.not-noting, safe.not-notes)
 
 -- the numbers that T2 asks for, of two pages with W 1, none to spare
-pub numbers-left : NumbersLeft two_pages (state_with 4294967292 0 4294967290 Absent (frame 0 false) (frame 0 false) none none none) 1
+pub numbers-left : NumbersLeft two_pages (state_with 4294967292 0 4294967290 None (frame 0 false) (frame 0 false) none none none) 1
 numbers-left = record { durable = omega arith; notes = omega arith }
 
 -- ---- a slot is left

@@ -14,14 +14,14 @@ use Rattle.model.specs.State.{frame_count, frame_bytes, record_needed, log_full,
 use Rattle.model.specs.Refusals.{page_dirty, state_rows, load_rows}
 use Rattle.model.specs.Calls.{Call, code_of, no_payload}
 use Rattle.model.specs.declared.{change.Change.TheVariants.Put, geometry.Geometry.Geometry}
-use Rattle.model.specs.declared.{state.PendingNote.PendingNote, state.State.State}
+use Rattle.model.specs.declared.{state.State.State}
 use Rattle.model.specs.declared.command.Command.TheVariants.{Load, Force, Write}
-use Rattle.model.specs.declared.state.PendingNote.TheVariants.{Absent, Present}
 use Rattle.model.specs.declared.command.Command.TheVariants.{Change, Backup, Note}
 use Rattle.model.specs.History.{Power, off, on, Machine, Event, restart, perform, crash, crash_in, damage, step}
 use Rattle.model.specs.Carry.{carries, count_of}
 use Rattle.upkeep_policy.specs.declared.upkeep.Advised.{Advised}
 use Rattle.upkeep_policy.specs.declared.upkeep.Upkeep.TheVariants.{Refused, Idle, Stuck, Make}
+use Rattle.model.specs.Types.{PendingNote, None, Some}
 
 -- ---- positions
 
@@ -185,8 +185,8 @@ written_pages v =
     count_of 64 (λ i. not (eqb (entry_row index i).written 0))
 
 abbrev pub pending_written : PendingNote → ℕ → Bool
-pending_written Absent p = false
-pending_written (Present n) p = is_written n && eqb n.page p
+pending_written None p = false
+pending_written (Some n) p = is_written n && eqb n.page p
 
 unfoldable pub ever_written : State → ℕ
 ever_written s = count_of 64 (λ i. not (eqb (entry_row s.index i).written 0) || pending_written s.note (suc i))

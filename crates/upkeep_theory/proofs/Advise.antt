@@ -24,8 +24,7 @@ use Rattle.model.specs.Outcome.{StoredItem, volume_after, decided}
 use Rattle.model.specs.Effects.{note_stored, noted_state, forced_state, force_done}
 use Rattle.model.specs.Calls.{Call, outcome_of, no_payload}
 use Rattle.model.specs.declared.{command.Command.TheVariants.Force, geometry.Geometry.Geometry, item.Note.Note}
-use Rattle.model.specs.declared.{state.PendingNote.PendingNote, state.State.State}
-use Rattle.model.specs.declared.state.PendingNote.TheVariants.{Absent, Present}
+use Rattle.model.specs.declared.{state.State.State}
 use Rattle.model.specs.Carry.{count_of}
 use Rattle.model.specs.AbstractLog.{Logged}
 use Rattle.history.proofs.Marks.{len_n}
@@ -48,30 +47,31 @@ use Rattle.upkeep_theory.proofs.Renewals.{Then, by_rows, load_step, backup-step,
 use Rattle.upkeep_theory.proofs.Renewals.{put_step}
 use Rattle.upkeep_theory.proofs.Measure.{written-bound}
 use Rattle.model.specs.declared.command.Command.TheVariants.{Note as NoteCall}
+use Rattle.model.specs.Types.{PendingNote, None, Some}
 
 module _ {C : Type 0} {g : Geometry} {v m : List ℕ} {past : List StoredItem} {s : State} {k w : List Logged}
     (x : Ctx C g v m past s k w) (turns : ring g ≡ true) (n2 : 2 ≤ g.notes) (W : ℕ)
     (room : g.pages + W + 2 ≤ g.notes)
-    (fl : count_of 64 (wrote_in x.ns) ≤ W) (fn : (n : Note) → s.note ≡ Present n
+    (fl : count_of 64 (wrote_in x.ns) ≤ W) (fn : (n : Note) → s.note ≡ Some n
     → count_of 64 (wrote_in (x.ns ++ (n ∷ []))) ≤ W) where
   module _ (cuts : ℕ) (t : Tidy g v s cuts) where
     -- ---- U1
 
     -- counted in the next state, they are not too many
-    not-many : (n : Note) → s.note ≡ Present n → suc s.notes + 2 ≤ t.z.k0 + g.notes
+    not-many : (n : Note) → s.note ≡ Some n → suc s.notes + 2 ≤ t.z.k0 + g.notes
     not-many n q =
         let st = note-store x n (rw q at x.al.note-ok) in
         let a1 : s.notes + 1 ≡ suc s.notes = add-one s.notes in
         let v' = store g v (note_slot g (suc s.notes)) (note_bytes n) in
-        let nt : NotesTidy g v' (suc s.notes) t.z.k0 Absent =
+        let nt : NotesTidy g v' (suc s.notes) t.z.k0 None =
         tidy-note g v n (rw q at t.notes) n2 x.hs.vol t.near (note-length n) (noting-back x n q)
         (noting-number x n q) in
         let kk : suc s.notes ≡ length (x.ns ++ (n ∷ [])) = omega (arith, len_n x.ns n, x.al.notes-is) in
         let cnt = since-few g v' k (rw a1 at st.holds') (x.ns ++ (n ∷ [])) (rw a1 at st.noted') t.z.k0
-        (subst (λ (y : ℕ). NotesTidy g v' y t.z.k0 Absent) kk nt) (omega (arith, t.near)) W (fn n q) in
+        (subst (λ (y : ℕ). NotesTidy g v' y t.z.k0 None) kk nt) (omega (arith, t.near)) W (fn n q) in
         omega arith
 
-    note-stored : (n : Note) → s.note ≡ Present n
+    note-stored : (n : Note) → s.note ≡ Some n
         → From g (store g v (note_slot g (suc s.notes)) (note_bytes n)) (noted_state s n) cuts t.z.k0
     note-stored n q =
         let f = noted-counts s n in
@@ -84,8 +84,8 @@ module _ {C : Type 0} {g : Geometry} {v m : List ℕ} {past : List StoredItem} {
 
     note-one : (y : PendingNote) → s.note ≡ y → note_pending y ≡ true → Then t (note_stored v m s y)
     unfolding volume_after
-    note-one Absent q p = absurd (true-not-false p refl)
-    note-one (Present n) q p =
+    note-one None q p = absurd (true-not-false p refl)
+    note-one (Some n) q p =
         let a1 : s.notes + 1 ≡ suc s.notes = add-one s.notes in
         rw (geo x) (subst (λ (y : ℕ). From g (store g v (note_slot g y) (note_bytes n)) (noted_state s n) cuts t.z.k0)
         (sym a1) (note-stored n q))

@@ -22,8 +22,7 @@ use Rattle.model.specs.Calls.{outcome_of, no_payload}
 use Rattle.model.specs.Carry.{count_of}
 use Rattle.model.specs.AbstractLog.{Logged}
 use Rattle.model.specs.declared.{geometry.Geometry.Geometry, item.Note.Note, state.Entry.Entry}
-use Rattle.model.specs.declared.{state.PendingNote.PendingNote, state.State.State}
-use Rattle.model.specs.declared.state.PendingNote.TheVariants.{Absent, Present}
+use Rattle.model.specs.declared.{state.State.State}
 use Rattle.history.proofs.Persists.{note-store}
 use Rattle.history.proofs.Refusals.{own_rows, rows_are}
 use Rattle.history.proofs.Marks.{mark_at}
@@ -31,6 +30,7 @@ use Rattle.history.proofs.Context.{Ctx, geo, entry-is, sized}
 use Rattle.upkeep_policy.specs.Upkeep.{make, written_pages, upkeep_of}
 use Rattle.upkeep_theory.proofs.Near.{wrote_in, written-pages}
 use Rattle.model.specs.declared.command.Command.TheVariants.{Note as NoteCall}
+use Rattle.model.specs.Types.{PendingNote, None, Some}
 
 -- ---- the cap on cuts
 
@@ -58,13 +58,13 @@ module _ {C : Type 0} {g : Geometry} {v m : List ℕ} {past : List StoredItem} {
 -- ---- the volume after the owed note
 
 module _ {C : Type 0} {g : Geometry} {v m : List ℕ} {past : List StoredItem} {s : State} {k w : List Logged}
-    (x : Ctx C g v m past s k w) (n : Note) (noting : s.note ≡ Present n) where
-  stored_of : (y : PendingNote) → y ≡ Present n
+    (x : Ctx C g v m past s k w) (n : Note) (noting : s.note ≡ Some n) where
+  stored_of : (y : PendingNote) → y ≡ Some n
       → volume_after v (note_stored v m s y).stored ≡ store (geometry_of v) v (note_slot (geometry_of v) (s.notes + 1))
       (note_bytes n)
   unfolding volume_after
-  stored_of Absent e = let z : ◌≡◌ {A = ℕ} 0 1 = cc in absurd (omega arith)
-  stored_of (Present y) e = let z : y ≡ n = cc in rw z
+  stored_of None e = let z : ◌≡◌ {A = ℕ} 0 1 = cc in absurd (omega arith)
+  stored_of (Some y) e = let z : y ≡ n = cc in rw z
 
   note-volume : volume_after v (outcome_of (NoteCall, no_payload) v m s).stored ≡ store g v (note_slot g (s.notes + 1)) (note_bytes n)
   unfolding decided own_rows

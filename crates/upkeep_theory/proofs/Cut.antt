@@ -19,10 +19,9 @@ use Rattle.model.specs.Outcome.{StoredItem, Outcome, volume_after, decided}
 use Rattle.model.specs.Effects.{note_stored, backup_done, begin_done, change_done, force_done, load_done, release_done, write_outcome}
 use Rattle.model.specs.Calls.{Call, outcome_of}
 use Rattle.model.specs.Restart.{restart_state}
-use Rattle.model.specs.declared.{geometry.Geometry.Geometry, item.Note.Note, state.PendingNote.PendingNote}
+use Rattle.model.specs.declared.{geometry.Geometry.Geometry, item.Note.Note}
 use Rattle.model.specs.declared.state.State.{State}
 use Rattle.model.specs.declared.command.Command.TheVariants.{Begin, Load, Force, Write, Release, StartCarry, Restamp, FinishCarry}
-use Rattle.model.specs.declared.state.PendingNote.TheVariants.{Absent, Present}
 use Rattle.model.specs.declared.command.Command.TheVariants.{Change, Backup, Note as NoteCall}
 use Rattle.model.specs.Carry.{carries}
 use Rattle.model.specs.AbstractLog.{Logged, torn}
@@ -38,8 +37,9 @@ use Rattle.upkeep_theory.proofs.TidySteps.{cut}
 use Rattle.upkeep_theory.proofs.TidyStores.{torn-tidy, torn-note-tidy}
 use Rattle.upkeep_theory.proofs.Live.{marks-restart, durable-restart, notes-restart}
 use Rattle.upkeep_theory.proofs.Step.{l2}
+use Rattle.model.specs.Types.{PendingNote, None, Some}
 
-restart-rests : (v : List ℕ) → ((restart_state v).pending ≡ 0) × ((restart_state v).note ≡ Absent)
+restart-rests : (v : List ℕ) → ((restart_state v).pending ≡ 0) × ((restart_state v).note ≡ None)
 unfolding restart_state
 restart-rests v = (refl, refl)
 
@@ -89,7 +89,7 @@ module _ {C : Type 0} {g : Geometry} {v m : List ℕ} {past : List StoredItem} {
       (notes-restart x v' st.0 st.1) q.0 q.1 bad (durable-restart x v' st.0 st.1) in
       subst (λ (d : ℕ). Tidy g (store g v (log_slot g d) xs) (restart_state v') (suc cuts)) (sym (add-one s.durable)) y
 
-  torn-note : (n : Note) → s.note ≡ Present n → (xs : List ℕ) → length xs ≡ 16 → sealed 12 xs ≡ false
+  torn-note : (n : Note) → s.note ≡ Some n → (xs : List ℕ) → length xs ≡ 16 → sealed 12 xs ≡ false
       → Tidy g (store g v (note_slot g (s.notes + 1)) xs) (restart_state (store g v (note_slot g (s.notes + 1)) xs))
       (suc cuts)
   torn-note n e xs size bad =
@@ -105,8 +105,8 @@ module _ {C : Type 0} {g : Geometry} {v m : List ℕ} {past : List StoredItem} {
       → torn_fits (geometry_of v) (note_stored v m s y).stored (torn xs) ≡ true
       → TornAt (note_stored v m s y).stored xs
   unfolding volume_after
-  note-cut Absent e xs f = cut-here
-  note-cut (Present n) e xs f =
+  note-cut None e xs f = cut-here
+  note-cut (Some n) e xs f =
       let z = size_of (note_slot g (s.notes + 1)) xs f in
       rw (geo x) (torn-note n e xs z.0 z.1)
 

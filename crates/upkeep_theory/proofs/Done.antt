@@ -23,10 +23,9 @@ use Rattle.model.specs.Outcome.{StoredItem, refusal_of, decided}
 use Rattle.model.specs.Effects.{note_stored, backup_done, change_done, force_done, load_done, write_outcome}
 use Rattle.model.specs.Calls.{Call, outcome_of, rows_of, no_payload}
 use Rattle.model.specs.declared.{change.Change.TheVariants.Put, answer.Answer.Answer, answer.Repair.Repair}
-use Rattle.model.specs.declared.{geometry.Geometry.Geometry, state.PendingNote.PendingNote, state.State.State}
+use Rattle.model.specs.declared.{geometry.Geometry.Geometry, state.State.State}
 use Rattle.model.specs.declared.command.Command.TheVariants.{Load, Force, Write}
 use Rattle.model.specs.declared.answer.Answer.TheVariants.{Nothing, Done, Repaired}
-use Rattle.model.specs.declared.state.PendingNote.TheVariants.{Absent, Present}
 use Rattle.model.specs.declared.command.Command.TheVariants.{Backup, Note}
 use Rattle.model.specs.AbstractLog.{Logged}
 use Rattle.history.proofs.Logs.{last-mono}
@@ -39,6 +38,7 @@ use Rattle.upkeep_theory.proofs.Quiet.{never-blocked, never-early}
 use Rattle.upkeep_theory.proofs.Pages.{Known, note-known, record-known}
 use Rattle.upkeep_theory.proofs.Shape.{Renewal, loads, backs, writes, puts, Advised, notes, forces, by_note}
 use Rattle.upkeep_theory.proofs.Shape.{by_log, advised}
+use Rattle.model.specs.Types.{PendingNote, None, Some}
 
 -- a call that is done
 pub record IsDone (a : Answer) : Type 0 where
@@ -69,8 +69,8 @@ module _ {C : Type 0} {g : Geometry} {v m : List ℕ} {past : List StoredItem} {
   note-done t = rw (rows_are x (Note, no_payload)) (go s.note t)
     where
       go : (y : PendingNote) → note_pending y ≡ true → IsDone (note_stored v m s y).answer
-      go Absent t = absurd (true-not-false t refl)
-      go (Present n) t = is-done
+      go None t = absurd (true-not-false t refl)
+      go (Some n) t = is-done
 
   force-done : 1 ≤ s.pending → IsDone (outcome_of (Force, no_payload) v m s).answer
   unfolding decided force_done own_rows

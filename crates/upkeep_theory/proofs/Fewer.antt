@@ -20,7 +20,6 @@ use Rattle.model.specs.Effects.{with_frames, appended_state, noted_state}
 use Rattle.model.specs.AbstractLog.{Logged}
 use Rattle.model.specs.declared.{geometry.Geometry.Geometry, item.Note.Note, state.Entry.Entry, state.Frame.Frame}
 use Rattle.model.specs.declared.state.State.{State}
-use Rattle.model.specs.declared.state.PendingNote.TheVariants.{Absent, Present}
 use Rattle.history.proofs.Marks.{note as note', mark_at}
 use Rattle.history.proofs.Context.{Ctx, sized}
 use Rattle.upkeep_policy.specs.Upkeep.{ever_written, pending_written}
@@ -31,6 +30,7 @@ use Rattle.upkeep_theory.proofs.Live.{noting-ok}
 use Rattle.upkeep_theory.proofs.Step.{place2}
 use Rattle.upkeep_theory.proofs.Same.{few-same, written-appended}
 use Rattle.upkeep_theory.proofs.StateCounts.{appended-counts}
+use Rattle.model.specs.Types.{None, Some}
 
 -- Load: frames alone
 pub few-load : (s : State) (fs : List Frame) → ever_written (with_frames s fs s.note) ≤ ever_written s
@@ -45,15 +45,15 @@ few-put s p f = few-same s (appended_state s p f) (written-appended s p f)
 
 -- Backup: its note is no written one
 pub few-backup : (s : State) (fs : List Frame) (n : Note) → is_written n ≡ false
-    → ever_written (with_frames s fs (Present n)) ≤ ever_written s
-few-backup s fs n b = few-same s (with_frames s fs (Present n)) (λ i. refl)
+    → ever_written (with_frames s fs (Some n)) ≤ ever_written s
+few-backup s fs n b = few-same s (with_frames s fs (Some n)) (λ i. refl)
     (λ i u. absurd (true-not-false (and_left (is_written n) (eqb n.page (suc i)) u) b))
 
 -- Write: of a page that has a written number
 pub few-write : (s : State) (fs : List Frame) (n : Note)
     → not (eqb (entry_row s.index (n.page - 1)).written 0) ≡ true
-    → ever_written (with_frames s fs (Present n)) ≤ ever_written s
-few-write s fs n h = few-same s (with_frames s fs (Present n)) (λ i. refl)
+    → ever_written (with_frames s fs (Some n)) ≤ ever_written s
+few-write s fs n h = few-same s (with_frames s fs (Some n)) (λ i. refl)
     (λ i u.
     let e : n.page - 1 ≡ i =
     omega (arith, eqb-true n.page (suc i) (and_right (is_written n) (eqb n.page (suc i)) u)) in
@@ -79,12 +79,12 @@ module _ {C : Type 0} {g : Geometry} {v m : List ℕ} {past : List StoredItem} {
       rw (is, q) y
 
   -- Note: the owed note's page was counted
-  pub few-noted : (n : Note) → s.note ≡ Present n → ever_written (noted_state s n) ≤ ever_written s
+  pub few-noted : (n : Note) → s.note ≡ Some n → ever_written (noted_state s n) ≤ ever_written s
   unfolding ever_written noted_state enter_note
   few-noted n noting = count-le 64 _ _ each
     where
       each : (i : ℕ) → i < 64
-          → (not (eqb (entry_row (enter_note s.index n) i).written 0) || pending_written Absent (suc i)) ≡ true
+          → (not (eqb (entry_row (enter_note s.index n) i).written 0) || pending_written None (suc i)) ≡ true
           → (not (eqb (entry_row s.index i).written 0) || pending_written s.note (suc i)) ≡ true
       each i b t = elim (ℕ_discrete n.page (suc i)) [
         | yes e ↦ by_cases (is_written n)

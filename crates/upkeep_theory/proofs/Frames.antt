@@ -25,9 +25,8 @@ use Rattle.model.specs.Effects.{changed_image, forced_state, note_stored, noted_
 use Rattle.model.specs.Effects.{backup_done, change_done, force_done, load_done, write_outcome}
 use Rattle.model.specs.Calls.{Call, outcome_of, no_payload}
 use Rattle.model.specs.declared.{change.Change.TheVariants.Put, geometry.Geometry.Geometry, state.Frame.Frame}
-use Rattle.model.specs.declared.{state.PendingNote.PendingNote, state.State.State}
+use Rattle.model.specs.declared.{state.State.State}
 use Rattle.model.specs.declared.command.Command.TheVariants.{Load, Force, Write}
-use Rattle.model.specs.declared.state.PendingNote.TheVariants.{Absent, Present}
 use Rattle.model.specs.declared.command.Command.TheVariants.{Backup, Note}
 use Rattle.model.specs.AbstractLog.{Logged}
 use Rattle.history.proofs.Logs.{last_of, body_of, last-le}
@@ -42,6 +41,7 @@ use Rattle.upkeep_policy.specs.UpkeepClaim.{SameFrame, FramesStay}
 use Rattle.upkeep_theory.proofs.Shape.{Renewal, loads, backs, writes, puts, Advised, notes, forces, by_note}
 use Rattle.upkeep_theory.proofs.Shape.{by_log, advised}
 use Rattle.upkeep_theory.proofs.Text.{put_same, frame_byte, put-found}
+use Rattle.model.specs.Types.{PendingNote, None, Some}
 
 module _ (m : List ℕ) (s : State) (f : ℕ) where
   -- memory and frames as they were
@@ -97,8 +97,8 @@ module _ {C : Type 0} {g : Geometry} {v m : List ℕ} {past : List StoredItem} {
   note-stays = by-decided m s f (note_rows v m s) _ (λ e. go s.note)
     where
       go : (y : PendingNote) → SameFrame m s (note_stored v m s y).memory (note_stored v m s y).state f
-      go Absent = nothing-moves m s f s refl
-      go (Present n) = nothing-moves m s f (noted_state s n) refl
+      go None = nothing-moves m s f s refl
+      go (Some n) = nothing-moves m s f (noted_state s n) refl
 
   force-stays : Stays (Force, no_payload)
   unfolding decided force_done forced_state

@@ -21,7 +21,6 @@ use Rattle.model.specs.History.{fresh_machine, all_allowed, run, log_after}
 use Rattle.model.specs.Carry.{starts_in}
 use Rattle.model.specs.Claim.{History, Legal, fresh, reached, log_of}
 use Rattle.model.specs.declared.{geometry.Geometry.Geometry, geometry.Heading.TheVariants.Second}
-use Rattle.model.specs.declared.state.PendingNote.TheVariants.{Absent}
 use Rattle.history.proofs.Inv.{Inv}
 use Rattle.history.proofs.LogScan.{durable-count}
 use Rattle.history.proofs.Reached.{Undamaged, made_with, tied, uncarried}
@@ -29,6 +28,7 @@ use Rattle.upkeep_policy.specs.Upkeep.{note_ahead, log_ahead}
 use Rattle.upkeep_theory.proofs.Followed.{Followed}
 use Rattle.upkeep_theory.proofs.Tidy.{Tidy, idle}
 use Rattle.upkeep_theory.proofs.Along.{FollowedAt, along}
+use Rattle.model.specs.Types.{None}
 
 -- the history before its events
 abbrev begun : History → History
@@ -100,7 +100,7 @@ module _ (h : History) (legal : Legal h) (second : h.heading ≡ Second) (l2 : 2
       let i = inv0 in
       rw i.holds.vol.geo (durable-count g (fresh h).volume [] i.holds i.ns i.noted)
 
-  rests : ((restart_state (fresh h).volume).note ≡ Absent) × ((restart_state (fresh h).volume).pending ≡ 0)
+  rests : ((restart_state (fresh h).volume).note ≡ None) × ((restart_state (fresh h).volume).pending ≡ 0)
   unfolding restart_state
   rests = (refl, refl)
 

@@ -21,7 +21,7 @@ use Rattle.model.specs.Calls.{Call}
 use Rattle.model.specs.Carry.{count_of}
 use Rattle.model.specs.AbstractLog.{Logged}
 use Rattle.model.specs.declared.{change.Change.TheVariants.Put, geometry.Geometry.Geometry, item.Note.Note}
-use Rattle.model.specs.declared.{state.PendingNote.TheVariants.Present, state.State.State}
+use Rattle.model.specs.declared.{state.State.State}
 use Rattle.history.proofs.Context.{Ctx, geo}
 use Rattle.upkeep_policy.specs.Upkeep.{note_ahead, note_position}
 use Rattle.upkeep_theory.proofs.Shape.{Renewal, loads, backs as backing, writes as writing, puts, Advised, notes}
@@ -35,6 +35,7 @@ use Rattle.upkeep_theory.proofs.Step.{place2, needs-second}
 use Rattle.upkeep_theory.proofs.Renewals.{dirty-now}
 use Rattle.upkeep_theory.proofs.Load.{weight, Least}
 use Rattle.upkeep_theory.proofs.StateCounts.{appended-counts, forced-counts}
+use Rattle.model.specs.Types.{Some}
 
 pub record Halfway (g : Geometry) (v : List ℕ) (s : State) : Type 0 where
   pub place : ℕ
@@ -100,7 +101,7 @@ module _ {C : Type 0} {g : Geometry} {v m : List ℕ} {past : List StoredItem} {
 
   -- after the put
   module _ (W : ℕ) (room : g.pages + W + 2 ≤ g.notes)
-      (fl : count_of 64 (wrote_in x.ns) ≤ W) (fn : (n : Note) → s.note ≡ Present n
+      (fl : count_of 64 (wrote_in x.ns) ≤ W) (fn : (n : Note) → s.note ≡ Some n
       → count_of 64 (wrote_in (x.ns ++ (n ∷ []))) ≤ W)
       (cuts : ℕ) (t : Tidy g v s cuts) (noting : note_pending s.note ≡ false) (silent : s.pending ≡ 0) where
     pub halfway-put : place2 x turns n2 + g.notes ≡ suc s.notes

@@ -16,8 +16,7 @@ use Rattle.model.specs.Outcome.{StoredItem}
 use Rattle.model.specs.AbstractLog.{AbstractLog}
 use Rattle.model.specs.History.{Power, on, Machine}
 use Rattle.model.specs.Claim.{fresh, reached, log_of}
-use Rattle.model.specs.declared.{geometry.Geometry.Geometry, state.PendingNote.PendingNote, state.State.State}
-use Rattle.model.specs.declared.state.PendingNote.TheVariants.{Absent, Present}
+use Rattle.model.specs.declared.{geometry.Geometry.Geometry, state.State.State}
 use Rattle.history.proofs.Inv.{Inv}
 use Rattle.history.proofs.Steps.{context}
 use Rattle.history.proofs.Reached.{made_with}
@@ -32,6 +31,7 @@ use Rattle.upkeep_theory.proofs.Fresh.{turns, followed-tidy}
 use Rattle.upkeep_theory.proofs.Measure.{rest-most}
 use Rattle.upkeep_theory.proofs.Phases.{rest_at, left_at, Phase, quiet, unforced, storing}
 use Rattle.upkeep_theory.proofs.Comes.{End, comes}
+use Rattle.model.specs.Types.{PendingNote, None, Some}
 
 -- ---- the phase to begin with
 
@@ -56,14 +56,14 @@ d-more d l T e h = omega arith
 pub begin-phase : (g : Geometry) (W cuts : ℕ) (v m : List ℕ) (s : State) (r : ℕ) (t : Tidy g v s cuts)
     → s.durable + W + 2 ≤ top_number
     → (y : PendingNote) → s.note ≡ y → Phase g W t.z.k0 v m s r (bound W g.pages)
-begin-phase g W cuts v m s r t nd (Present n) e =
+begin-phase g W cuts v m s r t nd (Some n) e =
     let a = rest-most W g.pages (since_written g v s.notes t.z.k0) (s.notes - t.z.k0) in
     let d = d-begin s.durable s.pending W (since_written g v s.notes t.z.k0) top_number
     t.sums.pending-one nd in
     storing n e (n-storing (rest_at g W t.z.k0 v s) (5 * W + 3 * g.pages) (cond (is_written n) 4 2) a)
     (d-more s.durable (left_at g W t.z.k0 v s) top_number (cond (is_written n) 1 0)
     (d-drop s.durable s.pending (left_at g W t.z.k0 v s) top_number d))
-begin-phase g W cuts v m s r t nd Absent e =
+begin-phase g W cuts v m s r t nd None e =
     let a = rest-most W g.pages (since_written g v s.notes t.z.k0) (s.notes - t.z.k0) in
     let d = d-begin s.durable s.pending W (since_written g v s.notes t.z.k0) top_number
     t.sums.pending-one nd in

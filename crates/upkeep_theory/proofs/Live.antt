@@ -23,7 +23,6 @@ use Rattle.model.specs.Effects.{appended_state, forced_state, noted_state}
 use Rattle.model.specs.Restart.{restart_state}
 use Rattle.model.specs.AbstractLog.{Logged}
 use Rattle.model.specs.declared.{geometry.Geometry.Geometry, item.Note.Note, state.Entry.Entry, state.State.State}
-use Rattle.model.specs.declared.state.PendingNote.TheVariants.{Present}
 use Rattle.history.proofs.Logs.{no_logged, at, last_of, body_of, last-ge, last-le}
 use Rattle.history.proofs.Leaf.{frame-lsn, note-read}
 use Rattle.history.proofs.Marks.{mark_at, NoteOk}
@@ -39,6 +38,7 @@ use Rattle.upkeep_theory.proofs.Shift.{MoreMarks}
 use Rattle.upkeep_theory.proofs.Apart.{field-set, SameMarks}
 use Rattle.upkeep_theory.proofs.Pages.{record-stands}
 use Rattle.upkeep_theory.proofs.Quiet.{all-durable}
+use Rattle.model.specs.Types.{Some}
 
 -- ---- marks of the next states
 
@@ -89,8 +89,8 @@ module _ {C : Type 0} {g : Geometry} {v m : List ℕ} {past : List StoredItem} {
 
   -- ---- the owed note
 
-  module _ (n : Note) (noting : s.note ≡ Present n) where
-    noting-fits : PendingOk C g v k x.ns (Present n)
+  module _ (n : Note) (noting : s.note ≡ Some n) where
+    noting-fits : PendingOk C g v k x.ns (Some n)
     noting-fits = rw noting at x.al.note-ok
 
     pub noting-ok : NoteOk g.pages g.slots k x.ns (length x.ns) n

@@ -22,11 +22,11 @@ use Rattle.model.specs.Index.{entry_of}
 use Rattle.model.specs.Scan.{log_record, note_record}
 use Rattle.model.specs.State.{record_needed}
 use Rattle.model.specs.declared.{geometry.Geometry.Geometry, item.Note.Note, state.State.State}
-use Rattle.model.specs.declared.state.PendingNote.TheVariants.{Absent, Present}
 use Rattle.history.proofs.Sections.{Volume}
 use Rattle.upkeep_policy.specs.Upkeep.{log_ahead, reserve}
 use Rattle.upkeep_theory.proofs.Shift.{MoreMarks, spare-stays, backup-spares, old-record, torn-log}
 use Rattle.upkeep_theory.proofs.NotesTidy.{no-present}
+use Rattle.model.specs.Types.{None, Some}
 
 -- what the half speaks of: the counts of notes and records, the owed note
 pub record Place0 : Type 0 where
@@ -48,17 +48,17 @@ pub record LogTidy (g : Geometry) (v : List ℕ) (s : State) (z : Place0) : Type
       → (j : ℕ) → s.durable ≤ j + g.records → suc j ≤ z.d0 + z.u → suc j ≤ s.durable
       → (log_record g v (suc j)).page ≡ (note_record g v (suc a)).page → record_needed g v s (suc j) ≡ false
   -- an owed backup is at or above every needed record of its page
-  pub noting-backs : (n : Note) → s.note ≡ Present n → is_written n ≡ false
+  pub noting-backs : (n : Note) → s.note ≡ Some n → is_written n ≡ false
       → (j : ℕ) → s.durable ≤ j + g.records → suc j ≤ s.durable → (log_record g v (suc j)).page ≡ n.page
       → record_needed g v s (suc j) ≡ true → (suc j ≤ n.lsn) × (1 ≤ n.page) × (n.page ≤ g.pages)
   -- and it is of the first needed record's page where no note came yet
-  pub noting-next : (n : Note) → s.note ≡ Present n → (j : ℕ) → s.durable ≤ j + g.records
+  pub noting-next : (n : Note) → s.note ≡ Some n → (j : ℕ) → s.durable ≤ j + g.records
       → suc j + g.records ≡ z.d0 + z.u + reserve g → record_needed g v s (suc j) ≡ true
       → (is_written n ≡ false) × ((log_record g v (suc j)).page ≡ n.page)
 
 -- ---- idle
 
-pub log-idle : (g : Geometry) (v : List ℕ) (s : State) → s.note ≡ Absent → 2 ≤ g.records
+pub log-idle : (g : Geometry) (v : List ℕ) (s : State) → s.note ≡ None → 2 ≤ g.records
     → ((i : ℕ) → 1 ≤ i → i ≤ reserve g → log_ahead g v s i ≡ false)
     → LogTidy g v s (record { k0 = s.notes; d0 = s.durable; u = 0 })
 unfolding log_ahead
@@ -108,10 +108,10 @@ module _ (g : Geometry) (v : List ℕ) (s : State) (two : 2 ≤ g.records) (v' :
   pub log-same : (u' : ℕ) → LogTidy g v s z → z.d0 ≤ s.durable → z.d0 + z.u ≤ s.durable + 1 → u' ≤ z.u
       → ((s.notes ≡ z.k0) × (s.durable + s.pending ≡ z.d0 + z.u)
       → (u' ≡ 0) ⊎ (s'.durable + s'.pending ≡ z.d0 + u'))
-      → ((n : Note) → s'.note ≡ Present n → is_written n ≡ false
+      → ((n : Note) → s'.note ≡ Some n → is_written n ≡ false
       → (j : ℕ) → s.durable ≤ j + g.records → suc j ≤ s.durable → (log_record g v (suc j)).page ≡ n.page
       → record_needed g v s (suc j) ≡ true → (suc j ≤ n.lsn) × (1 ≤ n.page) × (n.page ≤ g.pages))
-      → ((n : Note) → s'.note ≡ Present n → (j : ℕ) → s.durable ≤ j + g.records
+      → ((n : Note) → s'.note ≡ Some n → (j : ℕ) → s.durable ≤ j + g.records
       → suc j + g.records ≡ z.d0 + u' + reserve g → record_needed g v s (suc j) ≡ true
       → (is_written n ≡ false) × ((log_record g v (suc j)).page ≡ n.page))
       → LogTidy g v' s' (record { k0 = z.k0; d0 = z.d0; u = u' })
@@ -157,7 +157,7 @@ module _ (g : Geometry) (v : List ℕ) (vol : Volume g v) (s : State) (two : 2 �
 
   -- Force; the user's record is stored before any note
   pub log-force : (s' : State) → MoreMarks g.pages s s' → s'.notes ≡ s.notes → s'.durable ≡ suc s.durable
-      → s'.durable + s'.pending ≡ s.durable + s.pending → s'.note ≡ Absent
+      → s'.durable + s'.pending ≡ s.durable + s.pending → s'.note ≡ None
       → ((a : ℕ) → note_record g after (suc a) ≡ note_record g v (suc a))
       → (suc s.durable ≤ z.d0 + z.u → s.notes ≡ z.k0)
       → LogTidy g after s' z
@@ -181,7 +181,7 @@ module _ (g : Geometry) (v : List ℕ) (vol : Volume g v) (s : State) (two : 2 �
   -- torn: the first position is spare; what was pending or owed is lost, with the user's record where it was that
   pub log-torn : sealed 60 xs ≡ false → (s' : State) → MoreMarks g.pages s s' → s'.notes ≡ s.notes
       → s'.durable ≡ s.durable
-      → s'.note ≡ Absent → ((a : ℕ) → note_record g after (suc a) ≡ note_record g v (suc a))
+      → s'.note ≡ None → ((a : ℕ) → note_record g after (suc a) ≡ note_record g v (suc a))
       → (u' : ℕ) → u' ≤ z.u
       → ((s.notes ≡ z.k0) × (s.durable + s.pending ≡ z.d0 + z.u)
       → (u' ≡ 0) ⊎ (s'.durable + s'.pending ≡ z.d0 + u'))
@@ -214,10 +214,10 @@ module _ (g : Geometry) (v : List ℕ) (vol : Volume g v) (s : State) (two : 2 �
 
 module _ (g : Geometry) (v : List ℕ) (s : State) (two : 2 ≤ g.records) (z : Place0) (t : LogTidy g v s z)
     (u1 : z.u ≤ 1)
-    (d1 : z.d0 ≤ s.durable) (d2 : z.d0 + z.u ≤ s.durable) (n : Note) (noting : s.note ≡ Present n)
+    (d1 : z.d0 ≤ s.durable) (d2 : z.d0 + z.u ≤ s.durable) (n : Note) (noting : s.note ≡ Some n)
     (v' : List ℕ) (s' : State) (more : MoreMarks g.pages s s') (kk : s'.notes ≡ suc s.notes)
     (dd : s'.durable ≡ s.durable)
-    (none : s'.note ≡ Absent) (records : (j : ℕ) → 1 ≤ j → j ≤ g.records
+    (none : s'.note ≡ None) (records : (j : ℕ) → 1 ≤ j → j ≤ g.records
     → item g v' (record_at j) ≡ item g v (record_at j))
     (rec : (a : ℕ) → z.k0 ≤ a → a < s.notes → note_record g v' (suc a) ≡ note_record g v (suc a))
     (new : note_record g v' (suc s.notes) ≡ n)

@@ -21,7 +21,6 @@ use Rattle.model.specs.State.{note_whole}
 use Rattle.model.specs.Carry.{count_of}
 use Rattle.model.specs.AbstractLog.{Logged}
 use Rattle.model.specs.declared.{geometry.Geometry.Geometry, item.Note.Note, state.Entry.Entry}
-use Rattle.model.specs.declared.state.PendingNote.{PendingNote}
 use Rattle.history.proofs.Marks.{note, mark_at, last_by, lsn_by, by-ge, by_le, mark-by, Mark}
 use Rattle.history.proofs.Sections.{volume-sized}
 use Rattle.history.proofs.Disk.{Holds, Noted, NoteStands}
@@ -30,6 +29,7 @@ use Rattle.history.proofs.NoteIndex.{index_is}
 use Rattle.upkeep_policy.specs.Upkeep.{written_pages}
 use Rattle.upkeep_theory.proofs.Counting.{Notes, few-written, few-backups, few-notes, room-written, room-backup}
 use Rattle.upkeep_theory.proofs.NotesTidy.{NotesTidy, alike-holds}
+use Rattle.model.specs.Types.{PendingNote}
 
 -- the pages with a written note
 abbrev pub wrote_in : List Note → ℕ → Bool

@@ -21,7 +21,7 @@ use Rattle.model.specs.Outcome.{StoredItem, volume_after}
 use Rattle.model.specs.Effects.{noted_state}
 use Rattle.model.specs.Calls.{outcome_of, no_payload}
 use Rattle.model.specs.AbstractLog.{Logged}
-use Rattle.model.specs.declared.{geometry.Geometry.Geometry, item.Note.Note, state.PendingNote.TheVariants.Present}
+use Rattle.model.specs.declared.{geometry.Geometry.Geometry, item.Note.Note}
 use Rattle.model.specs.declared.state.State.{State}
 use Rattle.history.proofs.Context.{Ctx}
 use Rattle.upkeep_policy.specs.Upkeep.{reserve, ever_written}
@@ -39,13 +39,14 @@ use Rattle.upkeep_theory.proofs.StateCounts.{noted-counts}
 use Rattle.upkeep_theory.proofs.Phases.{Phase, quiet, rest, left, Leads}
 use Rattle.upkeep_theory.proofs.Done.{no_row}
 use Rattle.model.specs.declared.command.Command.TheVariants.{Note as NoteCall}
+use Rattle.model.specs.Types.{Some}
 
 module _ {C : Type 0} {g : Geometry} {v m : List ℕ} {past : List StoredItem} {s : State} {k w : List Logged}
     (x : Ctx C g v m past s k w) (turns : ring g ≡ true) (n2 : 2 ≤ g.notes) (W : ℕ)
     (room : g.pages + W + 2 ≤ g.notes)
     (few : ever_written s ≤ W) (cuts : ℕ) (t : Tidy g v s cuts) (cap : W + cuts ≤ reserve g) (r : ℕ)
     (fr : within (frame_count (length m)) r ≡ true) where
-  module _ (n : Note) (noting : s.note ≡ Present n) where
+  module _ (n : Note) (noting : s.note ≡ Some n) where
     abbrev noted : List ℕ
     noted = store g v (note_slot g (suc s.notes)) (note_bytes n)
 

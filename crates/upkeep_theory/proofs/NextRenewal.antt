@@ -18,7 +18,7 @@ use Rattle.model.specs.Outcome.{StoredItem}
 use Rattle.model.specs.Effects.{with_frame, with_frames, appended_state}
 use Rattle.model.specs.Calls.{Call, no_payload}
 use Rattle.model.specs.declared.{geometry.Geometry.Geometry, item.Note.Note, state.Frame.Frame}
-use Rattle.model.specs.declared.{state.PendingNote.TheVariants.Present, state.State.State}
+use Rattle.model.specs.declared.{state.State.State}
 use Rattle.model.specs.declared.command.Command.TheVariants.{Load, Write}
 use Rattle.model.specs.declared.command.Command.TheVariants.{Backup}
 use Rattle.model.specs.AbstractLog.{Logged}
@@ -43,6 +43,7 @@ use Rattle.upkeep_theory.proofs.NextSums.{d-leave, n-leave, five-three}
 use Rattle.upkeep_theory.proofs.StateCounts.{appended-counts}
 use Rattle.upkeep_theory.proofs.Phases.{rest_at, left_at, Phase, quiet, putting, storing, rest, left, Leads}
 use Rattle.upkeep_theory.proofs.Done.{no_row}
+use Rattle.model.specs.Types.{Some}
 
 module _ {C : Type 0} {g : Geometry} {v m : List ℕ} {past : List StoredItem} {s : State} {k w : List Logged}
     (x : Ctx C g v m past s k w) (turns : ring g ≡ true) (n2 : 2 ≤ g.notes) (W : ℕ)
@@ -114,7 +115,7 @@ module _ {C : Type 0} {g : Geometry} {v m : List ℕ} {past : List StoredItem} {
         )
 
     after-noting : (N : ℕ) (u : Bool) (n : Note) (fs : List Frame) (v' m' : List ℕ) (s' : State)
-        → s' ≡ with_frames s fs (Present n)
+        → s' ≡ with_frames s fs (Some n)
         → SameNotes g v v' → is_written n ≡ u → 1 ≤ N → rest t W ≤ N + cond u 3 1
         → s.durable + left t W < top_number + cond u 1 0
         → Phase g W t.z.k0 v' m' s' r (N - 1)
@@ -129,7 +130,7 @@ module _ {C : Type 0} {g : Geometry} {v m : List ℕ} {past : List StoredItem} {
         (d-leave s.durable (left t W) _ top_number (cond u 1 0) (left-eq W _ _ c) b) in
         rw e (storing n refl h1 h2)
 
-    write-few : (s' : State) (fs : List Frame) (n : Note) → s' ≡ with_frames s fs (Present n)
+    write-few : (s' : State) (fs : List Frame) (n : Note) → s' ≡ with_frames s fs (Some n)
         → place2 x turns n2 + g.notes ≡ suc s.notes → is_written (note_record g v (suc (place2 x turns n2))) ≡ true
         → n.page ≡ (note_record g v (suc (place2 x turns n2))).page → ever_written s' ≤ W
     write-few s' fs n e at2 wr pe = rw e (omega (arith, few-write s fs n (rw pe (second-wrote x turns n2 at2 wr))))
@@ -152,7 +153,7 @@ module _ {C : Type 0} {g : Geometry} {v m : List ℕ} {past : List StoredItem} {
           },
         )
 
-    backup-few : (s' : State) (fs : List Frame) (n : Note) → s' ≡ with_frames s fs (Present n) → is_written n ≡ false
+    backup-few : (s' : State) (fs : List Frame) (n : Note) → s' ≡ with_frames s fs (Some n) → is_written n ≡ false
         → ever_written s' ≤ W
     backup-few s' fs n e u = rw e (omega (arith, few-backup s fs n u))
 

@@ -20,13 +20,13 @@ use Rattle.model.specs.Geometry.{note_at, item, store, slot_of, note_slot}
 use Rattle.model.specs.Item.{note_of, note_bytes}
 use Rattle.model.specs.Scan.{note_record}
 use Rattle.model.specs.State.{note_needed, note_whole, note_like}
-use Rattle.model.specs.declared.{geometry.Geometry.Geometry, item.Note.Note, state.PendingNote.PendingNote}
+use Rattle.model.specs.declared.{geometry.Geometry.Geometry, item.Note.Note}
 use Rattle.model.specs.declared.state.State.{State}
-use Rattle.model.specs.declared.state.PendingNote.TheVariants.{Absent, Present}
 use Rattle.history.proofs.Sections.{Volume}
 use Rattle.upkeep_policy.specs.Upkeep.{note_ahead}
 use Rattle.upkeep_theory.proofs.Shift.{alike, note-same, torn-first, torn-others, note-shift, note-read-new}
 use Rattle.upkeep_theory.proofs.Shift.{note-read-old}
+use Rattle.model.specs.Types.{PendingNote, None, Some}
 
 -- ---- notes of the same page and kind
 
@@ -54,23 +54,23 @@ pub record NotesTidy (g : Geometry) (v : List ℕ) (k k0 : ℕ) (noting : Pendin
   -- kind or spare
   pub first : (a : ℕ) → a + g.notes ≡ k → note_needed g v k (suc a) ≡ false
   pub second : k ≡ k0 → (a : ℕ) → a + g.notes ≡ suc k → note_needed g v k (suc a) ≡ false
-  pub renews : (n : Note) → noting ≡ Present n → (a : ℕ) → a + g.notes ≡ suc k → note_needed g v k (suc a) ≡ true
+  pub renews : (n : Note) → noting ≡ Some n → (a : ℕ) → a + g.notes ≡ suc k → note_needed g v k (suc a) ≡ true
       → alike (note_record g v (suc a)) n ≡ true
   -- M2: the notes since k0, and the owed one, are of different pages or kinds
   pub differ : (a b : ℕ) → k0 ≤ a → a < b → b < k → alike (note_record g v (suc a)) (note_record g v (suc b)) ≡ false
-  pub differ-noting : (n : Note) → noting ≡ Present n → (a : ℕ) → k0 ≤ a → a < k
+  pub differ-noting : (n : Note) → noting ≡ Some n → (a : ℕ) → k0 ≤ a → a < k
       → alike (note_record g v (suc a)) n ≡ false
 
-pub no-present : {A : Type 0} (n : Note) → Absent ≡ Present n → A
+pub no-present : {A : Type 0} (n : Note) → None ≡ Some n → A
 no-present n e = let z : ◌≡◌ {A = ℕ} 0 1 = cc in absurd (omega arith)
 
-present-is : (n y : Note) → Present y ≡ Present n → n ≡ y
+present-is : (n y : Note) → Some y ≡ Some n → n ≡ y
 present-is n y e = cc
 
 module _ (g : Geometry) (v : List ℕ) where
   -- upkeep is idle: k0 is the count
   pub tidy-idle : (k : ℕ) → ((a : ℕ) → a + g.notes ≡ k → note_needed g v k (suc a) ≡ false)
-      → ((a : ℕ) → a + g.notes ≡ suc k → note_needed g v k (suc a) ≡ false) → NotesTidy g v k k Absent
+      → ((a : ℕ) → a + g.notes ≡ suc k → note_needed g v k (suc a) ≡ false) → NotesTidy g v k k None
   tidy-idle k one two =
       record {
         low = omega arith;
@@ -83,7 +83,7 @@ module _ (g : Geometry) (v : List ℕ) where
 
   module _ {k k0 : ℕ} {noting : PendingNote} (t : NotesTidy g v k k0 noting) where
     -- what is owed is lost
-    pub tidy-lost : NotesTidy g v k k0 Absent
+    pub tidy-lost : NotesTidy g v k k0 None
     tidy-lost =
         record {
           low = t.low;
@@ -97,7 +97,7 @@ module _ (g : Geometry) (v : List ℕ) where
     -- a note is owed: of position 2's page and kind where that is needed, and unlike those since k0
     pub tidy-leave : (n : Note) → ((a : ℕ) → a + g.notes ≡ suc k → note_needed g v k (suc a) ≡ true
         → alike (note_record g v (suc a)) n ≡ true)
-        → ((a : ℕ) → k0 ≤ a → a < k → alike (note_record g v (suc a)) n ≡ false) → NotesTidy g v k k0 (Present n)
+        → ((a : ℕ) → k0 ≤ a → a < k → alike (note_record g v (suc a)) n ≡ false) → NotesTidy g v k k0 (Some n)
     tidy-leave n two new =
         record {
           low = t.low;
@@ -109,13 +109,13 @@ module _ (g : Geometry) (v : List ℕ) where
         }
 
     -- the user's note
-    pub leave-user : k ≡ k0 → (n : Note) → NotesTidy g v k k0 (Present n)
+    pub leave-user : k ≡ k0 → (n : Note) → NotesTidy g v k k0 (Some n)
     leave-user e n = tidy-leave n (λ a q u. absurd (true-not-false u (t.second e a q))) (λ a p q. absurd (omega arith))
 
     -- the renewal of position 2
     pub leave-second : 2 ≤ g.notes → k + 2 ≤ k0 + g.notes → ((b : ℕ) → k0 ≤ b → b < k → note_whole g v (suc b) ≡ true)
         → (a : ℕ) → a + g.notes ≡ suc k → note_needed g v k (suc a) ≡ true
-        → (n : Note) → alike (note_record g v (suc a)) n ≡ true → NotesTidy g v k k0 (Present n)
+        → (n : Note) → alike (note_record g v (suc a)) n ≡ true → NotesTidy g v k k0 (Some n)
     unfolding note_needed
     leave-second two near whole a e u n same =
         tidy-leave n (λ b q y. let z : b ≡ a = omega arith in rw z same)
@@ -153,7 +153,7 @@ module _ (g : Geometry) (v : List ℕ) where
     -- the note slot of the next note is left torn
     pub tidy-torn : 2 ≤ g.notes → Volume g v → k + 2 ≤ k0 + g.notes → (xs : List ℕ) → length xs ≡ 16
         → sealed 12 xs ≡ false
-        → NotesTidy g (store g v (note_slot g (suc k)) xs) k k0 Absent
+        → NotesTidy g (store g v (note_slot g (suc k)) xs) k k0 None
     tidy-torn two vol near xs six bad =
         let one : 1 ≤ g.notes = omega arith in
         let v' = store g v (note_slot g (suc k)) xs in
@@ -169,10 +169,10 @@ module _ (g : Geometry) (v : List ℕ) where
         }
 
   -- the owed note is stored: positions shift by one
-  pub tidy-note : {k k0 : ℕ} (n : Note) → NotesTidy g v k k0 (Present n) → 2 ≤ g.notes → Volume g v
+  pub tidy-note : {k k0 : ℕ} (n : Note) → NotesTidy g v k k0 (Some n) → 2 ≤ g.notes → Volume g v
       → k + 2 ≤ k0 + g.notes
       → length (note_bytes n) ≡ 16 → note_of (note_bytes n) ≡ n → n.number ≡ suc k
-      → NotesTidy g (store g v (note_slot g (suc k)) (note_bytes n)) (suc k) k0 Absent
+      → NotesTidy g (store g v (note_slot g (suc k)) (note_bytes n)) (suc k) k0 None
   tidy-note {k} {k0} n t two vol near six back num =
       let one : 1 ≤ g.notes = omega arith in
       let v' = store g v (note_slot g (suc k)) (note_bytes n) in
@@ -206,7 +206,7 @@ module _ (g : Geometry) (v : List ℕ) (s : State) where
       let q : s.notes + i - g.notes ≡ suc a = omega arith in
       rw (lt-ltb g.notes (s.notes + i) (omega arith), q)
 
-  pub idle-tidy : note_ahead g v s 1 ≡ false → note_ahead g v s 2 ≡ false → NotesTidy g v s.notes s.notes Absent
+  pub idle-tidy : note_ahead g v s 1 ≡ false → note_ahead g v s 2 ≡ false → NotesTidy g v s.notes s.notes None
   idle-tidy one two = tidy-idle g v s.notes
       (λ a e. sym (ahead-is 1 a (omega arith) (omega arith))
       ∙ one) (λ a e. sym (ahead-is 2 a (omega arith) (omega arith)) ∙ two)

@@ -22,9 +22,8 @@ use Rattle.model.specs.Effects.{note_stored, with_frame, with_frames, appended_s
 use Rattle.model.specs.Effects.{change_done, force_done, load_done, write_outcome}
 use Rattle.model.specs.Calls.{Call, outcome_of, no_payload}
 use Rattle.model.specs.declared.{change.Change.TheVariants.Put, geometry.Geometry.Geometry, item.Note.Note}
-use Rattle.model.specs.declared.{state.Frame.Frame, state.PendingNote.PendingNote, state.State.State}
+use Rattle.model.specs.declared.{state.Frame.Frame, state.State.State}
 use Rattle.model.specs.declared.command.Command.TheVariants.{Load, Force, Write}
-use Rattle.model.specs.declared.state.PendingNote.TheVariants.{Absent, Present}
 use Rattle.model.specs.declared.command.Command.TheVariants.{Backup, Note as NoteCall}
 use Rattle.model.specs.AbstractLog.{Logged}
 use Rattle.history.proofs.Images.{sealed-size}
@@ -36,6 +35,7 @@ use Rattle.upkeep_theory.proofs.Shift.{log-notes}
 use Rattle.upkeep_theory.proofs.Tidy.{since_written}
 use Rattle.upkeep_theory.proofs.Apart.{apart-page, apart-slot}
 use Rattle.upkeep_theory.proofs.Load.{moved}
+use Rattle.model.specs.Types.{PendingNote, None, Some}
 
 -- the same notes
 pub record SameNotes (g : Geometry) (v v' : List ℕ) : Type 0 where
@@ -60,7 +60,7 @@ volume_of c v m s = volume_after v (outcome_of c v m s).stored
 pub record OweOut (g : Geometry) (v m : List ℕ) (s : State) (c : Call) (p kind : ℕ) : Type 0 where
   pub frames : List Frame
   pub noting : Note
-  pub state-is : (outcome_of c v m s).state ≡ with_frames s frames (Present noting)
+  pub state-is : (outcome_of c v m s).state ≡ with_frames s frames (Some noting)
   pub page-is : noting.page ≡ p
   pub kind-is : noting.kind ≡ kind
   pub same : SameNotes g v (volume_after v (outcome_of c v m s).stored)
@@ -140,16 +140,16 @@ module _ {C : Type 0} {g : Geometry} {v m : List ℕ} {past : List StoredItem} {
         memory-is = rw e refl;
       }
 
-  note-of : (n : Note) (y : PendingNote) → y ≡ Present n
+  note-of : (n : Note) (y : PendingNote) → y ≡ Some n
       → ((note_stored v m s y).state ≡ noted_state s n)
       × (volume_after v (note_stored v m s y).stored ≡ store (geometry_of v) v (note_slot (geometry_of v) (s.notes + 1))
       (note_bytes n))
       × ((note_stored v m s y).memory ≡ m)
   unfolding volume_after
-  note-of n Absent e = let z : ◌≡◌ {A = ℕ} 0 1 = cc in absurd (omega arith)
-  note-of n (Present y) e = let z : y ≡ n = cc in rw z (refl, refl, refl)
+  note-of n None e = let z : ◌≡◌ {A = ℕ} 0 1 = cc in absurd (omega arith)
+  note-of n (Some y) e = let z : y ≡ n = cc in rw z (refl, refl, refl)
 
-  pub note-out : (n : Note) → s.note ≡ Present n → first_of (note_rows v m s) ≡ 0
+  pub note-out : (n : Note) → s.note ≡ Some n → first_of (note_rows v m s) ≡ 0
       → ((outcome_of (NoteCall, no_payload) v m s).state ≡ noted_state s n)
       × (volume_after v (outcome_of (NoteCall, no_payload) v m s).stored ≡ store g v (note_slot g (suc s.notes)) (note_bytes n))
       × ((outcome_of (NoteCall, no_payload) v m s).memory ≡ m)

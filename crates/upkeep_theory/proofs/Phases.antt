@@ -9,13 +9,14 @@ use Rattle.model.specs.Item.{is_written}
 use Rattle.model.specs.State.{note_pending}
 use Rattle.model.specs.Outcome.{volume_after}
 use Rattle.model.specs.Calls.{Call, outcome_of}
-use Rattle.model.specs.declared.{geometry.Geometry.Geometry, item.Note.Note, state.PendingNote.TheVariants.Present}
+use Rattle.model.specs.declared.{geometry.Geometry.Geometry, item.Note.Note}
 use Rattle.model.specs.declared.state.State.{State}
 use Rattle.upkeep_policy.specs.Upkeep.{ever_written}
 use Rattle.upkeep_theory.proofs.Tidy.{Tidy, since_written}
 use Rattle.upkeep_theory.proofs.Measure.{rest_of}
 use Rattle.upkeep_theory.proofs.Load.{Least}
 use Rattle.upkeep_theory.proofs.Halfway.{Halfway}
+use Rattle.model.specs.Types.{Some}
 
 -- the calls that are left to do, and the written notes
 abbrev pub rest_at : Geometry → ℕ → ℕ → List ℕ → State → ℕ
@@ -34,7 +35,7 @@ pub data Phase (g : Geometry) (W k0 : ℕ) (v m : List ℕ) (s : State) (r N : �
   putting : 1 ≤ s.pending → Halfway g v s → rest_at g W k0 v s ≤ N + 2
       → s.durable + s.pending + left_at g W k0 v s ≤ top_number
       → Phase g W k0 v m s r N
-  storing : (n : Note) → s.note ≡ Present n → rest_at g W k0 v s ≤ N + cond (is_written n) 4 2
+  storing : (n : Note) → s.note ≡ Some n → rest_at g W k0 v s ≤ N + cond (is_written n) 4 2
       → s.durable + left_at g W k0 v s < top_number + cond (is_written n) 1 0 → Phase g W k0 v m s r N
 
 pub record Next (g : Geometry) (W k0 : ℕ) (v m : List ℕ) (s : State) (r N : ℕ) (c : Call) : Type 0 where

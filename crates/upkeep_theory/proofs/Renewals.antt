@@ -26,7 +26,6 @@ use Rattle.model.specs.Calls.{outcome_of, no_payload}
 use Rattle.model.specs.declared.{change.Change.TheVariants.Put, geometry.Geometry.Geometry, item.Note.Note}
 use Rattle.model.specs.declared.{state.Entry.Entry, state.Frame.Frame, state.State.State}
 use Rattle.model.specs.declared.command.Command.TheVariants.{Load, Write}
-use Rattle.model.specs.declared.state.PendingNote.TheVariants.{Absent, Present}
 use Rattle.model.specs.declared.command.Command.TheVariants.{Backup}
 use Rattle.model.specs.AbstractLog.{Logged}
 use Rattle.history.proofs.Marks.{note as note', mark_at}
@@ -44,6 +43,7 @@ use Rattle.upkeep_theory.proofs.TidySteps.{still, put_record, leave}
 use Rattle.upkeep_theory.proofs.Live.{marks-appended, frame-above}
 use Rattle.upkeep_theory.proofs.Step.{l2, place2, note-came, no_record, not-busy, no_note}
 use Rattle.upkeep_theory.proofs.StateCounts.{appended-counts}
+use Rattle.model.specs.Types.{None, Some}
 
 -- a frame set anew with the page that it had is found as before
 pub holder-set : (i p j : ℕ) (fs : List Frame) (d : Bool) → (get_or fs j empty_frame).page ≡ p → j < length fs
@@ -67,7 +67,7 @@ module _ {g : Geometry} {v : List ℕ} {s : State} {cuts : ℕ} (t : Tidy g v s 
 module _ {C : Type 0} {g : Geometry} {v m : List ℕ} {past : List StoredItem} {s : State} {k w : List Logged}
     (x : Ctx C g v m past s k w) (turns : ring g ≡ true) (n2 : 2 ≤ g.notes) (cuts : ℕ) (t : Tidy g v s cuts)
     (noting : note_pending s.note ≡ false) (silent : s.pending ≡ 0) where
-  absent : s.note ≡ Absent
+  absent : s.note ≡ None
   absent = no_note s.note noting
 
   pub load_step : (p r : ℕ) → t.b ≡ 0 → Then t (outcome_of (Load p r, no_payload) v m s)
@@ -78,7 +78,7 @@ module _ {C : Type 0} {g : Geometry} {v m : List ℕ} {past : List StoredItem} {
       0 (omega arith) (omega arith) (λ h. absurd (omega arith)))
 
   pub backup-step : (p b : ℕ) → t.b ≡ 0
-      → ((n : Note) → n.page ≡ p → n.kind ≡ 2 → NotesTidy g v s.notes t.z.k0 (Present n))
+      → ((n : Note) → n.page ≡ p → n.kind ≡ 2 → NotesTidy g v s.notes t.z.k0 (Some n))
       → ((j : ℕ) → s.durable ≤ j + g.records → suc j + g.records ≡ t.z.d0 + t.z.u + reserve g
       → record_needed g v s (suc j) ≡ true
       → (log_record g v (suc j)).page ≡ p)
@@ -132,7 +132,7 @@ module _ {C : Type 0} {g : Geometry} {v m : List ℕ} {past : List StoredItem} {
         (omega (arith, x.al.notes-is))).0
 
     renews-second : (n : Note) → alike (note_record g v (suc a)) n ≡ true
-        → NotesTidy g v s.notes t.z.k0 (Present n)
+        → NotesTidy g v s.notes t.z.k0 (Some n)
     renews-second n same = leave-second g v t.notes n2 t.near whole a at2 need n same
 
     kind-two : is_written (note_record g v (suc a)) ≡ false → (note_record g v (suc a)).kind ≡ 2
@@ -159,14 +159,14 @@ module _ {C : Type 0} {g : Geometry} {v m : List ℕ} {past : List StoredItem} {
 
     second-written : is_written (note_record g v (suc a)) ≡ true → (n : Note) → n.page ≡ (note_record g v (suc a)).page
         → n.kind ≡ 1
-        → NotesTidy g v s.notes t.z.k0 (Present n)
+        → NotesTidy g v s.notes t.z.k0 (Some n)
     second-written wr n p q =
         renews-second n (alike-holds (note_record g v (suc a)) n p (q
         ∙ sym (eqb-true (note_record g v (suc a)).kind 1 wr)))
 
     pub second-backup : is_written (note_record g v (suc a)) ≡ false → (n : Note) → n.page ≡ (note_record g v (suc a)).page
         → n.kind ≡ 2
-        → NotesTidy g v s.notes t.z.k0 (Present n)
+        → NotesTidy g v s.notes t.z.k0 (Some n)
     second-backup wr n p q = renews-second n (alike-holds (note_record g v (suc a)) n p (q ∙ sym (kind-two wr)))
 
     pub write_step : is_written (note_record g v (suc a)) ≡ true → (p : ℕ) → p ≡ (note_record g v (suc a)).page
@@ -210,5 +210,5 @@ module _ {C : Type 0} {g : Geometry} {v m : List ℕ} {past : List StoredItem} {
         (some_written wr))
       where
         ac : ((appended_state s p (holder s p)).notes ≡ s.notes) × ((appended_state s p (holder s p)).durable ≡ s.durable)
-            × ((appended_state s p (holder s p)).pending ≡ 1) × ((appended_state s p (holder s p)).note ≡ Absent)
+            × ((appended_state s p (holder s p)).pending ≡ 1) × ((appended_state s p (holder s p)).note ≡ None)
         ac = let y = appended-counts s p (holder s p) in (y.0, y.1, omega (arith, y.2), y.3 ∙ absent)

@@ -3,11 +3,12 @@ use mathlib.Core.Path.{◌≡◌, refl}
 use Prim.Native.Nat.{ℕ, suc, ◌+◌, ◌-◌}
 use native.Mathlib.Numerals.{add-one}
 use Rattle.model.specs.Effects.{noted_state, forced_state, appended_state}
-use Rattle.model.specs.declared.{item.Note.Note, state.PendingNote.TheVariants.Absent, state.State.State}
+use Rattle.model.specs.declared.{item.Note.Note, state.State.State}
+use Rattle.model.specs.Types.{None}
 
 pub noted-counts : (s : State) (n : Note)
     → ((noted_state s n).notes ≡ suc s.notes) × ((noted_state s n).durable ≡ s.durable)
-    × ((noted_state s n).pending ≡ s.pending) × ((noted_state s n).note ≡ Absent)
+    × ((noted_state s n).pending ≡ s.pending) × ((noted_state s n).note ≡ None)
 unfolding noted_state
 noted-counts s n = (add-one s.notes, refl, refl, refl)
 

@@ -19,10 +19,9 @@ use Rattle.model.specs.Refusals.{release_rows, note_rows}
 use Rattle.model.specs.Outcome.{StoredItem, Outcome, volume_after, decided}
 use Rattle.model.specs.Effects.{note_stored, appended_state, backup_done, begin_done, change_done, force_done, load_done, release_done, write_outcome}
 use Rattle.model.specs.Calls.{Call, outcome_of}
-use Rattle.model.specs.declared.{geometry.Geometry.Geometry, item.Note.Note, state.PendingNote.PendingNote}
+use Rattle.model.specs.declared.{geometry.Geometry.Geometry, item.Note.Note}
 use Rattle.model.specs.declared.state.State.{State}
 use Rattle.model.specs.declared.command.Command.TheVariants.{Begin, Load, Force, Write, Release, StartCarry, Restamp, FinishCarry}
-use Rattle.model.specs.declared.state.PendingNote.TheVariants.{Absent, Present}
 use Rattle.model.specs.declared.command.Command.TheVariants.{Change, Backup, Note as NoteCall}
 use Rattle.model.specs.Carry.{carries}
 use Rattle.model.specs.AbstractLog.{Logged}
@@ -36,10 +35,11 @@ use Rattle.upkeep_theory.proofs.Tidy.{Tidy, Reset, idle as reset}
 use Rattle.upkeep_theory.proofs.Apart.{apart_none, apart-page, apart-slot, marks-index}
 use Rattle.upkeep_theory.proofs.TidySteps.{still, user-record, leave}
 use Rattle.upkeep_theory.proofs.Live.{marks-appended, frame-above}
+use Rattle.model.specs.Types.{PendingNote, None, Some}
 
-pub no_note : (n : PendingNote) → note_pending n ≡ false → n ≡ Absent
-no_note Absent e = refl
-no_note (Present y) e = absurd (true-not-false refl e)
+pub no_note : (n : PendingNote) → note_pending n ≡ false → n ≡ None
+no_note None e = refl
+no_note (Some y) e = absurd (true-not-false refl e)
 
 module _ {C : Type 0} {g : Geometry} {v m : List ℕ} {past : List StoredItem} {s : State} {k w : List Logged}
     (x : Ctx C g v m past s k w) (turns : ring g ≡ true) (n2 : 2 ≤ g.notes) where
@@ -65,7 +65,7 @@ module _ {C : Type 0} {g : Geometry} {v m : List ℕ} {past : List StoredItem} {
     quiet : s.pending ≡ 0
     quiet = rest.pending
 
-    absent : s.note ≡ Absent
+    absent : s.note ≡ None
     absent = no_note s.note rest.noting
 
     pub idle-reset : Reset g v s cuts
@@ -95,13 +95,13 @@ module _ {C : Type 0} {g : Geometry} {v m : List ℕ} {past : List StoredItem} {
         → record_needed g v s (suc j) ≡ true → A
     no-next j a e y = absurd (true-not-false y (t.log.spare j a (omega (arith, idle-reset.u-is))))
 
-    user-notes : (n : Note) → NotesTidy g v s.notes t.z.k0 (Present n)
+    user-notes : (n : Note) → NotesTidy g v s.notes t.z.k0 (Some n)
     user-notes n = leave-user g v t.notes idle-reset.k-is n
 
-    no-note-step : (y : PendingNote) → y ≡ Absent → After (note_stored v m s y) cuts
+    no-note-step : (y : PendingNote) → y ≡ None → After (note_stored v m s y) cuts
     unfolding volume_after
-    no-note-step Absent e = t
-    no-note-step (Present n) e = let q : ◌≡◌ {A = ℕ} 0 1 = cc in absurd (omega arith)
+    no-note-step None e = t
+    no-note-step (Some n) e = let q : ◌≡◌ {A = ℕ} 0 1 = cc in absurd (omega arith)
 
     pub user-step : (c : Call) → carries c ≡ false → After (outcome_of c v m s) cuts
     unfolding decided begin_done load_done change_done force_done write_outcome backup_done release_done volume_after

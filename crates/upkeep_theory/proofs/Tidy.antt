@@ -14,12 +14,12 @@ use Rattle.model.specs.State.{note_needed, note_pending, held}
 use Rattle.model.specs.Refusals.{page_dirty}
 use Rattle.model.specs.Carry.{count_of}
 use Rattle.model.specs.declared.{geometry.Geometry.Geometry, item.Note.Note, state.State.State}
-use Rattle.model.specs.declared.state.PendingNote.TheVariants.{Absent, Present}
 use Rattle.upkeep_policy.specs.Upkeep.{reserve, note_ahead, log_ahead}
 use Rattle.upkeep_theory.proofs.NotesTidy.{NotesTidy, idle-tidy, no-present}
 use Rattle.upkeep_theory.proofs.LogTidy.{Place0, LogTidy, log-idle}
 use mathlib.Core.Path.{sym, ◌∙◌}
 use native.Mathlib.Decide.{ℕ_discrete}
+use Rattle.model.specs.Types.{None, Some}
 
 -- the renewal of the written note at position 2 is under way: its page is dirty, or a note is owed
 pub record Busy (g : Geometry) (v : List ℕ) (s : State) : Type 0 where
@@ -53,7 +53,7 @@ pub record Tidy (g : Geometry) (v : List ℕ) (s : State) (cuts : ℕ) : Type 0 
   pub sums : Sums s.durable s.pending z.d0 z.u (since_written g v s.notes z.k0) cuts b
   pub busy : 1 ≤ b → Busy g v s
   -- not pending and owed at once; the user's record is pending before any note
-  pub both : 1 ≤ s.pending → s.note ≡ Absent
+  pub both : 1 ≤ s.pending → s.note ≡ None
   pub early : 1 ≤ s.pending → s.durable + s.pending ≡ z.d0 + z.u → s.notes ≡ z.k0
   -- no page was ever written: no put
   pub none : ((p : ℕ) → 1 ≤ p → p ≤ g.pages → (entry_of s.index p).written ≡ 0)
@@ -65,7 +65,7 @@ From g v s cuts k0 = (y : Tidy g v s cuts) × (y.z.k0 ≡ k0)
 
 -- where a note is pending no record is
 module _ {g : Geometry} {v : List ℕ} {s : State} {cuts : ℕ} (t : Tidy g v s cuts) where
-  pub settled : (n : Note) → s.note ≡ Present n → s.pending ≡ 0
+  pub settled : (n : Note) → s.note ≡ Some n → s.pending ≡ 0
   settled n q = elim (ℕ_discrete s.pending 0) [
     | yes z ↦ z
     | no z ↦ no-present n (sym (t.both (omega arith)) ∙ q)
@@ -81,7 +81,7 @@ pub record Reset (g : Geometry) (v : List ℕ) (s : State) (cuts : ℕ) : Type 0
   pub u-is : tidy.z.u ≡ 0
   pub b-is : tidy.b ≡ 0
 
-pub idle : (g : Geometry) (v : List ℕ) (s : State) → s.note ≡ Absent → s.pending ≡ 0 → 2 ≤ g.records → 2 ≤ g.notes
+pub idle : (g : Geometry) (v : List ℕ) (s : State) → s.note ≡ None → s.pending ≡ 0 → 2 ≤ g.records → 2 ≤ g.notes
     → note_ahead g v s 1 ≡ false → note_ahead g v s 2 ≡ false
     → ((i : ℕ) → 1 ≤ i → i ≤ reserve g → log_ahead g v s i ≡ false)
     → (cuts : ℕ) → Reset g v s cuts

@@ -15,13 +15,13 @@ use Rattle.model.specs.Index.{entry_of}
 use Rattle.model.specs.Scan.{log_record, note_record}
 use Rattle.model.specs.State.{record_needed}
 use Rattle.model.specs.declared.{geometry.Geometry.Geometry, item.Note.Note, state.State.State}
-use Rattle.model.specs.declared.state.PendingNote.TheVariants.{Absent, Present}
 use Rattle.history.proofs.Sections.{Volume}
 use Rattle.upkeep_policy.specs.Upkeep.{reserve}
 use Rattle.upkeep_theory.proofs.NotesTidy.{NotesTidy, tidy-lost, tidy-same, no-present}
 use Rattle.upkeep_theory.proofs.LogTidy.{LogTidy, LogSame, log-same}
 use Rattle.upkeep_theory.proofs.Tidy.{Busy, since_written, Sums, Tidy, From}
 use Rattle.upkeep_theory.proofs.Apart.{Apart, SameMarks, more-marks, more-back}
+use Rattle.model.specs.Types.{None, Some}
 
 module _ (g : Geometry) (v : List ℕ) (vol : Volume g v) (s : State) (l2 : 2 ≤ g.records) (n2 : 2 ≤ g.notes) (cuts : ℕ)
     (t : Tidy g v s cuts)
@@ -84,7 +84,7 @@ module _ (g : Geometry) (v : List ℕ) (vol : Volume g v) (s : State) (l2 : 2 �
 
   -- the user's record, where upkeep was idle
   pub user-record : s.pending ≡ 0 → s'.pending ≡ 1 → s.notes ≡ t.z.k0 → s.durable ≡ t.z.d0 → t.z.u ≡ 0
-      → s.note ≡ Absent → s'.note ≡ Absent → t.b ≡ 0 → Tidy g v' s' cuts
+      → s.note ≡ None → s'.note ≡ None → t.b ≡ 0 → Tidy g v' s' cuts
   user-record q pp k= d= u= na nn b= =
       record {
         z = record { k0 = t.z.k0; d0 = t.z.d0; u = 1 };
@@ -111,8 +111,8 @@ module _ (g : Geometry) (v : List ℕ) (vol : Volume g v) (s : State) (l2 : 2 �
           (λ n e. no-present n (sym nn ∙ e)) (λ n e. no-present n (sym nn ∙ e))
 
   -- a refreshing put: a note came since k0, no renewal was under way, and one is now
-  pub put_record : s.pending ≡ 0 → s'.pending ≡ 1 → s.notes ≢ t.z.k0 → t.b ≡ 0 → s.note ≡ Absent
-      → s'.note ≡ Absent
+  pub put_record : s.pending ≡ 0 → s'.pending ≡ 1 → s.notes ≢ t.z.k0 → t.b ≡ 0 → s.note ≡ None
+      → s'.note ≡ None
       → Busy g v' s' → (((p : ℕ) → 1 ≤ p → p ≤ g.pages → (entry_of s.index p).written ≡ 0) → ⊥)
       → From g v' s' cuts t.z.k0
   put_record q pp k≠ b= na nn bz some = (
@@ -134,8 +134,8 @@ module _ (g : Geometry) (v : List ℕ) (vol : Volume g v) (s : State) (l2 : 2 �
   )
 
   -- a note is owed
-  pub leave : s.pending ≡ 0 → s'.pending ≡ 0 → (n : Note) → s'.note ≡ Present n
-      → NotesTidy g v s.notes t.z.k0 (Present n)
+  pub leave : s.pending ≡ 0 → s'.pending ≡ 0 → (n : Note) → s'.note ≡ Some n
+      → NotesTidy g v s.notes t.z.k0 (Some n)
       → (is_written n ≡ false
       → (j : ℕ) → s.durable ≤ j + g.records → suc j ≤ s.durable → (log_record g v (suc j)).page ≡ n.page
       → record_needed g v s (suc j) ≡ true → (suc j ≤ n.lsn) × (1 ≤ n.page) × (n.page ≤ g.pages))
@@ -162,7 +162,7 @@ module _ (g : Geometry) (v : List ℕ) (vol : Volume g v) (s : State) (l2 : 2 �
   )
 
   -- a cut, with the volume's log and notes as they were: what was pending or owed is lost
-  pub cut : s'.pending ≡ 0 → s'.note ≡ Absent → Tidy g v' s' (suc cuts)
+  pub cut : s'.pending ≡ 0 → s'.note ≡ None → Tidy g v' s' (suc cuts)
   cut pp nn = elim (dec_lt s.durable (t.z.d0 + t.z.u)) [
     -- the user's record was pending
     | yes y ↦ at 0 (omega arith) (omega (arith, t.sums.d-low)) (λ f. inl refl)

@@ -17,9 +17,8 @@ use Rattle.model.specs.Index.{entry_of}
 use Rattle.model.specs.Scan.{note_record}
 use Rattle.model.specs.State.{note_pending}
 use Rattle.model.specs.Carry.{count_of}
-use Rattle.model.specs.declared.{geometry.Geometry.Geometry, item.Note.Note, state.PendingNote.PendingNote}
+use Rattle.model.specs.declared.{geometry.Geometry.Geometry, item.Note.Note}
 use Rattle.model.specs.declared.state.State.{State}
-use Rattle.model.specs.declared.state.PendingNote.TheVariants.{Absent, Present}
 use Rattle.history.proofs.Sections.{Volume}
 use Rattle.upkeep_theory.proofs.Shift.{note-same, MoreMarks, log-notes, note-logs, note-read-new, note-read-old}
 use Rattle.upkeep_theory.proofs.NotesTidy.{NotesTidy, alike-parts, tidy-lost, tidy-same, tidy-torn, tidy-note}
@@ -27,6 +26,7 @@ use Rattle.upkeep_theory.proofs.LogTidy.{LogSame, log-same, log-force, log-torn,
 use Rattle.upkeep_theory.proofs.Tidy.{since_written, Sums, Tidy, From, settled}
 use Rattle.upkeep_theory.proofs.Apart.{SameMarks, more-marks, more-back}
 use Rattle.upkeep_theory.proofs.NotesTidy.{no-present}
+use Rattle.model.specs.Types.{PendingNote, None, Some}
 
 -- ---- Force, whole or torn
 
@@ -34,7 +34,7 @@ module _ (g : Geometry) (v : List ℕ) (vol : Volume g v) (s : State) (l2 : 2 �
     (t : Tidy g v s cuts)
     (xs : List ℕ) (size : length xs ≡ 64) (s' : State) (marks : SameMarks g s s') (kk : s'.notes ≡ s.notes)
     (pp : s'.pending ≡ 0)
-    (nn : s'.note ≡ Absent) where
+    (nn : s'.note ≡ None) where
   abbrev forced : List ℕ
   forced = store g v (log_slot g (suc s.durable)) xs
 
@@ -48,7 +48,7 @@ module _ (g : Geometry) (v : List ℕ) (vol : Volume g v) (s : State) (l2 : 2 �
   written-f : since_written g forced s'.notes t.z.k0 ≡ since_written g v s.notes t.z.k0
   written-f = rw kk (count_same _ _ (s.notes - t.z.k0) (λ i b. rw (rec-f (t.z.k0 + i))))
 
-  notes-f : NotesTidy g forced s'.notes t.z.k0 Absent
+  notes-f : NotesTidy g forced s'.notes t.z.k0 None
   notes-f = rw kk (tidy-lost g forced (tidy-same g v t.notes n2 vol t.near forced same-notes))
 
   unwritten : ((p : ℕ) → 1 ≤ p → p ≤ g.pages → (entry_of s'.index p).written ≡ 0)
@@ -94,9 +94,9 @@ module _ (g : Geometry) (v : List ℕ) (vol : Volume g v) (s : State) (l2 : 2 �
     refl,
   )
     where
-      absent : (y : PendingNote) → note_pending y ≡ true → y ≡ Absent → ⊥
-      absent Absent q e = true-not-false q refl
-      absent (Present n) q e = let w : ◌≡◌ {A = ℕ} 0 1 = cc in omega arith
+      absent : (y : PendingNote) → note_pending y ≡ true → y ≡ None → ⊥
+      absent None q e = true-not-false q refl
+      absent (Some n) q e = let w : ◌≡◌ {A = ℕ} 0 1 = cc in omega arith
 
   pub torn-tidy : sealed 60 xs ≡ false → s'.durable ≡ s.durable → Tidy g forced s' (suc cuts)
   torn-tidy bad dd = elim (dec_lt s.durable (t.z.d0 + t.z.u)) [
@@ -153,7 +153,7 @@ module _ (g : Geometry) (v : List ℕ) (vol : Volume g v) (s : State) (l2 : 2 �
 
 module _ (g : Geometry) (v : List ℕ) (vol : Volume g v) (s : State) (l2 : 2 ≤ g.records) (n2 : 2 ≤ g.notes) (cuts : ℕ)
     (t : Tidy g v s cuts)
-    (s' : State) (dd : s'.durable ≡ s.durable) (pp : s'.pending ≡ 0) (nn : s'.note ≡ Absent) where
+    (s' : State) (dd : s'.durable ≡ s.durable) (pp : s'.pending ≡ 0) (nn : s'.note ≡ None) where
   pub counted : (v' : List ℕ) (n : Note)
       → ((a : ℕ) → t.z.k0 ≤ a → a < s.notes → note_record g v' (suc a) ≡ note_record g v (suc a))
       → note_record g v' (suc s.notes) ≡ n
@@ -169,7 +169,7 @@ module _ (g : Geometry) (v : List ℕ) (vol : Volume g v) (s : State) (l2 : 2 �
       (s.notes - t.z.k0) (λ i b. rw (rc (t.z.k0 + i) (omega arith) (omega (arith, t.notes.low))))))
 
   -- stored whole; that there are not too many is counted in the next state
-  pub note-tidy : (n : Note) → s.note ≡ Present n → length (note_bytes n) ≡ 16 → note_of (note_bytes n) ≡ n
+  pub note-tidy : (n : Note) → s.note ≡ Some n → length (note_bytes n) ≡ 16 → note_of (note_bytes n) ≡ n
       → n.number ≡ suc s.notes
       → s'.notes ≡ suc s.notes → suc s.notes + 2 ≤ t.z.k0 + g.notes
       → MoreMarks g.pages s s'
@@ -180,7 +180,7 @@ module _ (g : Geometry) (v : List ℕ) (vol : Volume g v) (s : State) (l2 : 2 �
   note-tidy n noting six back num kk near' more wrote slot number =
       let quiet : s.pending ≡ 0 = settled t n noting in
       let v' = store g v (note_slot g (suc s.notes)) (note_bytes n) in
-      let nt : NotesTidy g v s.notes t.z.k0 (Present n) = rw noting at t.notes in
+      let nt : NotesTidy g v s.notes t.z.k0 (Some n) = rw noting at t.notes in
       let rc : (a : ℕ) → t.z.k0 ≤ a → a < s.notes → note_record g v' (suc a) ≡ note_record g v (suc a) =
       λ a x y. note-read-old g v vol (omega arith) s.notes (note_bytes n) six a y (omega arith) in
       let new : note_record g v' (suc s.notes) ≡ n = note-read-new g v vol (omega arith) s.notes n six back in
@@ -204,7 +204,7 @@ module _ (g : Geometry) (v : List ℕ) (vol : Volume g v) (s : State) (l2 : 2 �
         refl,
       )
     where
-      summed : (n : Note) → NotesTidy g v s.notes t.z.k0 (Present n) → s.pending ≡ 0
+      summed : (n : Note) → NotesTidy g v s.notes t.z.k0 (Some n) → s.pending ≡ 0
           → Sums s'.durable s'.pending t.z.d0 t.z.u
           (since_written g v s.notes t.z.k0 + cond (is_written n) 1 0) cuts 0
       summed n nt quiet = elim (ℕ_discrete t.b 0) [
@@ -220,7 +220,7 @@ module _ (g : Geometry) (v : List ℕ) (vol : Volume g v) (s : State) (l2 : 2 �
 
   -- left torn
   pub torn-note-tidy : (xs : List ℕ) → length xs ≡ 16 → sealed 12 xs ≡ false → SameMarks g s s' → s'.notes ≡ s.notes
-      → (n : Note) → s.note ≡ Present n → Tidy g (store g v (note_slot g (suc s.notes)) xs) s' (suc cuts)
+      → (n : Note) → s.note ≡ Some n → Tidy g (store g v (note_slot g (suc s.notes)) xs) s' (suc cuts)
   torn-note-tidy xs six bad marks kk n noting =
       let quiet : s.pending ≡ 0 = settled t n noting in
       let v' = store g v (note_slot g (suc s.notes)) xs in

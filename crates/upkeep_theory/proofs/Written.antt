@@ -15,12 +15,13 @@ use Rattle.model.specs.Outcome.{StoredItem}
 use Rattle.model.specs.Carry.{count_of}
 use Rattle.model.specs.AbstractLog.{Logged}
 use Rattle.model.specs.declared.{geometry.Geometry.Geometry, item.Note.Note, state.Entry.Entry}
-use Rattle.model.specs.declared.{state.PendingNote.TheVariants.Present, state.State.State}
+use Rattle.model.specs.declared.{state.State.State}
 use Rattle.history.proofs.Marks.{mark_at, Mark, mark-hit, mark-miss, mark-append, note_n, len_n}
 use Rattle.history.proofs.Context.{Ctx}
 use Rattle.upkeep_policy.specs.Upkeep.{ever_written, pending_written}
 use Rattle.upkeep_theory.proofs.Near.{wrote_in}
 use Rattle.upkeep_theory.proofs.Counting.{count-le}
+use Rattle.model.specs.Types.{Some}
 
 module _ {C : Type 0} {g : Geometry} {v m : List ℕ} {past : List StoredItem} {s : State} {k w : List Logged}
     (x : Ctx C g v m past s k w) where
@@ -40,7 +41,7 @@ module _ {C : Type 0} {g : Geometry} {v m : List ℕ} {past : List StoredItem} {
         omega arith
 
     -- with the owed note
-    pub few-next : (n : Note) → s.note ≡ Present n → count_of 64 (wrote_in (x.ns ++ (n ∷ []))) ≤ W
+    pub few-next : (n : Note) → s.note ≡ Some n → count_of 64 (wrote_in (x.ns ++ (n ∷ []))) ≤ W
     unfolding ever_written
     few-next n noting =
         let c : count_of 64 (wrote_in (x.ns ++ (n ∷ []))) ≤ ever_written s =

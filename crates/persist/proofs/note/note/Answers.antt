@@ -16,8 +16,8 @@ none c = sym c.requires ∙ c.if-no-ne0.false
 
 -- a note is pending
 known : (c : After-geometry-g) → first_of (state_rows c.args.volume.now c.args.memory.now c.args.s []) ≡ 0
-    → NoteRoom c.args.volume.now c.args.s c.geometry-g.result c.in-Present.n
-known c e = note-room c.args.volume.now c.args.memory.now c.args.s _ _ c.geometry-g.ensures e c.in-Present.is
+    → NoteRoom c.args.volume.now c.args.s c.geometry-g.result c.in-Some.n
+known c e = note-room c.args.volume.now c.args.memory.now c.args.s _ _ c.geometry-g.ensures e c.in-Some.is
 
 pub returns-then-no-ne0 : goal.returns-then-no-ne0
 returns-then-no-ne0 c =
@@ -59,7 +59,7 @@ noted-requires c =
 pub returns : goal.returns
 returns c =
     let a = c.args in
-    let n = c.in-Present.n in
-    let k = note-done a.volume.now a.memory.now a.s n _ _ _ _ (none (goal.at.returns c).Else-no-ne0) c.in-Present.is
+    let n = c.in-Some.n in
+    let k = note-done a.volume.now a.memory.now a.s n _ _ _ _ (none (goal.at.returns c).Else-no-ne0) c.in-Some.is
     c.geometry-g.ensures c.note_slot-at.ensures c.noted.ensures (note-put a.volume.now _ n _ c.encode.ensures) in
     record { reply = k.0; volume = k.1 }

@@ -2,9 +2,9 @@
 use Rattle.model.specs.State.{pending_note_fits}
 use Rattle.state.proofs.well_formed.pending_fits.Goals as goal
 
-pub returns-in-Absent : goal.returns-in-Absent
+pub returns-in-None : goal.returns-in-None
 unfolding pending_note_fits
-returns-in-Absent c = simp c.in-Absent.is
+returns-in-None c = simp c.in-None.is
 
-pub returns-in-Present : goal.returns-in-Present
-returns-in-Present c = simp c.in-Present.is c.note_fits.ensures
+pub returns-in-Some : goal.returns-in-Some
+returns-in-Some c = simp c.in-Some.is c.note_fits.ensures
