@@ -30,7 +30,7 @@ refusal_number no.PageLost = 23
 refusal_number no.HistoryLost = 24
 refusal_number no.BadRehearsal = 25
 
--- the number of what a test found: 0 where nothing is refused
-abbrev pub tested_number : Result Unit Refusal → ℕ
-tested_number (Ok _) = 0
-tested_number (Err r) = refusal_number r
+-- the number of a result: 0 where nothing is refused
+abbrev pub error_number : {A : Type 0} → Result A Refusal → ℕ
+error_number (Ok _) = 0
+error_number (Err r) = refusal_number r

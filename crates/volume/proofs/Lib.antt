@@ -1,3 +1,4 @@
 -- Laws that belong to no one function.
 pub mod Readings
 pub mod Fresh
+pub mod Slots
