@@ -1,5 +1,6 @@
 // Begin: the first format of a blank page.
 ghost use Rattle.std.specs.Prelude.{◌≡◌, true, List, [], ℕ, ◌<◌, length, replicate};
+ghost use Rattle.model.specs.Refused.{error_number};
 ghost use Rattle.model.specs.Tables.{first_of};
 ghost use Rattle.model.specs.Geometry.{geometry_of, valid_volume};
 ghost use Rattle.model.specs.Item.{frame_image};
@@ -10,7 +11,7 @@ ghost use Rattle.model.specs.Calls.{begin_of};
 use crate::{limits, pending};
 use codec::part;
 use item::image;
-use model::answer::{Answer, Reply};
+use model::answer::{Answer, Refusal, Reply};
 use model::change::Change;
 use model::geometry::Geometry;
 use model::state::State;
@@ -32,8 +33,8 @@ fn own(s: State, volume: &[u8], g: Geometry, count: usize, page: u32, frame: u32
 }
 
 // The refusal, the lowest that holds; no is that of the rows 1 and 2, size is the memory's.
-fn refusal(s: State, no: u32, volume: &[u8], size: usize, page: u32, frame: u32) -> u32
-    requires { (m : List ℕ) → length m ≡ size → no ≡ first_of (state_rows volume.now m s []) }
+fn refusal(s: State, checked: Result<(), Refusal>, volume: &[u8], size: usize, page: u32, frame: u32) -> u32
+    requires { (m : List ℕ) → length m ≡ size → error_number checked ≡ first_of (state_rows volume.now m s []) }
     ensures { (m : List ℕ) → length m ≡ size → result ≡ first_of (begin_rows volume.now m s page frame) }
 {
     if no != 0 {
@@ -58,14 +59,14 @@ fn format(x: &mut [u8], page: u32, lsn: u32, fill: u8)
 // that clears the frame.
 pub fn begin(
     s: State,
-    no: u32,
+    checked: Result<(), Refusal>,
     volume: &[u8],
     memory: &mut [u8],
     page: u32,
     frame: u32,
     fill: u8,
 ) -> Reply
-    requires { no ≡ first_of (state_rows volume.now memory.old s []) }
+    requires { error_number checked ≡ first_of (state_rows volume.now memory.old s []) }
     ensures reply { result ≡ reply_of (begin_of volume.now memory.old s page frame fill) }
     ensures memory { memory.new ≡ (begin_of volume.now memory.old s page frame fill).memory }
 {

@@ -1,5 +1,6 @@
 // Change: alters a page that a frame holds.
 ghost use Rattle.std.specs.Prelude.{◌≡◌, true, List, [], ℕ, length};
+ghost use Rattle.model.specs.Refused.{error_number};
 ghost use Rattle.model.specs.Tables.{first_of};
 ghost use Rattle.model.specs.Change.{fits, apply_change};
 ghost use Rattle.model.specs.Geometry.{geometry_of, valid_volume};
@@ -11,7 +12,7 @@ ghost use Rattle.model.specs.Calls.{change_call};
 
 use crate::{limits, pending};
 use codec::field;
-use model::answer::{Answer, Reply};
+use model::answer::{Answer, Refusal, Reply};
 use model::change::Change;
 use model::geometry::Geometry;
 use model::state::State;
@@ -35,8 +36,8 @@ fn own(s: State, volume: &[u8], g: Geometry, page: u32, c: Change) -> u32
 }
 
 // The refusal, the lowest that holds; no is that of the rows 1 and 2, size is the memory's.
-fn refusal(s: State, no: u32, volume: &[u8], size: usize, page: u32, c: Change) -> u32
-    requires { (m : List ℕ) → length m ≡ size → no ≡ first_of (state_rows volume.now m s []) }
+fn refusal(s: State, checked: Result<(), Refusal>, volume: &[u8], size: usize, page: u32, c: Change) -> u32
+    requires { (m : List ℕ) → length m ≡ size → error_number checked ≡ first_of (state_rows volume.now m s []) }
     ensures { (m : List ℕ) → length m ≡ size → result ≡ first_of (change_rows volume.now m s page c) }
 {
     if no != 0 {
@@ -59,14 +60,14 @@ fn alter(x: &mut [u8], lsn: u32, c: Change, payload: [u8; 44])
 // Ruled out: a page changed that no frame holds; a record that skips the page's pending ones.
 pub fn change(
     s: State,
-    no: u32,
+    checked: Result<(), Refusal>,
     volume: &[u8],
     memory: &mut [u8],
     page: u32,
     change: Change,
     payload: [u8; 44],
 ) -> Reply
-    requires { no ≡ first_of (state_rows volume.now memory.old s []) }
+    requires { error_number checked ≡ first_of (state_rows volume.now memory.old s []) }
     ensures reply { result ≡ reply_of (change_call volume.now memory.old s page change payload) }
     ensures memory { memory.new ≡ (change_call volume.now memory.old s page change payload).memory }
 {

@@ -32,9 +32,8 @@ fn old_at(volume: &[u8], g: Geometry, index: [Entry; 64], i: u32) -> bool
 }
 
 // The first image that passes only the old sum; the count of images where none does.
-pub fn first_old(volume: &[u8], g: Geometry, index: [Entry; 64]) -> u32
-    requires { (valid_volume volume.now ≡ true) × (g ≡ geometry_of volume.now) }
-    ensures { result ≡ first_old g volume.now index }
+pub fn first_old(v: &Volume<'_>, index: [Entry; 64]) -> u32
+    ensures { result ≡ first_old v.now.geometry v.now.bytes.now index }
 {
     let count = g.pages + g.slots;
     let mut i: u32 = 0;

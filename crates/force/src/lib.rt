@@ -2,13 +2,14 @@
 #![tactic(auto)]
 
 ghost use Rattle.std.specs.Prelude.{◌≡◌, []};
+ghost use Rattle.model.specs.Refused.{error_number};
 ghost use Rattle.model.specs.Tables.{first_of};
 ghost use Rattle.model.specs.Refusals.{state_rows};
 ghost use Rattle.model.specs.Outcome.{reply_of, volume_after};
 ghost use Rattle.model.specs.Calls.{force_of};
 
 use codec::{field, part};
-use model::answer::{Answer, Reply};
+use model::answer::{Answer, Refusal, Reply};
 use model::state::State;
 use state::next;
 use volume::{heading, memory, place};
@@ -16,8 +17,8 @@ use volume::{heading, memory, place};
 // Stores the oldest pending record and lowers the pending count; Nothing where none is pending.
 // Ruled out: Nothing with records pending; a later record stored, or only the count lowered; an entry left with its old
 // durable number.
-pub fn force(s: State, no: u32, volume: &mut [u8], memory: &[u8]) -> Reply
-    requires { no ≡ first_of (state_rows volume.old memory.now s []) }
+pub fn force(s: State, checked: Result<(), Refusal>, volume: &mut [u8], memory: &[u8]) -> Reply
+    requires { error_number checked ≡ first_of (state_rows volume.old memory.now s []) }
     ensures reply { result ≡ reply_of (force_of volume.old memory.now s) }
     ensures volume { volume.new
         ≡ volume_after volume.old (force_of volume.old memory.now s).stored }

@@ -29,7 +29,7 @@ scanned_index v = index_of (geometry_of v) v
 abbrev pub counts_of : List ℕ → Counts
 counts_of v =
     let g = geometry_of v in
-    record { refusal = 0; first = first_held g v (durable_count g v); durable = durable_count g v; notes = note_count g v }
+    record { first = first_held g v (durable_count g v); durable = durable_count g v; notes = note_count g v }
 
 -- record 1 has left a log of these counts
 abbrev pub gone_in : Counts → Bool
@@ -39,7 +39,6 @@ abbrev pub scanned_of : List ℕ → Scanned
 scanned_of v =
     let g = geometry_of v in
     record {
-      refusal = 0;
       first = first_held g v (durable_count g v);
       durable = durable_count g v;
       notes = note_count g v;
@@ -47,4 +46,4 @@ scanned_of v =
     }
 
 abbrev pub found_of : List ℕ → ℕ → Found
-found_of v page = record { refusal = 0; first = (counts_of v).first; entry = entry_of (scanned_index v) page }
+found_of v page = record { first = (counts_of v).first; entry = entry_of (scanned_index v) page }

@@ -1,7 +1,8 @@
 // The scan of a volume's log and notes into the page recovery index, for any bytes and without memory or state.
 #![tactic(auto)]
 
-ghost use Rattle.std.specs.Prelude.{◌≡◌, true, ◌≤◌, length, replicate};
+ghost use Rattle.std.specs.Prelude.{◌≡◌, true, ◌≤◌, length, replicate, IfOk};
+ghost use Rattle.model.specs.Refused.{error_number};
 ghost use Rattle.model.specs.Geometry.{known_magic, geometry_of, valid_volume};
 ghost use Rattle.index_rows.specs.Columns.{Blank, Columns, Wide};
 ghost use Rattle.index.specs.Filled.{Filled, swept_counts};
@@ -12,15 +13,15 @@ pub mod notes;
 use codec::part;
 use index_rows::columns;
 use log_scan::Swept;
+use model::answer::Refusal;
 use model::geometry::Geometry;
 use model::state::Entry;
 use section::guess;
 use volume::{heading, ring};
 
-// What a scan counts: 0 or the refusal, the log's run start, and the counts of durable log records and of notes.
+// What a clean scan counts: the log's run start, and the counts of durable log records and of notes.
 #[derive(Clone, Copy)]
 pub struct Counts {
-    pub refusal: u32,
     pub first: u64,
     pub durable: u32,
     pub notes: u32,
@@ -33,20 +34,18 @@ pub struct Pass {
     pub counts: Counts,
 }
 
-// What a scan gives: its counts with the log's run start, and the index.
+// What a clean scan gives: its counts with the log's run start, and the index.
 #[derive(Clone, Copy)]
 pub struct Scanned {
-    pub refusal: u32,
     pub first: u64,
     pub durable: u32,
     pub notes: u32,
     pub index: [Entry; 64],
 }
 
-// What a scan gives of one page, with the log's run start.
+// What a clean scan gives of one page, with the log's run start.
 #[derive(Clone, Copy)]
 pub struct Found {
-    pub refusal: u32,
     pub first: u64,
     pub entry: Entry,
 }
@@ -234,10 +233,10 @@ fn read(
     fill(volume, g, last, written, slots, backup)
 }
 
-// Counts what a scan finds, without the index. What a refused scan gives besides its number means nothing.
-pub fn count(volume: &[u8]) -> Counts
-    ensures refusal { result.refusal ≡ scan_refusal volume.now }
-    ensures counts { result.refusal ≡ 0 → result ≡ counts_of volume.now }
+// Counts what a scan finds, without the index.
+pub fn count(volume: &[u8]) -> Result<Counts, Refusal>
+    ensures refusal { error_number result ≡ scan_refusal volume.now }
+    ensures counts { IfOk result (λ c. c ≡ counts_of volume.now) }
 {
     let mut last = [0u32; 64];
     let mut written = [0u32; 64];
@@ -246,10 +245,10 @@ pub fn count(volume: &[u8]) -> Counts
     read(volume, &mut last, &mut written, &mut slots, &mut backup)
 }
 
-// Scans a volume. What a refused scan gives besides its number means nothing.
-pub fn scan(volume: &[u8]) -> Scanned
-    ensures refusal { result.refusal ≡ scan_refusal volume.now }
-    ensures clean { result.refusal ≡ 0 → result ≡ scanned_of volume.now }
+// Scans a volume.
+pub fn scan(volume: &[u8]) -> Result<Scanned, Refusal>
+    ensures refusal { error_number result ≡ scan_refusal volume.now }
+    ensures clean { IfOk result (λ s. s ≡ scanned_of volume.now) }
 {
     let mut last = [0u32; 64];
     let mut written = [0u32; 64];
@@ -267,10 +266,10 @@ pub fn scan(volume: &[u8]) -> Scanned
 }
 
 // Scans a volume with a known heading and this geometry for one page's entry, without an array of all entries.
-pub fn seek(volume: &[u8], g: Geometry, page: u32) -> Found
+pub fn seek(volume: &[u8], g: Geometry, page: u32) -> Result<Found, Refusal>
     requires { (known_magic volume.now ≡ true) × (g ≡ geometry_of volume.now) }
-    ensures refusal { result.refusal ≡ scan_refusal volume.now }
-    ensures clean { result.refusal ≡ 0 → result ≡ found_of volume.now page }
+    ensures refusal { error_number result ≡ scan_refusal volume.now }
+    ensures clean { IfOk result (λ f. f ≡ found_of volume.now page) }
 {
     let mut last = [0u32; 64];
     let mut written = [0u32; 64];

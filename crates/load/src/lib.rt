@@ -8,6 +8,7 @@ pub mod release;
 ghost use Rattle.std.specs.Prelude.{◌≡◌, List, [], ℕ, ◌+◌, ◌≤◌, length};
 ghost use Rattle.load.specs.Rows.{early_rows};
 ghost use Rattle.model.specs.Refusals.{state_rows, load_tail, walk_tail};
+ghost use Rattle.model.specs.Refused.{error_number};
 ghost use Rattle.model.specs.Tables.{first_of};
 ghost use Rattle.model.specs.Bytes.{splice};
 ghost use Rattle.model.specs.Repair.{repair_of, rebuilt};
@@ -17,7 +18,7 @@ ghost use Rattle.model.specs.Effects.{is_good};
 ghost use Rattle.model.specs.Calls.{load_of};
 ghost use Rattle.repair.specs.Walked.{ReadyFor, view_for, walked_of};
 
-use model::answer::{Answer, Class, Repair, Reply, Stop};
+use model::answer::{Answer, Class, Refusal, Repair, Reply, Stop};
 use model::geometry::Geometry;
 use model::state::State;
 use repair::walk::{Target, Walked};
@@ -39,8 +40,8 @@ fn own(g: Geometry, count: usize, s: State, page: u32, frame: u32) -> u32
 }
 
 // The refusal without the walk, the lowest that holds; no is that of the rows 1 and 2, size is the memory's.
-fn refusal(s: State, no: u32, volume: &[u8], size: usize, page: u32, frame: u32) -> u32
-    requires { (m : List ℕ) → length m ≡ size → no ≡ first_of (state_rows volume.now m s []) }
+fn refusal(s: State, checked: Result<(), Refusal>, volume: &[u8], size: usize, page: u32, frame: u32) -> u32
+    requires { (m : List ℕ) → length m ≡ size → error_number checked ≡ first_of (state_rows volume.now m s []) }
     ensures { (m : List ℕ) → length m ≡ size → result ≡ first_of (early_rows volume.now m s page frame) }
 {
     if no != 0 {
@@ -94,8 +95,8 @@ fn restore(volume: &[u8], memory: &mut [u8], t: Target, frame: u32, w: Walked) -
 // Loads a page; a page in the frame whose changes are durable makes way.
 // Ruled out: a page that was repaired and is left clean (tried); the page put into another frame than the one named
 // (tried); every page blank (tried); every call refused (tried); 19 or 23 where the walk finds a start.
-pub fn load(s: State, no: u32, volume: &[u8], memory: &mut [u8], page: u32, frame: u32) -> Reply
-    requires { no ≡ first_of (state_rows volume.now memory.old s []) }
+pub fn load(s: State, checked: Result<(), Refusal>, volume: &[u8], memory: &mut [u8], page: u32, frame: u32) -> Reply
+    requires { error_number checked ≡ first_of (state_rows volume.now memory.old s []) }
     ensures reply { result ≡ reply_of (load_of volume.now memory.old s page frame) }
     ensures memory { memory.new
         ≡ (load_of volume.now memory.old s page frame).memory }

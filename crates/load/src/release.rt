@@ -1,11 +1,12 @@
 // Release: a page leaves its frame without being written; its image on disk stays old, and a later Load repairs it.
 ghost use Rattle.std.specs.Prelude.{◌≡◌, []};
+ghost use Rattle.model.specs.Refused.{error_number};
 ghost use Rattle.model.specs.Tables.{first_of};
 ghost use Rattle.model.specs.Refusals.{state_rows, release_rows, release_tail};
 ghost use Rattle.model.specs.Outcome.{reply_of};
 ghost use Rattle.model.specs.Calls.{release_of};
 
-use model::answer::{Answer, Reply};
+use model::answer::{Answer, Refusal, Reply};
 use model::geometry::Geometry;
 use model::state::State;
 use state::{frames, next};
@@ -22,8 +23,8 @@ fn own(s: State, g: Geometry, page: u32, f: u32) -> u32
 }
 
 // The refusal, the lowest that holds; no is that of the rows 1 and 2.
-fn refusal(s: State, no: u32, volume: &[u8], memory: &[u8], page: u32) -> u32
-    requires { no ≡ first_of (state_rows volume.now memory.now s []) }
+fn refusal(s: State, checked: Result<(), Refusal>, volume: &[u8], memory: &[u8], page: u32) -> u32
+    requires { error_number checked ≡ first_of (state_rows volume.now memory.now s []) }
     ensures { result ≡ first_of (release_rows volume.now memory.now s page) }
 {
     if no != 0 {
@@ -36,8 +37,8 @@ fn refusal(s: State, no: u32, volume: &[u8], memory: &[u8], page: u32) -> u32
 
 // Empties the page's frame; its bytes stay, which the memory, lent for reading alone, shows.
 // Ruled out: a page with a pending change let go (tried); a row left dirty (tried); the page left in the frame (tried).
-pub fn release(s: State, no: u32, volume: &[u8], memory: &[u8], page: u32) -> Reply
-    requires { no ≡ first_of (state_rows volume.now memory.now s []) }
+pub fn release(s: State, checked: Result<(), Refusal>, volume: &[u8], memory: &[u8], page: u32) -> Reply
+    requires { error_number checked ≡ first_of (state_rows volume.now memory.now s []) }
     ensures { result ≡ reply_of (release_of volume.now memory.now s page) }
 {
     let no = refusal(s, no, volume, memory, page);

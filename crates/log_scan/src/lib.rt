@@ -31,9 +31,8 @@ fn locate(g: Geometry) -> Section
 }
 
 // The run start, with n records.
-pub fn first(volume: &[u8], g: Geometry, n: u32) -> u64
-    requires { Sized g volume.now }
-    ensures { result ≡ scans.first_held g volume.now n }
+pub fn first(v: &Volume<'_>, n: u32) -> u64
+    ensures { result ≡ scans.first_held v.now.geometry v.now.bytes.now n }
 {
     section::first(volume, locate(g), n, 0)
 }

@@ -1,5 +1,6 @@
 // Backup: stores a page's image in a backup slot and leaves a note of it pending.
 ghost use Rattle.std.specs.Prelude.{◌≡◌, true, []};
+ghost use Rattle.model.specs.Refused.{error_number};
 ghost use Rattle.model.specs.Tables.{first_of};
 ghost use Rattle.model.specs.Geometry.{geometry_of, valid_volume};
 ghost use Rattle.model.specs.Refusals.{state_rows, backup_rows, backup_tail};
@@ -7,7 +8,7 @@ ghost use Rattle.model.specs.Outcome.{reply_of, volume_after};
 ghost use Rattle.model.specs.Calls.{backup_of};
 
 use crate::{image, noting};
-use model::answer::{Answer, Reply};
+use model::answer::{Answer, Refusal, Reply};
 use model::geometry::Geometry;
 use model::state::State;
 use state::{frames, next};
@@ -31,8 +32,8 @@ fn own(s: State, volume: &[u8], g: Geometry, page: u32, slot: u32, f: u32, lsn: 
 }
 
 // The refusal, the lowest that holds; no is that of the rows 1 and 2.
-fn refusal(s: State, no: u32, volume: &[u8], memory: &[u8], page: u32, slot: u32) -> u32
-    requires { no ≡ first_of (state_rows volume.now memory.now s []) }
+fn refusal(s: State, checked: Result<(), Refusal>, volume: &[u8], memory: &[u8], page: u32, slot: u32) -> u32
+    requires { error_number checked ≡ first_of (state_rows volume.now memory.now s []) }
     ensures { result ≡ first_of (backup_rows volume.now memory.now s page slot) }
 {
     if no != 0 {
@@ -46,8 +47,8 @@ fn refusal(s: State, no: u32, volume: &[u8], memory: &[u8], page: u32, slot: u32
 
 // Stores the image of a page that a frame holds in the slot; a note of it is pending.
 // Ruled out: a slot overwritten that the index names; a note of another slot than the image's.
-pub fn backup(s: State, no: u32, volume: &mut [u8], memory: &[u8], page: u32, slot: u32) -> Reply
-    requires { no ≡ first_of (state_rows volume.old memory.now s []) }
+pub fn backup(s: State, checked: Result<(), Refusal>, volume: &mut [u8], memory: &[u8], page: u32, slot: u32) -> Reply
+    requires { error_number checked ≡ first_of (state_rows volume.old memory.now s []) }
     ensures reply { result ≡ reply_of (backup_of volume.old memory.now s page slot) }
     ensures volume { volume.new
         ≡ volume_after volume.old (backup_of volume.old

@@ -1,5 +1,6 @@
 // Write: stores a dirty page's image and leaves a note of it pending.
 ghost use Rattle.std.specs.Prelude.{◌≡◌, true, []};
+ghost use Rattle.model.specs.Refused.{error_number};
 ghost use Rattle.model.specs.Tables.{first_of};
 ghost use Rattle.model.specs.Geometry.{geometry_of, valid_volume};
 ghost use Rattle.model.specs.Refusals.{state_rows, write_rows, write_tail};
@@ -7,7 +8,7 @@ ghost use Rattle.model.specs.Outcome.{reply_of, volume_after};
 ghost use Rattle.model.specs.Calls.{write_of};
 
 use crate::{image, noting};
-use model::answer::{Answer, Reply};
+use model::answer::{Answer, Refusal, Reply};
 use model::geometry::Geometry;
 use model::state::State;
 use state::{frames, next};
@@ -25,8 +26,8 @@ fn own(s: State, volume: &[u8], g: Geometry, page: u32, f: u32, lsn: u32) -> u32
 }
 
 // The refusal, the lowest that holds; no is that of the rows 1 and 2.
-fn refusal(s: State, no: u32, volume: &[u8], memory: &[u8], page: u32) -> u32
-    requires { no ≡ first_of (state_rows volume.now memory.now s []) }
+fn refusal(s: State, checked: Result<(), Refusal>, volume: &[u8], memory: &[u8], page: u32) -> u32
+    requires { error_number checked ≡ first_of (state_rows volume.now memory.now s []) }
     ensures { result ≡ first_of (write_rows volume.now memory.now s page) }
 {
     if no != 0 {
@@ -40,8 +41,8 @@ fn refusal(s: State, no: u32, volume: &[u8], memory: &[u8], page: u32) -> u32
 
 // Stores a dirty page's image; the page is clean, a note of it is pending. Nothing on a clean page.
 // Ruled out: a note of another page lsn than the image's; 13 to 15 on a clean page.
-pub fn write(s: State, no: u32, volume: &mut [u8], memory: &[u8], page: u32) -> Reply
-    requires { no ≡ first_of (state_rows volume.old memory.now s []) }
+pub fn write(s: State, checked: Result<(), Refusal>, volume: &mut [u8], memory: &[u8], page: u32) -> Reply
+    requires { error_number checked ≡ first_of (state_rows volume.old memory.now s []) }
     ensures reply { result ≡ reply_of (write_of volume.old memory.now s page) }
     ensures volume { volume.new
         ≡ volume_after volume.old (write_of volume.old memory.now s page).stored }

@@ -151,13 +151,12 @@ fn look(volume: &[u8], g: Geometry, c: Course, n: u32) -> Step
 
 // The chain walk from a number down.
 // Ruled out: a start taken at a number that is not its own (tried); a format left out of the count (tried).
-pub fn trace(volume: &[u8], g: Geometry, c: Course, from: u32) -> Traced
-    requires volume_value { (valid_volume volume.now ≡ true) × (g ≡ geometry_of volume.now) }
-    requires from_value { c.sure ≡ true → 1 ≤ from
-        → is_broken (walk_from from (log_of g volume.now) c.first c.page c.own c.backup from).stop
+pub fn trace(v: &Volume<'_>, c: Course, from: u32) -> Traced
+    requires { c.sure ≡ true → 1 ≤ from
+        → is_broken (walk_from from (log_of v.now.geometry v.now.bytes.now) c.first c.page c.own c.backup from).stop
         ≡ false }
     ensures { result
-        ≡ counted (walk_from from (log_of g volume.now) c.first c.page c.own c.backup from) }
+        ≡ counted (walk_from from (log_of v.now.geometry v.now.bytes.now) c.first c.page c.own c.backup from) }
 {
     let mut n = from;
     let mut count: u32 = 0;
