@@ -6,7 +6,7 @@ ghost use Rattle.model.specs.Passes.{image_count, image_place, old_at, first_old
 use crate::passes;
 use model::geometry::{FIRST_TAG, Geometry, SECOND_TAG};
 use model::state::Entry;
-use volume::place;
+use volume::{Volume, place};
 
 // Where image i, counted from 0, starts.
 pub fn image_at(g: Geometry, i: u32) -> usize

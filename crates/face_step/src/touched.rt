@@ -6,15 +6,15 @@ ghost use Rattle.log_scan.specs.Rows.{row_of};
 ghost use Rattle.face_step.specs.Targets.{note_page, touched};
 
 use codec::field;
+use model::item::Note;
 use model::command::Command;
-use model::state::PendingNote;
 
-fn note_page(note: PendingNote) -> u32
+fn note_page(note: Option<Note>) -> u32
     ensures { result ≡ note_page note }
 {
     match note {
-        PendingNote::Absent => 0,
-        PendingNote::Present(n) => n.page as u32,
+        None => 0,
+        Some(n) => n.page as u32,
     }
 }
 
@@ -27,7 +27,7 @@ fn forced_page(memory: &[u8], durable: u32) -> u32
 }
 
 // The page whose entry the call may change.
-fn page(memory: &[u8], durable: u32, note: PendingNote, command: Command) -> u32
+fn page(memory: &[u8], durable: u32, note: Option<Note>, command: Command) -> u32
     ensures { (p : List ℕ) → result ≡ touched (command, p) memory.now durable note }
 {
     match command {
@@ -50,7 +50,7 @@ fn page(memory: &[u8], durable: u32, note: PendingNote, command: Command) -> u32
 }
 
 // Its row, counted from 0.
-pub fn row(memory: &[u8], durable: u32, note: PendingNote, command: Command) -> usize
+pub fn row(memory: &[u8], durable: u32, note: Option<Note>, command: Command) -> usize
     ensures { ((p : List ℕ) → result ≡ row_of (touched (command, p) memory.now durable note)) × (result < 64) }
 {
     log_scan::row(page(memory, durable, note, command))

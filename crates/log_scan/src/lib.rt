@@ -16,7 +16,7 @@ use model::item::LogRecord;
 use section::guess::Guess;
 use section::{Run, Section, guess};
 use sums::products;
-use volume::{place, ring};
+use volume::{Volume, place, ring};
 
 // Where the log lies.
 fn locate(g: Geometry) -> Section

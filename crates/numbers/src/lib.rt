@@ -11,15 +11,15 @@ ghost use Rattle.face.specs.Numbers.{note_held, frame_held, entry_held, fits};
 
 use index_rows::entries;
 use model::item::Note;
-use model::state::{Entry, Frame, PendingNote, State};
+use model::state::{Entry, Frame, State};
 
-fn note_from(kind: u32, number: u32, page: u32, slot: u32, lsn: u32) -> PendingNote
+fn note_from(kind: u32, number: u32, page: u32, slot: u32, lsn: u32) -> Option<Note>
     ensures { result ≡ note_from kind number page slot lsn }
 {
     if kind == 0 {
-        return PendingNote::Absent;
+        return None;
     }
-    PendingNote::Present(Note {
+    Some(Note {
         number,
         page: (page % 65536) as u16,
         kind: (kind % 256) as u8,
@@ -105,12 +105,12 @@ fn bit(b: bool) -> u32
 }
 
 // The eight numbers in front.
-fn head(durable: u32, pending: u32, notes: u32, p: PendingNote) -> [u32; 8]
+fn head(durable: u32, pending: u32, notes: u32, p: Option<Note>) -> [u32; 8]
     ensures { result ≡ durable ∷ pending ∷ notes ∷ note_numbers p }
 {
     match p {
-        PendingNote::Absent => [durable, pending, notes, 0, 0, 0, 0, 0],
-        PendingNote::Present(n) => {
+        None => [durable, pending, notes, 0, 0, 0, 0, 0],
+        Some(n) => {
             [
                 durable,
                 pending,

@@ -7,7 +7,7 @@ ghost use Rattle.model.specs.Outcome.{reply_of, volume_after};
 ghost use Rattle.model.specs.Calls.{note_call};
 
 use model::answer::{Answer, Refusal, Reply};
-use model::state::{PendingNote, State};
+use model::state::State;
 use state::next;
 use volume::{heading, place};
 
@@ -26,7 +26,7 @@ pub fn note(s: State, checked: Result<(), Refusal>, volume: &mut [u8], memory: &
         };
     }
     let p = s.note;
-    let PendingNote::Present(n) = p else {
+    let Some(n) = p else {
         return Reply {
             answer: Answer::Nothing,
             state: s,

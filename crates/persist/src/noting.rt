@@ -4,17 +4,18 @@ ghost use Rattle.model.specs.Geometry.{geometry_of, valid_volume};
 ghost use Rattle.model.specs.State.{note_pending, notes_full};
 
 use model::geometry::Geometry;
-use model::state::{PendingNote, State};
+use model::item::Note;
+use model::state::State;
 use room::notes;
 use volume::rows;
 
 // A note is to be stored.
-fn present(p: PendingNote) -> bool
+fn present(p: Option<Note>) -> bool
     ensures { result ≡ note_pending p }
 {
     match p {
-        PendingNote::Absent => false,
-        PendingNote::Present(_) => true,
+        None => false,
+        Some(_) => true,
     }
 }
 

@@ -13,7 +13,7 @@ use model::answer::{Class, Stop};
 use model::geometry::Geometry;
 use model::state::Entry;
 use sums::checksum;
-use volume::place;
+use volume::{Volume, place};
 
 // A page that is repaired: its volume's geometry and run start, its entry of the index, and its number.
 #[derive(Clone, Copy)]

@@ -1,5 +1,6 @@
 // The hash of numbers in a row: h starts at 7; a number x makes it (257 h + x + 1) modulo 4,294,967,291.
-use model::state::{Entry, Frame, PendingNote, State};
+use model::item::Note;
+use model::state::{Entry, Frame, State};
 
 pub fn step(h: u32, x: u32) -> u32 {
     ((h as u64 * 257 + x as u64 + 1) % 4294967291) as u32
@@ -19,10 +20,10 @@ pub fn bytes(s: &[u8]) -> u32 {
     h
 }
 
-fn note(h: u32, p: PendingNote) -> u32 {
+fn note(h: u32, p: Option<Note>) -> u32 {
     match p {
-        PendingNote::Absent => step(step(step(step(step(h, 0), 0), 0), 0), 0),
-        PendingNote::Present(n) => {
+        None => step(step(step(step(step(h, 0), 0), 0), 0), 0),
+        Some(n) => {
             let head = step(step(h, n.kind as u32), n.number);
             step(step(step(head, n.page as u32), n.slot as u32), n.lsn)
         }

@@ -1,7 +1,7 @@
 // The state as 360 numbers: 3 counts, 5 of the pending note, 2 for each of 16 frames, 5 for each of 64 pages. Any of
 // them can be set.
 use model::item::Note;
-use model::state::{PendingNote, State};
+use model::state::State;
 
 // The largest number that may stand at a position.
 fn most(at: u32) -> u32 {
@@ -20,10 +20,10 @@ fn most(at: u32) -> u32 {
     4294967295
 }
 
-fn present(p: PendingNote) -> bool {
+fn present(p: Option<Note>) -> bool {
     match p {
-        PendingNote::Absent => false,
-        PendingNote::Present(_) => true,
+        None => false,
+        Some(_) => true,
     }
 }
 
@@ -45,20 +45,20 @@ fn set_count(s: State, at: u32, x: u32) -> State {
 }
 
 // A pending note whose kind becomes x; kind 0 is none.
-fn with_kind(p: PendingNote, x: u32) -> PendingNote {
+fn with_kind(p: Option<Note>, x: u32) -> Option<Note> {
     if x == 0 {
-        return PendingNote::Absent;
+        return None;
     }
     let kind = (x % 256) as u8;
     match p {
-        PendingNote::Absent => PendingNote::Present(Note {
+        None => Some(Note {
             number: 0,
             page: 0,
             kind,
             slot: 0,
             lsn: 0,
         }),
-        PendingNote::Present(n) => PendingNote::Present(Note {
+        Some(n) => Some(Note {
             number: n.number,
             page: n.page,
             kind,
@@ -79,13 +79,13 @@ fn with_field(n: Note, at: u32, x: u32) -> Note {
     t
 }
 
-fn with_number(p: PendingNote, at: u32, x: u32) -> PendingNote {
+fn with_number(p: Option<Note>, at: u32, x: u32) -> Option<Note> {
     if at == 3 {
         return with_kind(p, x);
     }
     match p {
-        PendingNote::Absent => PendingNote::Absent,
-        PendingNote::Present(n) => PendingNote::Present(with_field(n, at, x)),
+        None => None,
+        Some(n) => Some(with_field(n, at, x)),
     }
 }
 

@@ -7,7 +7,7 @@ ghost use Rattle.model.specs.Effects.{with_frame, with_frames, next_note, append
 use index::Scanned;
 use index_rows::entries;
 use model::item::Note;
-use model::state::{Frame, PendingNote, State};
+use model::state::{Frame, State};
 
 // The state of zeros.
 pub fn zero() -> State
@@ -22,7 +22,7 @@ pub fn zero() -> State
         durable: 0,
         pending: 0,
         notes: 0,
-        note: PendingNote::Absent,
+        note: None,
         frames,
         index,
     }
@@ -41,7 +41,7 @@ pub fn resumed(scan: Scanned) -> State
         durable: scan.durable,
         pending: 0,
         notes: scan.notes,
-        note: PendingNote::Absent,
+        note: None,
         frames,
         index,
     }
@@ -116,7 +116,7 @@ pub fn written(s: State, page: u32, f: u32, lsn: u32) -> State
         durable: s.durable,
         pending: s.pending,
         notes: s.notes,
-        note: PendingNote::Present(note),
+        note: Some(note),
         frames,
         index,
     }
@@ -140,7 +140,7 @@ pub fn backed_up(s: State, page: u32, slot: u32, lsn: u32) -> State
         durable: s.durable,
         pending: s.pending,
         notes: s.notes,
-        note: PendingNote::Present(note),
+        note: Some(note),
         frames,
         index,
     }
@@ -158,7 +158,7 @@ pub fn noted(s: State, n: Note) -> State
         durable: s.durable,
         pending: s.pending,
         notes: s.notes + 1,
-        note: PendingNote::Absent,
+        note: None,
         frames,
         index,
     }

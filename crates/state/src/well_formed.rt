@@ -4,19 +4,19 @@ ghost use Rattle.std.specs.Prelude.{◌≡◌, ◌+◌, ◌<◌, ltb};
 ghost use Rattle.model.specs.State.{holder_from, pending_note_fits, entry_zero, well_formed};
 ghost use Rattle.state.specs.Clauses.{first_in, sole_in, frame_clauses, row_clauses};
 ghost use Rattle.state.specs.Clauses.{entry_clauses, settled_clauses, page_clauses, count_clauses};
-ghost use Rattle.model.specs.declared.state.PendingNote.TheVariants.{Present};
+ghost use Rattle.model.specs.Types.{Some};
 
 use crate::frames;
 use codec::number::u16_u32;
 use item::note;
 use model::geometry::Geometry;
 use model::item::Note;
-use model::state::{Entry, Frame, PendingNote, State};
+use model::state::{Entry, Frame, State};
 use volume::{ring, rows};
 
 // The note may be the pending one beside these counts.
 fn note_fits(g: Geometry, notes: u32, durable: u32, n: Note) -> bool
-    ensures { result ≡ pending_note_fits g notes durable (Present n) }
+    ensures { result ≡ pending_note_fits g notes durable (Some n) }
 {
     let most = ring::most_notes(g);
     let layout = note::layout(n);
@@ -27,12 +27,12 @@ fn note_fits(g: Geometry, notes: u32, durable: u32, n: Note) -> bool
 }
 
 // There is no pending note, or it may be one.
-fn pending_fits(g: Geometry, notes: u32, durable: u32, p: PendingNote) -> bool
+fn pending_fits(g: Geometry, notes: u32, durable: u32, p: Option<Note>) -> bool
     ensures { result ≡ pending_note_fits g notes durable p }
 {
     match p {
-        PendingNote::Absent => true,
-        PendingNote::Present(n) => note_fits(g, notes, durable, n),
+        None => true,
+        Some(n) => note_fits(g, notes, durable, n),
     }
 }
 
@@ -138,7 +138,7 @@ fn page_fits(
 }
 
 // The counts and the pending note are as they may be.
-fn counts_fit(g: Geometry, durable: u32, pending: u32, notes: u32, p: PendingNote) -> bool
+fn counts_fit(g: Geometry, durable: u32, pending: u32, notes: u32, p: Option<Note>) -> bool
     ensures { result ≡ count_clauses g durable pending notes p }
 {
     let most = ring::most(g);

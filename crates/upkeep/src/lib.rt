@@ -15,7 +15,7 @@ ghost use Rattle.upkeep.specs.Parts.{ring_advice};
 
 use model::command::Command;
 use model::geometry::Geometry;
-use model::state::{PendingNote, State};
+use model::state::State;
 use upkeep_policy::upkeep::Advised;
 use volume::{heading, memory, ring, rows};
 
@@ -65,8 +65,8 @@ fn policy(s: State, volume: &[u8], memory: &[u8], g: Geometry, frame: u32) -> Ad
 {
     let pending = s.note;
     match pending {
-        PendingNote::Present(_) => return answer::make(Command::Note),
-        PendingNote::Absent => {}
+        Some(_) => return answer::make(Command::Note),
+        None => {}
     }
     if 0 < s.pending {
         return answer::make(Command::Force);
