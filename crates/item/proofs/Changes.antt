@@ -1,11 +1,12 @@
 -- Laws of a change: what it needs of the payload and the body, and what the bytes that the code moves and puts come to.
 use Prim.Native.Nat.{ℕ, ◌+◌, ◌-◌, ◌≤◌}
 use mathlib.Core.Path.{◌≡◌, refl, ap, subst, ◌∙◌}
-use mathlib.Core.List.{List, ◌++◌}
+use mathlib.Core.List.{List, [], ◌++◌, append-nil}
 use mathlib.Core.Bool.{Bool, true, false, ◌&&◌}
 use native.Mathlib.Omega.{arith}
 use lib.Dec.{leb, eqb, lit≤}
-use lib.ListN.{length, take, drop, replicate}
+use lib.ListN.{length, take, drop, replicate, drop_of_length-le}
+use Rattle.std.specs.List.{copy_within}
 use lib.Seq.{take-append-le, drop_at, take-take, length-take-le}
 use Rattle.laws.proofs.Tables.{by_cases, true-not-false}
 use Rattle.laws.proofs.Changes.{fits-facts}
@@ -35,6 +36,14 @@ module _ (c : Change) (p b : List ℕ) (h : (fits c ≡ true) × (length_of c �
   slide-ready at n e = subst (λ (d : Change). Ready (offset_of d) (length_of d) p b) e ready
 
 -- ---- what the code makes of a body
+
+-- the bytes from a place on moved up by n
+pub moved-up : (at n : ℕ) (b s : List ℕ) → at + n ≤ 244 → length b ≡ 244 → s ≡ copy_within b at (244 - n) (at + n)
+    → s ≡ take (at + n) b ++ take (length b - (at + n)) (drop at b)
+moved-up at n b s room l es =
+    let e : 244 - n - at ≡ length b - (at + n) = omega arith in
+    let z : drop (at + n + (length b - (at + n))) b ≡ [] = drop_of_length-le b (omega arith) in
+    es ∙ rw (e, z, append-nil)
 
 module _ (c : Change) (p b x : List ℕ) where
   pub format-is : (f : ℕ) → c ≡ Format f → length b ≡ 244 → x ≡ replicate (length b) f → x ≡ apply_change c p b

@@ -1,4 +1,3 @@
-pub mod Slides
 pub mod Rules
 pub mod Changes
 pub mod Records

@@ -1,48 +1,23 @@
--- The rule of a change, kind by kind, as the code's cases meet it: each `&&` of the code is a branch and a join.
-use Prim.Native.Nat.{ℕ, ◌-◌, ◌≤◌, ◌<◌}
-use mathlib.Core.Path.{◌≡◌, refl, sym, ap, ◌∙◌}
+-- The rule of a change, kind by kind, as the code's cases meet it.
+use Prim.Native.Nat.{ℕ, ◌-◌, ◌≤◌}
+use mathlib.Core.Path.{◌≡◌, refl}
 use mathlib.Core.Logic.{◌⊎◌, inl, inr}
-use mathlib.Core.Bool.{Bool, true, false, ◌&&◌, and_assoc}
+use mathlib.Core.Bool.{false, ◌&&◌}
+use native.Mathlib.Omega.{arith}
+use native.Mathlib.Decide.{ℕ_discrete}
 use lib.Dec.{leb, eqb}
-use borrow.Author.Tests.{ne_eqb, lt-leb}
-use Rattle.laws.proofs.Tables.{and-fails}
-use Rattle.model.specs.Tables.{within}
+use borrow.Author.Tests.{ne_eqb}
 use Rattle.model.specs.Change.{change_fits}
 
--- what a branch on a gives of `a && b`: b where it is taken, else a itself
-pub taken_is : (a b r : Bool) → a ≡ true → r ≡ b → r ≡ (a && b)
-taken_is a b r e h = rw e h
+-- a put or a slide
+pub put-or-slide : (k : ℕ) → 2 ≤ k → k ≤ 3 → (k ≡ 2) ⊎ (k ≡ 3)
+put-or-slide k low high = elim (ℕ_discrete k 2) [ yes e ↦ inl e | no z ↦ inr (omega (arith, z)) ]
 
-pub left_is : (a b r : Bool) → a ≡ false → r ≡ a → r ≡ (a && b)
-left_is a b r e h = rw e (h ∙ e)
-
--- a length that one of its two tests refuses
-pub outside : (n : ℕ) → (((1 ≤ n) × (44 < n)) ⊎ (n < 1)) → within 44 n ≡ false
-outside n (inl e) = and-fails (leb 1 n) (lt-leb n 44 e.1)
-outside n (inr e) = rw (lt-leb 1 n e) refl
-
--- a format
-module _ (k n o f : ℕ) (one : k ≡ 1) where
-  pub format-fits : n ≡ 0 → eqb o 0 ≡ change_fits k n o f
-  unfolding change_fits
-  format-fits e = rw (one, e) refl
-
-  pub format-unfit : (n ≡ 0 → ⊥) → eqb n 0 ≡ change_fits k n o f
-  unfolding change_fits
-  format-unfit e = rw (one, ne_eqb n 0 e) refl
-
--- a put or a slide, and what the code has joined of its length and offset
-module _ (k n o f : ℕ) (kind : (k ≡ 2) ⊎ (k ≡ 3)) (r : Bool) (joined : r ≡ (within 44 n && leb o (244 - n))) where
-  ranged-is : (k ≡ 2) ⊎ (k ≡ 3) → (r && eqb f 0) ≡ change_fits k n o f
-  unfolding change_fits
-  ranged-is (inl e) = rw (e, joined) (and_assoc (within 44 n) (leb o (244 - n)) (eqb f 0))
-  ranged-is (inr e) = rw (e, joined) (and_assoc (within 44 n) (leb o (244 - n)) (eqb f 0))
-
-  pub ranged-fits : r ≡ true → eqb f 0 ≡ change_fits k n o f
-  ranged-fits t = ap (λ (b : Bool). b && eqb f 0) (sym t) ∙ ranged-is kind
-
-  pub ranged-unfit : r ≡ false → r ≡ change_fits k n o f
-  ranged-unfit t = t ∙ (ap (λ (b : Bool). b && eqb f 0) (sym t) ∙ ranged-is kind)
+pub ranged-is : (k n o f : ℕ) → (k ≡ 2) ⊎ (k ≡ 3)
+    → ((leb 1 n && leb n 44) && (leb o (244 - n) && eqb f 0)) ≡ change_fits k n o f
+unfolding change_fits
+ranged-is k n o f (inl e) = rw e
+ranged-is k n o f (inr e) = rw e
 
 -- no other kind
 pub no_kind : (k n o f : ℕ) → (k ≡ 1 → ⊥) → (k ≡ 2 → ⊥) → (k ≡ 3 → ⊥) → false ≡ change_fits k n o f

@@ -1,18 +1,18 @@
 -- Laws of a record's layout by words: the fields in a word of four bytes, the rule by the word of offset, fill and byte 15.
 use mathlib.Core.Path.{◌≡◌, refl, sym, ◌∙◌}
-use mathlib.Core.Bool.{Bool, true, false, ◌&&◌, and_assoc, and-false}
-use mathlib.Core.Logic.{◌⊎◌, inl, inr}
+use mathlib.Core.Bool.{Bool, true, false, ◌&&◌, and_assoc}
+use mathlib.Core.Logic.{◌⊎◌}
 use mathlib.Core.List.{List}
 use Prim.Native.Nat.{ℕ, ◌+◌, ◌-◌, ◌*◌, ◌/◌, ◌%◌, ◌≤◌, ◌<◌}
 use native.Mathlib.Omega.{arith}
 use lib.Dec.{eqb, leb}
 use lib.ListN.{get_or}
-use borrow.Author.Tests.{eqb-true, eq-eqb, ne_eqb, leb-true, leb-false, le-leb, lt-leb}
+use borrow.Author.Tests.{eqb-true, eq-eqb, ne_eqb, leb-true, leb-false, le-leb}
 use Rattle.codec.proofs.Stores.{field-two}
 use Rattle.laws.proofs.Changes.{fits-facts}
 use Rattle.laws.proofs.Fields.{field-add}
-use Rattle.laws.proofs.Tables.{and_left, by_cases, within-holds}
-use Rattle.item.proofs.Rules.{no_kind}
+use Rattle.laws.proofs.Tables.{and_left, by_cases}
+use Rattle.item.proofs.Rules.{no_kind, ranged-is}
 use Rattle.model.specs.Bytes.{Octets, field, byte_at, part, all_zero}
 use Rattle.model.specs.Change.{change_fits}
 use Rattle.model.specs.Item.{record_of, record_layout}
@@ -55,27 +55,13 @@ module _ (k n w : ℕ) where
   pub ruled-none : (k ≡ 1 → ⊥) → (k ≡ 2 → ⊥) → (k ≡ 3 → ⊥) → false ≡ ruled_by k n w
   ruled-none a b c = rw (← no_kind k n (w % 65536) (w / 65536 % 256) a b c)
 
-  -- no length of a put or a slide
-  unsized : (k ≡ 1 → ⊥) → within 44 n ≡ false → false ≡ ruled_by k n w
-  unfolding change_fits
-  unsized a h =
-      let one : eqb k 1 ≡ false = ne_eqb k 1 a in
-      by_cases (eqb k 2) (λ t. rw (one, t, h)) (λ t. by_cases (eqb k 3) (λ u. rw (one, t, u, h)) (λ u. rw (one, t, u)))
-
-  pub ruled-short : (k ≡ 1 → ⊥) → n ≡ 0 → false ≡ ruled_by k n w
-  ruled-short a e = unsized a (rw e)
-
-  pub ruled-long : (k ≡ 1 → ⊥) → 44 < n → false ≡ ruled_by k n w
-  ruled-long a h = unsized a (rw (lt-leb n 44 h) (and-false (leb 1 n)))
-
-  pub ruled-ranged : (k ≡ 2) ⊎ (k ≡ 3) → 1 ≤ n → n ≤ 44 → leb w (244 - n) ≡ ruled_by k n w
-  unfolding change_fits
-  ruled-ranged (inl e) a b =
-      rw (e, within-holds 44 n a b)
-      (one-test w (244 - n) (omega arith) ∙ sym (and_assoc (leb (w % 65536) (244 - n)) (eqb (w / 65536 % 256) 0) (eqb (w / 16777216) 0)))
-  ruled-ranged (inr e) a b =
-      rw (e, within-holds 44 n a b)
-      (one-test w (244 - n) (omega arith) ∙ sym (and_assoc (leb (w % 65536) (244 - n)) (eqb (w / 65536 % 256) 0) (eqb (w / 16777216) 0)))
+  pub ruled-ranged : (k ≡ 2) ⊎ (k ≡ 3) → ((leb 1 n && leb n 44) && leb w (244 - n)) ≡ ruled_by k n w
+  ruled-ranged kind =
+      rw (← ranged-is k n (w % 65536) (w / 65536 % 256) kind)
+      (by_cases (within 44 n)
+      (λ t. rw t (one-test w (244 - n) (omega arith)
+      ∙ sym (and_assoc (leb (w % 65536) (244 - n)) (eqb (w / 65536 % 256) 0) (eqb (w / 16777216) 0))))
+      (λ t. rw t))
 
   -- at most 44 bytes
   pub ruled-length : ruled_by k n w ≡ true → n ≤ 44
@@ -123,8 +109,3 @@ module _ (r : List ℕ) (v w : ℕ) (b : Bool) (j : Judged r v w b) where
   -- the payload past the length
   pub words-padded : (p : Bool) → b ≡ true → p ≡ all_zero (part r (16 + v / 16777216) (44 - v / 16777216)) → p ≡ record_layout r
   words-padded p h ep = let e = joined p ep in rw h at e
-
-  -- there is none
-  pub words-whole : b ≡ true → v / 16777216 ≡ 44 → true ≡ record_layout r
-  unfolding part all_zero
-  words-whole h e = words-padded true h (rw e)

@@ -1,20 +1,42 @@
 // A change of a page's body: its kind's rule, and the change made in place.
-ghost use Rattle.std.specs.Prelude.{◌≡◌, true, ◌++◌, ◌+◌, ◌-◌, ◌≤◌, length, take, drop};
-ghost use Rattle.model.specs.Change.{change_fits, fits, length_of, apply_change};
+ghost use Rattle.std.specs.Prelude.{◌≡◌, true, ◌≤◌, length};
+ghost use Rattle.model.specs.Change.{change_fits, fits, kind_of, length_of, offset_of, fill_of, apply_change};
 
 use codec::part;
 use model::change::Change;
 
-// The rule, one case for each kind, and in it the tests in the layout's order: length, offset, fill. What is left
-// behind the length is taken only where the length is at most 44.
+// The kinds of change, by the numbers that a record names them with.
+pub const FORMAT: u32 = 1;
+
+pub const PUT: u32 = 2;
+
+pub const SLIDE: u32 = 3;
+
+// The rule, and in it the tests in the layout's order: length, offset, fill.
 pub fn fits(kind: u32, length: u32, offset: u32, fill: u32) -> bool
     ensures { result ≡ change_fits kind length offset fill }
 {
     match kind {
-        1 => length == 0 && offset == 0,
-        2 => 1 <= length && length <= 44 && offset <= 244 - length && fill == 0,
-        3 => 1 <= length && length <= 44 && offset <= 244 - length && fill == 0,
+        FORMAT => (length == 0) & (offset == 0),
+        PUT | SLIDE => {
+            let room = 244u32.saturating_sub(length);
+            ((1 <= length) & (length <= 44)) & ((offset <= room) & (fill == 0))
+        }
         _ => false,
+    }
+}
+
+// A change's kind, length, offset and fill, as a record stores them.
+pub(crate) fn numbers(c: Change) -> (u8, u8, u16, u8)
+    ensures { (result.0 ≡ kind_of c)
+        × (result.1 ≡ length_of c)
+        × (result.2 ≡ offset_of c)
+        × (result.3 ≡ fill_of c) }
+{
+    match c {
+        Change::Format { fill } => (FORMAT as u8, 0, 0, fill),
+        Change::Put { offset, length } => (PUT as u8, length, offset, 0),
+        Change::Slide { offset, length } => (SLIDE as u8, length, offset, 0),
     }
 }
 
@@ -22,25 +44,13 @@ pub fn fits(kind: u32, length: u32, offset: u32, fill: u32) -> bool
 pub fn obeys(c: Change) -> bool
     ensures { result ≡ fits c }
 {
-    match c {
-        Change::Format { fill } => fits(1, 0, 0, fill as u32),
-        Change::Put { offset, length } => fits(2, length as u32, offset as u32, 0),
-        Change::Slide { offset, length } => fits(3, length as u32, offset as u32, 0),
-    }
-}
-
-// Moves the bytes from a place on up by n, the last one first; the last n drop off.
-fn raise(s: &mut [u8], at: usize, n: usize)
-    requires { at + n ≤ length s.old }
-    ensures { s.new
-        ≡ take (at + n) s.old ++ take (length s.old - (at + n)) (drop at s.old) }
-{
-    let mut i = s.len();
-    while at + n < i {
-        let k = i - 1;
-        s[k] = s[k - n];
-        i = k;
-    }
+    let (kind, length, offset, fill) = numbers(c);
+    fits(
+        u32::from(kind),
+        u32::from(length),
+        u32::from(offset),
+        u32::from(fill),
+    )
 }
 
 // Makes a change on a body, with the bytes that a put or a slide brings at the front of the payload.
@@ -49,15 +59,16 @@ pub fn apply(c: Change, payload: &[u8], body: &mut [u8])
     ensures { body.new ≡ apply_change c payload.now body.old }
 {
     match c {
-        Change::Format { fill } => part::fill(body, fill),
+        Change::Format { fill } => body.fill(fill),
         Change::Put { offset, length } => {
-            let n = length as usize;
-            part::put(body, offset as usize, &payload[0..n])
+            let n = usize::from(length);
+            part::put(body, usize::from(offset), &payload[0..n])
         }
         Change::Slide { offset, length } => {
-            let n = length as usize;
-            raise(body, offset as usize, n);
-            part::put(body, offset as usize, &payload[0..n])
+            let at = usize::from(offset);
+            let n = usize::from(length);
+            body.copy_within(at..244 - n, at + n);
+            part::put(body, at, &payload[0..n])
         }
     }
 }

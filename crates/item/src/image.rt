@@ -5,7 +5,7 @@ ghost use Rattle.model.specs.Bytes.{part};
 ghost use Rattle.model.specs.Checksum.{seal_image, image_sealed};
 ghost use Rattle.model.specs.Item.{image_lsn, valid_image, frame_image};
 
-use codec::{field, part};
+use codec::field;
 use model::geometry::{FIRST_TAG, Geometry, SECOND_TAG};
 use sums::{byte_sum, checksum};
 
@@ -33,7 +33,7 @@ fn sealed(g: Geometry, x: &[u8]) -> bool
 pub fn valid(g: Geometry, p: u32, x: &[u8]) -> bool
     ensures { result ≡ valid_image g p x.now }
 {
-    let page = field::u16_at(x, 0) as u32;
+    let page = u32::from(field::u16_at(x, 0));
     let zero = field::u16_at(x, 2);
     sealed(g, x) & ((page == p) & (zero == 0))
 }
@@ -66,6 +66,6 @@ pub fn store(dst: &mut [u8], frame: &[u8], g: Geometry)
     requires { (length dst.old ≡ 256) × (length frame.now ≡ 256) }
     ensures { dst.new ≡ seal_image g frame.now }
 {
-    part::copy(dst, frame);
+    dst.copy_from_slice(frame);
     seal(dst, g);
 }

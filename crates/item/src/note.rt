@@ -6,6 +6,11 @@ use codec::field;
 use model::item::Note;
 use sums::checksum;
 
+// The kinds of note, by the numbers that they are stored with.
+pub const WRITTEN: u8 = 1;
+
+pub const BACKED_UP: u8 = 2;
+
 // Reads a note's fields.
 pub fn read(r: &[u8]) -> Note
     ensures { result ≡ note_of r.now }
@@ -19,11 +24,11 @@ pub fn read(r: &[u8]) -> Note
     }
 }
 
-// Kind 1, written, names no slot; kind 2 is backed up.
+// A note that a page is written names no slot.
 pub fn layout(n: Note) -> bool
     ensures { result ≡ note_layout n }
 {
-    ((n.kind == 1) & (n.slot == 0)) | (n.kind == 2)
+    ((n.kind == WRITTEN) & (n.slot == 0)) | (n.kind == BACKED_UP)
 }
 
 // Builds a note, its checksum set.

@@ -5,11 +5,14 @@ ghost use Rattle.model.specs.Bytes.{part, all_zero, splice};
 ghost use Rattle.model.specs.Change.{fits, change_fits};
 ghost use Rattle.model.specs.Item.{record_of, record_layout, change_in, apply_record, record_for, padded, encode_change};
 
-use crate::change;
+use crate::change::{self, FORMAT, PUT, SLIDE};
 use codec::{field, part};
 use model::change::Change;
 use model::item::LogRecord;
 use sums::checksum;
+
+// A record has this many bytes of payload.
+const PAYLOAD: usize = 44;
 
 // Reads a record's fields.
 pub fn read(r: &[u8]) -> LogRecord
@@ -26,16 +29,26 @@ pub fn read(r: &[u8]) -> LogRecord
     }
 }
 
-// The payload past n bytes is zero.
+// The payload past n bytes is zero: eight bytes a turn, and the last eight, some of which may have been read before. No
+// `for` over places: a turn takes eight.
 fn padding(r: &[u8], n: usize) -> bool
     requires { 60 ≤ length r.now }
     ensures { result ≡ all_zero (part r.now (16 + n) (44 - n)) }
 {
-    if 44 <= n {
+    if PAYLOAD <= n {
         return true;
     }
-    let rest = 16 + n;
-    part::zero(&r[rest..60])
+    let mut i = 16 + n;
+    if 52 < i {
+        return part::zero(&r[i..60]);
+    }
+    while i < 52 {
+        if field::eight(r, i) != 0 {
+            return false;
+        }
+        i += 8;
+    }
+    field::eight(r, 52) == 0
 }
 
 // The layout: the kind's rule, byte 15 and the payload past the length. The test never holds: by it the compiler knows
@@ -49,27 +62,30 @@ pub fn layout(r: &[u8]) -> bool
     }
     let e = read(r);
     let obeys = change::fits(
-        e.kind as u32,
-        e.length as u32,
-        e.offset as u32,
-        e.fill as u32,
+        u32::from(e.kind),
+        u32::from(e.length),
+        u32::from(e.offset),
+        u32::from(e.fill),
     );
-    obeys & ((field::byte(r, 15) == 0) & padding(r, e.length as usize))
+    obeys & ((field::byte(r, 15) == 0) & padding(r, usize::from(e.length)))
 }
 
 // The change that a record holds. Its kind is 1 to 3 wherever it is asked.
 fn held(e: LogRecord) -> Change
     ensures { result ≡ change_in e }
 {
-    let offset = e.offset;
-    let length = e.length;
-    if e.kind == 1 {
-        return Change::Format { fill: e.fill };
+    let LogRecord {
+        kind,
+        length,
+        offset,
+        fill,
+        ..
+    } = e;
+    match u32::from(kind) {
+        FORMAT => Change::Format { fill },
+        PUT => Change::Put { offset, length },
+        _ => Change::Slide { offset, length },
     }
-    if e.kind == 2 {
-        return Change::Put { offset, length };
-    }
-    Change::Slide { offset, length }
 }
 
 // Makes a record's change on a body.
@@ -86,35 +102,15 @@ fn describe(lsn: u32, prev: u32, page: u32, c: Change) -> LogRecord
     requires { page < 65536 }
     ensures { result ≡ record_for lsn prev page c }
 {
-    let page = page as u16;
-    match c {
-        Change::Format { fill } => LogRecord {
-            lsn,
-            prev,
-            page,
-            kind: 1,
-            length: 0,
-            offset: 0,
-            fill,
-        },
-        Change::Put { offset, length } => LogRecord {
-            lsn,
-            prev,
-            page,
-            kind: 2,
-            length,
-            offset,
-            fill: 0,
-        },
-        Change::Slide { offset, length } => LogRecord {
-            lsn,
-            prev,
-            page,
-            kind: 3,
-            length,
-            offset,
-            fill: 0,
-        },
+    let (kind, length, offset, fill) = change::numbers(c);
+    LogRecord {
+        lsn,
+        prev,
+        page: page as u16,
+        kind,
+        length,
+        offset,
+        fill,
     }
 }
 
@@ -138,9 +134,8 @@ fn pad(dst: &mut [u8], payload: [u8; 44], n: usize)
     requires { (length dst.old ≡ 64) × (n ≤ 44) }
     ensures { dst.new ≡ splice dst.old 16 (padded n payload) }
 {
-    let from = 16 + n;
     part::put(dst, 16, &payload[0..n]);
-    part::fill(&mut dst[from..60], 0);
+    dst[16 + n..60].fill(0);
 }
 
 // Builds the record of a change, its checksum set. What the payload holds past the change's length is not stored.
@@ -149,43 +144,10 @@ pub fn encode(dst: &mut [u8], lsn: u32, prev: u32, page: u32, c: Change, payload
     ensures { dst.new ≡ encode_change lsn prev page c payload }
 {
     let e = describe(lsn, prev, page, c);
-    let n = e.length as usize;
+    let n = usize::from(e.length);
     fields(dst, e);
     pad(dst, payload, n);
     checksum::set(dst, 60);
-}
-
-// The bytes from a place to 60 are zero, looked at one by one.
-fn short(r: &[u8], from: usize) -> bool
-    requires { (length r.now ≡ 64) × (from ≤ 60) }
-    ensures { result ≡ all_zero (part r.now from (60 - from)) }
-{
-    let mut i = from;
-    while i < 60 {
-        if r[i] != 0 {
-            return false;
-        }
-        i += 1;
-    }
-    true
-}
-
-// The payload past n bytes is zero: eight bytes a turn, and the last eight, some of which may have been read before.
-fn tail(r: &[u8], n: usize) -> bool
-    requires { (length r.now ≡ 64) × (n ≤ 44) }
-    ensures { result ≡ all_zero (part r.now (16 + n) (44 - n)) }
-{
-    let mut i = 16 + n;
-    if 52 < i {
-        return short(r, i);
-    }
-    while i < 52 {
-        if field::eight(r, i) != 0 {
-            return false;
-        }
-        i += 8;
-    }
-    field::eight(r, 52) == 0
 }
 
 // The kind's rule and byte 15, by the number in bytes 12 to 15: offset, fill and byte 15. Of a put and a slide one test
@@ -193,16 +155,14 @@ fn tail(r: &[u8], n: usize) -> bool
 fn ruled(kind: u32, length: u32, word: u32) -> bool
     ensures { result ≡ (change_fits kind length (word % 65536) (word / 65536 % 256) && eqb (word / 16777216) 0) }
 {
-    if kind == 1 {
-        return (length == 0) & ((word % 65536 == 0) & (word / 16777216 == 0));
+    match kind {
+        FORMAT => (length == 0) & ((word % 65536 == 0) & (word / 16777216 == 0)),
+        PUT | SLIDE => {
+            let room = 244u32.saturating_sub(length);
+            ((1 <= length) & (length <= 44)) & (word <= room)
+        }
+        _ => false,
     }
-    if (kind != 2) & (kind != 3) {
-        return false;
-    }
-    if (length == 0) | (44 < length) {
-        return false;
-    }
-    word <= 244 - length
 }
 
 // The layout by words, for the one pass over a log: a function of its own, so that the compiler expands it there.
@@ -213,11 +173,5 @@ pub fn laid_out(r: &[u8]) -> bool
     let v = field::four(r, 8);
     let word = field::four(r, 12);
     let length = v / 16777216;
-    if !ruled(v / 65536 % 256, length, word) {
-        return false;
-    }
-    if length == 44 {
-        return true;
-    }
-    tail(r, length as usize)
+    ruled(v / 65536 % 256, length, word) && padding(r, length as usize)
 }

@@ -1,23 +1,30 @@
 -- A section's counts, starts and ends are those that the scan's definitions ask for, of the log.
-use mathlib.Core.Path.{◌≡◌, sym, ap, ◌∙◌}
+use mathlib.Core.Path.{◌≡◌, sym, ap, ◌∙◌, subst}
 use mathlib.Core.Bool.{true}
 use mathlib.Core.List.{List}
 use Prim.Native.Nat.{ℕ, suc, ◌+◌, ◌-◌, ◌*◌, ◌%◌, ◌≤◌, ◌<◌}
 use native.Mathlib.Nat.{mod-lt}
 use native.Mathlib.Omega.{arith}
 use lib.ListN.{length}
-use Rattle.laws.proofs.Places.{place-fits, item-length}
+use Rattle.laws.proofs.Places.{place-fits, item-length, valid-facts}
 use Rattle.laws.proofs.Checksums.{run-sealed}
 use Rattle.model.specs.Bytes.{part}
 use Rattle.model.specs.Checksum.{sealed}
-use Rattle.model.specs.Geometry.{ring, record_at, start, item, log_slot, slot_of}
+use Rattle.model.specs.Geometry.{ring, record_at, start, item, log_slot, slot_of, geometry_of, valid_volume}
 use Rattle.model.specs.Scan.{count_in, first_in, log_slots, durable_count, first_held}
 use Rattle.model.specs.Scan as scan
 use Rattle.model.specs.declared.geometry.Geometry.{Geometry}
 use Rattle.log_scan.specs.LogSection.{Sized, log_section, log_run}
 use Rattle.section.specs.Section.{Placed, slot_bytes, slots_in, front_in, run_in}
-use Rattle.section.specs.declared.Section.{Section}
+use Rattle.section.specs.declared.Extent.{Extent}
 use Rattle.section.specs.declared.Run.{Run}
+
+-- the counts and the length of a valid volume
+pub sized : (g : Geometry) (v : List ℕ) → valid_volume v ≡ true → g ≡ geometry_of v → Sized g v
+sized g v valid read =
+    let f = valid-facts v valid in
+    subst (λ (k : Geometry). Sized k v) (sym read)
+    (record { pages = f.p-high; slots = f.b-high; some = f.l-low; records = f.l-high; notes = f.n-high; size = f.size })
 
 module _ (g : Geometry) (v : List ℕ) where
   pub record-slot : (i : ℕ) → slot_bytes v (log_section g) i ≡ item g v (record_at (suc i))
@@ -25,9 +32,9 @@ module _ (g : Geometry) (v : List ℕ) where
   record-slot i = let e : start g (record_at 1) + (60 + 4) * i ≡ start g (record_at (suc i)) = omega arith in ap (λ (k : ℕ). part v k 64) e
 
   -- the slot of number n, as a run's scan comes to it
-  module _ (s : Section) (n slot : ℕ) (r : List ℕ) (er : r ≡ slot_bytes v s slot) where
+  module _ (s : Extent) (n slot : ℕ) (r : List ℕ) (er : r ≡ slot_bytes v s slot) where
     pub record-here : s ≡ log_section g → slot ≡ (n - 1) % g.records → r ≡ item g v (log_slot g n)
-    record-here es e = er ∙ ap (λ (x : Section). slot_bytes v x slot) es ∙ ap (slot_bytes v (log_section g)) e
+    record-here es e = er ∙ ap (λ (x : Extent). slot_bytes v x slot) es ∙ ap (slot_bytes v (log_section g)) e
         ∙ record-slot ((n - 1) % g.records)
 
   -- the code's section is the definitions'
@@ -49,7 +56,7 @@ module _ (g : Geometry) (v : List ℕ) where
   run_of : scan.Section → ℕ → Run
   run_of x front = record { first = first_in x (count_in v x); count = count_in v x; front = front }
 
-  pub log-run : (s : Section) → s ≡ log_section g → (r : Run) → r ≡ run_in v s → r ≡ log_run g v
+  pub log-run : (s : Extent) → s ≡ log_section g → (r : Run) → r ≡ run_in v s → r ≡ log_run g v
   unfolding run_of durable_count first_held
   log-run s es r er = er ∙ ap (run_in v) es ∙ ap (λ (x : scan.Section). run_of x (front_in v (log_section g))) log-section
 

@@ -20,7 +20,7 @@ use Rattle.log_scan.specs.Rows.{row_of, lasts}
 use Rattle.log_scan.specs.LogSection.{log_section, log_run, record_follows}
 use Rattle.section.specs.Section.{slots_in, front_in}
 use Rattle.section.specs.declared.Run.{Run}
-use Rattle.section.specs.declared.Section.{Section}
+use Rattle.section.specs.declared.Extent.{Extent}
 use Rattle.log_scan.proofs.RowLaws.{column-set, log-none, row_is}
 use Rattle.log_scan.proofs.Located.{record-known, log-section}
 use Rattle.log_scan.proofs.Conjunctions.{guarded}
@@ -71,10 +71,10 @@ module _ (g : Geometry) (v : List ℕ) where
 
     -- all fit
     pub log-ends : (i : ℕ) (last : List ℕ) → Judged r.first i last → i ≡ suc r.count - r.first
-        → (s : Section) → s ≡ log_section g → (b : Bool)
+        → (s : Extent) → s ≡ log_section g → (b : Bool)
         → b ≡ ends_in v (slots_in v s) r.first r.count → b ≡ valid_log g v
     log-ends i last j ei s es b eb =
-        eb ∙ ap (λ (x : Section). ends_in v (slots_in v x) r.first r.count) es
+        eb ∙ ap (λ (x : Extent). ends_in v (slots_in v x) r.first r.count) es
         ∙ subst (λ (x : Run). every (suc x.count - x.first)
         (λ k. record_fits g v x.first (log_index g v x.first k) (x.first + k)) ≡ true
         → ends_in v (slots_in v (log_section g)) x.first x.count ≡ valid_log g v) (sym er) ends (rw ei at j.held)

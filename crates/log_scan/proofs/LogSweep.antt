@@ -79,16 +79,18 @@ module _ (r : List ℕ) (b : Bytes r) (x : ℕ) (ex : x ≡ field 4 8 r) where
   unfolding record_of
   kind-is = omega (arith, field-add 2 2 8 r, field_below 2 8 r b, field-add 1 1 10 r, field-one 10 r, b 10)
 
-  pub follows : (pages below was n : ℕ) → sealed 60 r ≡ true → right_of r n (x % 65536) pages ≡ true
-      → links_to (field 4 4 r) was below (x / 65536 % 256) ≡ true
+-- a record that the pass takes fits
+module _ (r : List ℕ) (page kind : ℕ) (page-read : page ≡ (record_of r).page) (kind-read : kind ≡ (record_of r).kind) where
+  pub follows : (pages below was n : ℕ) → sealed 60 r ≡ true → right_of r n page pages ≡ true
+      → links_to (field 4 4 r) was below kind ≡ true
       → record_follows (sealed 60 r) (record_layout r) (record_of r) pages below was n ≡ true
   unfolding record_of
   follows pages below was n w t l =
-      let h = and_left (eqb (field 4 0 r) n && within pages (x % 65536)) (record_layout r) t in
-      and_both w (and_both (and_right (eqb (field 4 0 r) n && within pages (x % 65536)) (record_layout r) t)
-      (and_both (and_left (eqb (field 4 0 r) n) (within pages (x % 65536)) h)
-      (and_both (ap (within pages) (sym page-is) ∙ and_right (eqb (field 4 0 r) n) (within pages (x % 65536)) h)
-      (ap (links_to (field 4 4 r) was below) (sym kind-is) ∙ l))))
+      let h = and_left (eqb (field 4 0 r) n && within pages page) (record_layout r) t in
+      and_both w (and_both (and_right (eqb (field 4 0 r) n && within pages page) (record_layout r) t)
+      (and_both (and_left (eqb (field 4 0 r) n) (within pages page) h)
+      (and_both (ap (within pages) (sym page-read) ∙ and_right (eqb (field 4 0 r) n) (within pages page) h)
+      (ap (links_to (field 4 4 r) was below) (sym kind-read) ∙ l))))
 
 -- ---- where the pass stands
 
@@ -155,17 +157,16 @@ module _ (g : Geometry) (v : List ℕ) (sized : Sized g v) where
         }
 
     -- one more record
-    module _ (r : List ℕ) (er : r ≡ item g v (log_slot g n)) (b : Bytes r) (x : ℕ) (ex : x ≡ field 4 8 r)
-        (k : ℕ) (ek : k ≡ x % 65536 - 1) (below : ℕ) (below-is : below ≡ f - 1) (some : 1 ≤ f) (left : n < f + g.records) where
-      pub going_on : sealed 60 r ≡ true → right_of r n (x % 65536) g.pages ≡ true
-          → links_to (field 4 4 r) (get_or last k 0) below (x / 65536 % 256) ≡ true
+    module _ (r : List ℕ) (er : r ≡ item g v (log_slot g n)) (page kind : ℕ) (page-read : page ≡ (record_of r).page)
+        (kind-read : kind ≡ (record_of r).kind) (below : ℕ) (below-is : below ≡ f - 1) (some : 1 ≤ f) (left : n < f + g.records) where
+      pub going_on : sealed 60 r ≡ true → right_of r n page g.pages ≡ true
+          → links_to (field 4 4 r) (get_or last (page - 1) 0) below kind ≡ true
           → (at end stop y : ℕ) → at ≡ start g (record_at 1) → end ≡ from + 64 → stop ≡ at + 64 * g.records
-          → (end ≡ stop → y ≡ at) × ((end ≡ stop → ⊥) → y ≡ end) → Going g v f (n + 1) y (set last k n)
+          → (end ≡ stop → y ≡ at) × ((end ≡ stop → ⊥) → y ≡ end) → Going g v f (n + 1) y (set last (page - 1) n)
       going_on sw t l at end stop y ea ee es h =
-          let p = page-is r b x ex in
-          let q : k ≡ row_of (record_of r).page =
-          ek ∙ ap (λ (z : ℕ). z - 1) p
-          ∙ sym (row_is (record_of r).page (omega (arith, right-page r n (x % 65536) g.pages t, sized.pages))) in
+          let q : page - 1 ≡ row_of (record_of r).page =
+          ap (λ (z : ℕ). z - 1) page-read
+          ∙ sym (row_is (record_of r).page (omega (arith, right-page r n page g.pages t, sized.pages))) in
           let z : n + 1 - f ≡ n - f + 1 = omega (arith, w.low) in
           record {
             low = omega (arith, w.low);
@@ -173,7 +174,7 @@ module _ (g : Geometry) (v : List ℕ) (sized : Sized g v) where
             place = next_place (start g (record_at 1)) g.records n from end stop y (omega (arith, w.low)) sized.some w.place ee
                 (omega arith) (rw (sym ea) h);
             judged = rw z (judged-more g v sized.pages f (n - f) last w.judged.same n (omega (arith, w.low)) below below-is r er
-                (record_of r) refl k q (sealed 60 r) (record_layout r)
-                (record_follows (sealed 60 r) (record_layout r) (record_of r) g.pages below (get_or last k 0) n) refl refl refl
-                w.judged (follows r b x ex g.pages below (get_or last k 0) n sw t l));
+                (record_of r) refl (page - 1) q (sealed 60 r) (record_layout r)
+                (record_follows (sealed 60 r) (record_layout r) (record_of r) g.pages below (get_or last (page - 1) 0) n) refl refl refl
+                w.judged (follows r page kind page-read kind-read g.pages below (get_or last (page - 1) 0) n sw t l));
           }

@@ -6,7 +6,7 @@ use Rattle.model.specs.Item.{first_is_format}
 use Rattle.model.specs.Scan.{durable_count, first_held}
 use Rattle.model.specs.declared.{geometry.Geometry.Geometry, item.LogRecord.LogRecord}
 use Rattle.section.specs.Section.{front_in}
-use Rattle.section.specs.declared.Section.{Section}
+use Rattle.section.specs.declared.Extent.{Extent}
 use Rattle.section.specs.declared.Run.{Run}
 
 -- what a valid volume tells of its counts and its length
@@ -18,7 +18,7 @@ pub record Sized (g : Geometry) (v : List ℕ) : Type 0 where
   pub notes : g.notes ≤ 1024
   pub size : length v ≡ length_for g.pages g.slots g.records g.notes
 
-abbrev pub log_section : Geometry → Section
+abbrev pub log_section : Geometry → Extent
 log_section g = record { ring = ring g; at = start g (record_at 1); size = 60; slots = g.records }
 
 abbrev pub log_run : Geometry → List ℕ → Run

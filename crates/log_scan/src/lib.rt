@@ -1,32 +1,38 @@
 // The scan of the log: its records judged one by one, and the last number of each page.
 #![tactic(auto)]
 
-ghost use Rattle.std.specs.Prelude.{◌≡◌, true, length, replicate};
+ghost use Rattle.std.specs.Prelude.{◌≡◌, true, length, replicate, IfSome};
+ghost use Rattle.model.specs.Item.{record_of};
 ghost use Rattle.model.specs.Scan as scans;
 ghost use Rattle.section.specs.Sweep.{Guessed};
 ghost use Rattle.log_scan.specs.LogPassed.{LogPassed, right_of, links_to};
-ghost use Rattle.log_scan.specs.LogSection.{Sized, log_section, log_run, record_follows};
+ghost use Rattle.log_scan.specs.LogSection.{log_section, log_run, record_follows};
 ghost use Rattle.log_scan.specs.LogSwept.{LogSwept};
 ghost use Rattle.log_scan.specs.Rows.{row_of, lasts};
 
 use codec::field;
+use item::change::FORMAT;
 use item::record;
-use model::geometry::Geometry;
 use model::item::LogRecord;
 use section::guess::Guess;
-use section::{Run, Section, guess};
+use section::{Extent, Run, Section, guess};
 use sums::products;
 use volume::{Volume, place, ring};
 
-// Where the log lies.
-fn locate(g: Geometry) -> Section
-    ensures { result ≡ log_section g }
+// The log of a volume.
+fn locate<'a>(v: &Volume<'a>) -> Section<'a>
+    ensures bytes { result.bytes.now ≡ v.now.bytes.now }
+    ensures extent { result.extent ≡ log_section v.now.geometry }
 {
+    let g = v.geometry;
     Section {
-        ring: ring::ring(g),
-        at: place::record_at(g, 1),
-        size: 60,
-        slots: g.records,
+        bytes: v.bytes,
+        extent: Extent {
+            ring: ring::ring(g),
+            at: place::record_at(g, 1),
+            size: 60,
+            slots: g.records,
+        },
     }
 }
 
@@ -34,25 +40,25 @@ fn locate(g: Geometry) -> Section
 pub fn first(v: &Volume<'_>, n: u32) -> u64
     ensures { result ≡ scans.first_held v.now.geometry v.now.bytes.now n }
 {
-    section::first(volume, locate(g), n, 0)
+    locate(v).first(n, 0)
 }
 
 // The numbers that the log holds.
-pub fn run(volume: &[u8], g: Geometry) -> Run
-    requires { Sized g volume.now }
-    ensures { result ≡ log_run g volume.now }
+pub fn run(v: &Volume<'_>) -> Run
+    ensures { result ≡ log_run v.now.geometry v.now.bytes.now }
 {
-    section::held(volume, locate(g))
+    locate(v).held()
 }
 
 // A page's row, counted from 0; row 0 for a page that has none.
 pub fn row(page: u32) -> usize
     ensures { result ≡ row_of page }
 {
-    if page == 0 {
-        return 0;
+    if page <= 64 {
+        page.saturating_sub(1) as usize
+    } else {
+        0
     }
-    if page <= 64 { (page - 1) as usize } else { 0 }
 }
 
 // Record n of a volume with these pages, whole and of a right layout or not, of a page whose last earlier record in the
@@ -60,44 +66,50 @@ pub fn row(page: u32) -> usize
 fn fits(whole: bool, layout: bool, e: LogRecord, pages: u32, below: u64, last: u32, n: u32) -> bool
     ensures { result ≡ record_follows whole layout e pages below last n }
 {
-    let page = e.page as u32;
-    let prev = e.prev as u64;
+    let page = u32::from(e.page);
+    let prev = u64::from(e.prev);
     let inside = (1 <= page) & (page <= pages);
     let earlier = (last == 0) & ((1 <= prev) & (prev <= below));
-    let linked = ((e.prev == last) | earlier) & ((e.kind == 1) | (1 <= e.prev));
+    let linked = ((e.prev == last) | earlier) & ((u32::from(e.kind) == FORMAT) | (1 <= e.prev));
     whole & (layout & ((e.lsn == n) & (inside & linked)))
 }
 
 // Scans the log into the column of last numbers: whether it keeps the restart rule.
-pub fn scan(volume: &[u8], g: Geometry, run: Run, last: &mut [u32]) -> bool
-    requires sized { Sized g volume.now }
-    requires run_value { run ≡ log_run g volume.now }
+pub fn scan(v: &Volume<'_>, run: Run, last: &mut [u32; 64]) -> bool
+    requires run_value { run ≡ log_run v.now.geometry v.now.bytes.now }
     requires last_value { last.old ≡ replicate 64 0 }
-    ensures valid { result ≡ scans.valid_log g volume.now }
-    ensures last { result ≡ true → last.new ≡ lasts (scans.indexed_run g volume.now) }
+    ensures valid { result ≡ scans.valid_log v.now.geometry v.now.bytes.now }
+    ensures last { result ≡ true → last.new ≡ lasts (scans.indexed_run v.now.geometry v.now.bytes.now) }
 {
-    let first = run.first;
-    let front = run.front;
-    let below = first - 1;
+    let below = run.first - 1;
+    let pages = v.geometry.pages;
+    let slots = v.geometry.records;
+    let log = locate(v);
     let span = section::span(run);
-    let s = locate(g);
-    let mut slot = section::start(first, s.slots);
-    let mut i: u32 = 0;
-    while i < span {
-        let n = section::nth(first, i);
-        let r = section::item(volume, s, slot);
+    let mut slot = section::start(run.first, slots);
+    for i in 0..span {
+        let n = section::nth(run.first, i);
+        let r = log.item(slot);
         let e = record::read(r);
-        let k = row(e.page as u32);
+        let k = row(u32::from(e.page));
         let was = last[k];
-        let whole = section::whole(r, 60, slot, front);
-        if !fits(whole, record::layout(r), e, g.pages, below, was, n) {
+        let whole = section::whole(r, 60, slot, run.front);
+        if !fits(whole, record::layout(r), e, pages, below, was, n) {
             return false;
         }
         last[k] = n;
-        slot = section::after(slot, s.slots);
-        i += 1;
+        slot = section::after(slot, slots);
     }
-    section::ends(volume, s, run)
+    log.ends(run)
+}
+
+// The page and the kind of a record, which are in one word.
+fn named(r: &[u8]) -> (u32, u32)
+    requires { length r.now ≡ 64 }
+    ensures { (result.0 ≡ (record_of r.now).page) × (result.1 ≡ (record_of r.now).kind) }
+{
+    let word = field::four(r, 8);
+    (word % 65536, word / 65536 % 256)
 }
 
 // A record has number n, a page in range and a right layout.
@@ -106,10 +118,7 @@ fn right(r: &[u8], n: u32, page: u32, pages: u32) -> bool
     ensures { result ≡ right_of r.now n page pages }
 {
     let here = (field::four(r, 0) == n) & ((1 <= page) & (page <= pages));
-    if !here {
-        return false;
-    }
-    record::laid_out(r)
+    here && record::laid_out(r)
 }
 
 // A record of this kind names its page's last earlier one in the run, or, where there is none, one below the run; and
@@ -120,93 +129,65 @@ fn links(prev: u32, last: u32, below: u32, kind: u32) -> bool
     if prev != last {
         return (last == 0) & ((1 <= prev) & (prev <= below));
     }
-    if prev == 0 {
-        return kind == 1;
-    }
-    true
-}
-
-// What a pass finds: the number at which it stopped, and whether the slot there is not whole, or there is none.
-#[derive(Clone, Copy)]
-pub struct Passed {
-    pub next: u32,
-    pub clean: bool,
-}
-
-fn stopped(next: u32, clean: bool) -> Passed
-    ensures { (result.next ≡ next) × (result.clean ≡ clean) }
-{
-    Passed { next, clean }
+    prev != 0 || kind == FORMAT
 }
 
 // The records from a guessed slot on, each whole, right and of the number that follows, into the column of last
-// numbers: sum and fields in one pass. It goes by place and number: a step takes no product.
-fn pass(volume: &[u8], g: Geometry, u: Guess, last: &mut [u32]) -> Passed
-    requires sized { Sized g volume.now }
-    requires guessed { Guessed (log_section g) u }
+// numbers: sum and fields in one pass. The number at which it stopped, since the slot there is not whole, or there is
+// none; nothing where another test failed. It goes by place and number: a step takes no product.
+fn pass(v: &Volume<'_>, u: Guess, last: &mut [u32; 64]) -> Option<u32>
+    requires guessed { Guessed (log_section v.now.geometry) u }
     requires last_value { last.old ≡ replicate 64 0 }
-    ensures log_passed { result.clean ≡ true → LogPassed g volume.now u.first result.next last.new }
-    ensures wide { length last.new ≡ 64 }
+    ensures { IfSome result (λ next. LogPassed v.now.geometry v.now.bytes.now u.first next last.new) }
 {
-    let s = locate(g);
-    let at = s.at;
-    let stop = at + 64 * (s.slots as usize);
+    let bytes = v.bytes;
+    let g = v.geometry;
+    let at = place::record_at(g, 1);
+    let stop = at + 64 * (g.records as usize);
     let below = u.first - 1;
-    let past = u.first + s.slots;
+    let past = u.first + g.records;
     let mut from = at + 64 * (u.slot as usize);
-    let mut n = u.first;
-    while n < past {
+    for n in u.first..past {
         let end = from + 64;
-        let r = &volume[from..end];
+        let r = &bytes[from..end];
         if !products::record_holds(r) {
-            return stopped(n, true);
+            return Some(n);
         }
-        let v = field::four(r, 8);
-        let page = v % 65536;
+        let (page, kind) = named(r);
         if !right(r, n, page, g.pages) {
-            return stopped(n, false);
+            return None;
         }
         let k = (page - 1) as usize;
-        let was = last[k];
-        if !links(field::four(r, 4), was, below, v / 65536 % 256) {
-            return stopped(n, false);
+        if !links(field::four(r, 4), last[k], below, kind) {
+            return None;
         }
         last[k] = n;
         from = guess::onward(end, at, stop);
-        n += 1;
     }
-    stopped(n, true)
+    Some(past)
 }
 
-// What a sweep finds: the number that it starts with, the one behind its last, and whether these are all that the
-// section holds.
+// What a sweep finds: the number that it starts with, and the one behind its last.
 #[derive(Clone, Copy)]
 pub struct Swept {
     pub first: u32,
     pub next: u32,
-    pub clean: bool,
 }
 
-// Reads the log in one pass into the column of last numbers, from where its run is guessed to start. Where it is not
-// clean nothing is known of the log.
-pub fn sweep(volume: &[u8], g: Geometry, last: &mut [u32]) -> Swept
-    requires sized { Sized g volume.now }
-    requires last_value { last.old ≡ replicate 64 0 }
-    ensures swept { result.clean ≡ true → LogSwept g volume.now result.first result.next last.new }
-    ensures wide { length last.new ≡ 64 }
+// Reads the log in one pass into the column of last numbers, from where its run is guessed to start. Where it gives
+// nothing, nothing is known of the log.
+pub fn sweep(v: &Volume<'_>, last: &mut [u32; 64]) -> Option<Swept>
+    requires { last.old ≡ replicate 64 0 }
+    ensures { IfSome result (λ s. LogSwept v.now.geometry v.now.bytes.now s.first s.next last.new) }
 {
-    let s = locate(g);
-    let u = guess::guess_start(volume, s);
-    let p = pass(volume, g, u, last);
-    let first = u.first;
-    let next = p.next;
-    if !p.clean {
-        return Swept {
-            first,
-            next,
-            clean: false,
-        };
+    let log = locate(v);
+    let u = log.guess_start();
+    let next = pass(v, u, last)?;
+    if !log.closed(u.first, next - u.first) {
+        return None;
     }
-    let clean = guess::closed(volume, s, first, next - first);
-    Swept { first, next, clean }
+    Some(Swept {
+        first: u.first,
+        next,
+    })
 }

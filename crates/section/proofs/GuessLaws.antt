@@ -9,14 +9,14 @@ use lib.Dec.{eqb, leb, ltb}
 use borrow.Author.Tests.{eq-eqb, ne_eqb, eqb-false, leb-false, le-ltb, not-false}
 use Rattle.laws.proofs.Tables.{true-not-false, or-neither}
 use Rattle.model.specs.Scan.{rest_zero}
-use Rattle.section.specs.declared.Section.{Section}
+use Rattle.section.specs.declared.Extent.{Extent}
 use Rattle.section.specs.declared.guess.Guess.{Guess}
 use Rattle.section.specs.Sweep.{Guessed, closed_of}
 
 -- ---- the guess
 
 -- slot 0 and number 1
-pub guess-none : (s : Section) → Guessed s (record { slot = 0; first = 1 })
+pub guess-none : (s : Extent) → Guessed s (record { slot = 0; first = 1 })
 guess-none s =
     record {
       some = omega arith;
@@ -28,28 +28,28 @@ guess-none s =
     }
 
 -- a ring with slots, and what the tests on them tell
-pub record Rings (s : Section) : Type 0 where
+pub record Rings (s : Extent) : Type 0 where
   pub ring : s.ring ≡ true
   pub some : 1 ≤ s.slots
 
-pub rings : (s : Section) → (not s.ring || eqb s.slots 0) ≡ false → Rings s
+pub rings : (s : Extent) → (not s.ring || eqb s.slots 0) ≡ false → Rings s
 rings s h =
     let q = or-neither (not s.ring) (eqb s.slots 0) h in
     let n : s.slots ≡ 0 → ⊥ = eqb-false s.slots 0 q.1 in
     record { ring = not-false s.ring q.0; some = omega (arith, n) }
 
 -- a number past the first turn, and one later is no number too large
-pub record Past (s : Section) (top : ℕ) : Type 0 where
+pub record Past (s : Extent) (top : ℕ) : Type 0 where
   pub past : s.slots < top
   pub low : top < 4294960000
 
-pub past-turn : (s : Section) (top : ℕ) → (leb top s.slots || leb 4294960000 top) ≡ false → Past s top
+pub past-turn : (s : Extent) (top : ℕ) → (leb top s.slots || leb 4294960000 top) ≡ false → Past s top
 past-turn s top h =
     let q = or-neither (leb top s.slots) (leb 4294960000 top) h in
     record { past = leb-false top s.slots q.0; low = leb-false 4294960000 top q.1 }
 
 -- a ring that turned: slot 0 holds number `top`, and the slots from the seam on, if any, the numbers of the turn before
-module _ (s : Section) (top seam : ℕ) (r : Rings s) (p : Past s top) (even : (top - 1) % s.slots ≡ 0)
+module _ (s : Extent) (top seam : ℕ) (r : Rings s) (p : Past s top) (even : (top - 1) % s.slots ≡ 0)
     (some : 1 ≤ seam) (most : seam ≤ s.slots) where
   seam-slot : (slot : ℕ) → slot ≡ (seam - 1 + 1) % s.slots → slot ≡ (top - s.slots + seam - 1) % s.slots
   seam-slot slot e =
@@ -72,7 +72,7 @@ module _ (s : Section) (top seam : ℕ) (r : Rings s) (p : Past s top) (even : (
       }
 
 -- one later
-pub guess-later : (s : Section) (u : Guess) → s.ring ≡ true → 1 ≤ s.slots → Guessed s u → u.first < 4294960000
+pub guess-later : (s : Extent) (u : Guess) → s.ring ≡ true → 1 ≤ s.slots → Guessed s u → u.first < 4294960000
     → (slot : ℕ) → slot ≡ (u.slot + 1) % s.slots → Guessed s (record { slot = slot; first = u.first + 1 })
 guess-later s u ring have g low slot e =
     let L : ℕ = s.slots in
@@ -89,7 +89,7 @@ guess-later s u ring have g low slot e =
 
 -- ---- the test
 
-module _ (v : List ℕ) (s : Section) (f c : ℕ) where
+module _ (v : List ℕ) (s : Extent) (f c : ℕ) where
   pub closed-full : c ≡ s.slots → true ≡ closed_of v s f c
   unfolding closed_of
   closed-full e = rw (eq-eqb c s.slots e)

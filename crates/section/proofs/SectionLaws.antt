@@ -2,7 +2,8 @@
 use mathlib.Core.Path.{◌≡◌, refl, sym, ap, ◌∙◌}
 use mathlib.Core.Bool.{Bool, true, false, cond, ◌&&◌, ◌||◌, not}
 use mathlib.Core.List.{List, []}
-use Prim.Native.Nat.{ℕ, zero, suc, ◌+◌, ◌-◌, ◌*◌, ◌%◌, ◌≤◌, ◌<◌}
+use Prim.Native.Nat.{ℕ, zero, suc, max, ◌+◌, ◌-◌, ◌*◌, ◌%◌, ◌≤◌, ◌<◌}
+use native.Mathlib.Decide.{dec_lt}
 use native.Mathlib.Nat.{mod-lt, mod-eq_of_lt, mod_self, mod-add-mod, mul-le-mul_left, mul-zero, mul-sub}
 use native.Mathlib.Numerals.{add-one, add-two}
 use native.Mathlib.Omega.{arith}
@@ -17,19 +18,12 @@ use Rattle.model.specs.Checksum.{sealed, sealed_run, sum_holds, checksum_from}
 use Rattle.model.specs.Tables.{larger}
 use Rattle.model.specs.Geometry.{slot_of}
 use Rattle.model.specs.Scan.{highest, rest_zero, count_in, first_in, ends_in}
-use Rattle.section.specs.declared.Section.{Section}
+use Rattle.section.specs.declared.Extent.{Extent}
 use Rattle.section.specs.declared.Run.{Run}
 use Rattle.section.specs.declared.Front.{Front}
 use Rattle.section.specs.Section.{front_at, front_in, run_in, slot_bytes, slots_in, highest_at}
 
 -- ---- places
-
--- the next of `most` items of w bytes
-pub turn : (w most k : ℕ) → k < most → w * (most - k) ≡ w + w * (most - (k + 1))
-turn w most k h = let e : most - k ≡ suc (most - (k + 1)) = omega arith in rw e (omega arith)
-
-pub step-on : (w k from at : ℕ) → from ≡ at + w * k → from + w ≡ at + w * (k + 1)
-step-on w k from at e = omega arith
 
 -- a slot of a section is in it
 pub seat-room : (w L i : ℕ) → i < L → w * i + w ≤ w * L
@@ -61,66 +55,63 @@ module _ (L M f : ℕ) (e : M ≡ L) where
     pub slot-of : (n : ℕ) → n ≡ f + i → slot ≡ (n - 1) % L
     slot-of n q = h ∙ ap (λ (x : ℕ). (x - 1) % L) (sym q)
 
--- the slots behind a front
-module _ (w most front : ℕ) where
-  pub front-in : front ≤ most → w * front ≤ w * most
-  front-in h = mul-le-mul_left w h
-
-  pub front-room : (at l : ℕ) → front ≤ most → at + w * most ≤ l → at + w * front + w * (most - front) ≤ l
-  front-room at l h r = omega (arith, front-in h, mul-sub w most front)
-
 -- ---- the highest number
-
-pub pick-right : (a b : ℕ) → a ≤ b → b ≡ larger a b
-pick-right a b h = rw (le-leb a b h)
-
-pub pick-left : (a b : ℕ) → b < a → a ≡ larger a b
-pick-left a b h = rw (lt-leb a b h)
 
 pub none : (c : ℕ) (v : List ℕ) (at : ℕ) → 0 ≡ highest_at c v at 0
 unfolding highest
 none c v at = refl
 
+max-larger : (a b : ℕ) → max a b ≡ larger a b
+max-larger a b = elim (dec_lt b a) [ yes y ↦ rw (lt-leb a b y) (omega arith) | no z ↦ rw (le-leb a b (omega arith)) (omega arith) ]
+
 -- one more slot
-pub one_more : (c : ℕ) (v : List ℕ) (at k from top x : ℕ) → from ≡ at + (c + 4) * k → top ≡ highest_at c v at k
-    → x ≡ cond (sealed c (part v from (c + 4))) (field 4 0 (part v from (c + 4))) 0 → larger top x ≡ highest_at c v at (k + 1)
-unfolding highest
-one_more c v at k from top x e h q =
-    let s : suc k - 1 ≡ k = omega arith in
-    rw (add-one, s, ← e, ← h, ← q)
+module _ (c : ℕ) (v : List ℕ) (at k top x : ℕ) (h : top ≡ highest_at c v at k) where
+  pub one_more : x ≡ cond (sealed c (part v (at + (c + 4) * k) (c + 4))) (field 4 0 (part v (at + (c + 4) * k) (c + 4))) 0
+      → max top x ≡ highest_at c v at (k + 1)
+  unfolding highest
+  one_more q =
+      let s : suc k - 1 ≡ k = omega arith in
+      rw (max-larger, add-one, s, ← h, ← q)
+
+  -- which is whole
+  pub one-whole : sealed c (part v (at + (c + 4) * k) (c + 4)) ≡ true → x ≡ field 4 0 (part v (at + (c + 4) * k) (c + 4))
+      → max top x ≡ highest_at c v at (k + 1)
+  one-whole t q = one_more (rw t q)
 
 -- ---- the run of whole slots
 
--- k of `most` slots are whole, and the next is at place from
-pub record Whole (c : ℕ) (v : List ℕ) (at most k from : ℕ) : Type 0 where
+-- k of `most` slots are whole
+pub record Whole (c : ℕ) (v : List ℕ) (at most k : ℕ) : Type 0 where
   pub below : k ≤ most
-  pub room : from + (c + 4) * (most - k) ≤ length v
-  pub left : k + sealed_run c (most - k) v from ≡ sealed_run c most v at
+  pub left : k + sealed_run c (most - k) v (at + (c + 4) * k) ≡ sealed_run c most v at
 
 module _ (c : ℕ) (v : List ℕ) (at most : ℕ) where
-  pub whole-none : at + (c + 4) * most ≤ length v → Whole c v at most 0 at
-  whole-none h = let z : most - 0 ≡ most = omega arith in record { below = omega arith; room = rw z h; left = rw z (omega arith) }
+  pub whole-none : Whole c v at most 0
+  whole-none =
+      let z : most - 0 ≡ most = omega arith in
+      let e : at + (c + 4) * 0 ≡ at = omega arith in
+      record { below = omega arith; left = rw (z, e) (omega arith) }
 
-  module _ (k from : ℕ) (w : Whole c v at most k from) where
+  module _ (k : ℕ) (w : Whole c v at most k) where
     pub whole-all : most ≤ k → k ≡ sealed_run c most v at
     whole-all h =
         let z : most - k ≡ 0 = omega arith in
-        let r : sealed_run c (most - k) v from ≡ 0 = rw z (run_none c v from) in
+        let r : sealed_run c (most - k) v (at + (c + 4) * k) ≡ 0 = rw z (run_none c v (at + (c + 4) * k)) in
         omega (arith, w.left)
 
     module _ (h : k < most) where
-      pub whole_room : from + (c + 4) ≤ length v
-      whole_room = omega (arith, w.room, turn (c + 4) most k h)
+      pub whole-stops : sealed c (part v (at + (c + 4) * k) (c + 4)) ≡ false → k ≡ sealed_run c most v at
+      whole-stops t = omega (arith, w.left, run-stops c v (most - k) (at + (c + 4) * k) t)
 
-      pub whole-stops : sealed c (part v from (c + 4)) ≡ false → k ≡ sealed_run c most v at
-      whole-stops t = omega (arith, w.left, run-stops c v (most - k) from t)
-
-      pub whole-on : sealed c (part v from (c + 4)) ≡ true → Whole c v at most (k + 1) (from + (c + 4))
+      pub whole-on : sealed c (part v (at + (c + 4) * k) (c + 4)) ≡ true → Whole c v at most (k + 1)
       whole-on t =
+          let from : ℕ = at + (c + 4) * k in
           let m : most - k ≡ suc (most - (k + 1)) = omega arith in
-          let g : sealed_run c (most - k) v from ≡ suc (sealed_run c (most - (k + 1)) v (from + (c + 4))) =
-          ap (λ (x : ℕ). sealed_run c x v from) m ∙ run-goes c v (most - (k + 1)) from t in
-          record { below = omega arith; room = omega (arith, w.room, turn (c + 4) most k h); left = omega (arith, w.left) }
+          let s : from + (c + 4) ≡ at + (c + 4) * (k + 1) = omega arith in
+          let g : sealed_run c (most - k) v from ≡ suc (sealed_run c (most - (k + 1)) v (at + (c + 4) * (k + 1))) =
+          ap (λ (x : ℕ). sealed_run c x v from) m ∙ run-goes c v (most - (k + 1)) from t
+          ∙ ap (λ (x : ℕ). suc (sealed_run c (most - (k + 1)) v x)) s in
+          record { below = omega arith; left = omega (arith, w.left) }
 
 -- ---- the whole front
 
@@ -179,7 +170,7 @@ none-whole v at c i h =
 
 -- ---- counts and starts
 
-module _ (v : List ℕ) (s : Section) where
+module _ (v : List ℕ) (s : Extent) where
   pub count-ring : (n : ℕ) → n ≡ highest_at s.size v s.at s.slots → s.ring ≡ true → n ≡ count_in v (slots_in v s)
   unfolding count_in
   count-ring n e t = rw t e

@@ -4,12 +4,11 @@ use mathlib.Core.Path.{◌≡◌, refl, sym, ap, ◌∙◌}
 use mathlib.Core.Logic.{⊎_elim}
 use mathlib.Core.Bool.{Bool, true, false, ◌&&◌, ◌||◌}
 use mathlib.Core.List.{List}
-use Prim.Native.Nat.{ℕ, zero, suc, ◌+◌, ◌-◌, ◌*◌, ◌%◌, ◌≤◌, ◌<◌}
+use Prim.Native.Nat.{ℕ, zero, suc, ◌+◌, ◌-◌, ◌%◌, ◌≤◌, ◌<◌}
 use native.Mathlib.Nat.{mod-lt, mod-eq_of_lt, add-mod_right}
 use native.Mathlib.Omega.{arith}
 use native.Mathlib.Decide.{dec_lt, ℕ_discrete}
 use lib.Dec.{eqb, ltb}
-use lib.ListN.{length}
 use borrow.Author.Tests.{eq-eqb, ne_eqb, eqb-true, ltb-true}
 use Rattle.laws.proofs.Tables.{by_cases, and_left, and_right, or_cases, or-other, true-not-false}
 use Rattle.laws.proofs.Ring.{Seat, seat, highest-le, highest-ge}
@@ -18,7 +17,7 @@ use Rattle.model.specs.Checksum.{sealed, sealed_run}
 use Rattle.model.specs.Geometry.{slot_of}
 use Rattle.model.specs.Scan.{highest, rest_zero, count_in, first_in, ends_in}
 use Rattle.model.specs.Scan as scan
-use Rattle.section.specs.declared.Section.{Section}
+use Rattle.section.specs.declared.Extent.{Extent}
 use Rattle.section.specs.Section.{Placed, slot_bytes, slots_in, highest_at}
 use Rattle.section.specs.Sweep.{Swept, closed_of, begun_of}
 use Rattle.section.proofs.SectionLaws.{none, Whole, whole-none, whole-all, whole-stops, whole-on, none-whole}
@@ -58,7 +57,7 @@ module _ (s : scan.Section) (f c : ℕ) (low : 1 ≤ f) (some : 1 ≤ c) (near :
 
 -- ---- numbers from 1 on: number i + 1 is in slot i, counted from 0
 
-module _ (v : List ℕ) (s : Section) (c : ℕ) (w : Swept (slots_in v s) 1 c) where
+module _ (v : List ℕ) (s : Extent) (c : ℕ) (w : Swept (slots_in v s) 1 c) where
   slot_is : (i : ℕ) → i < s.slots → slot_of s.slots (1 + i) - 1 ≡ i
   slot_is i h =
       let e : 1 + i - 1 ≡ i = omega arith in
@@ -77,23 +76,19 @@ module _ (v : List ℕ) (s : Section) (c : ℕ) (w : Swept (slots_in v s) 1 c) w
   low-torn h = ap (λ (k : ℕ). sealed s.size (slot_bytes v s k)) (sym (slot_is c h)) ∙ w.torn h
 
   -- the whole front
-  low-front : s.at + (s.size + 4) * s.slots ≤ length v → (k : ℕ) → k ≤ c
-      → Whole s.size v s.at s.slots k (s.at + (s.size + 4) * k)
-  low-front room zero h =
-      let e : s.at + (s.size + 4) * 0 ≡ s.at = omega arith in
-      rw e (whole-none s.size v s.at s.slots room)
-  low-front room (suc k) h =
-      let ih = low-front room k (omega arith) in
-      let e₁ : k + 1 ≡ suc k = omega arith in
-      let e₂ : s.at + (s.size + 4) * k + (s.size + 4) ≡ s.at + (s.size + 4) * suc k = omega arith in
-      rw (e₁, e₂) at (whole-on s.size v s.at s.slots k _ ih (omega (arith, w.few)) (low-whole k (omega arith)))
+  low-front : (k : ℕ) → k ≤ c → Whole s.size v s.at s.slots k
+  low-front zero h = whole-none s.size v s.at s.slots
+  low-front (suc k) h =
+      let ih = low-front k (omega arith) in
+      let e : k + 1 ≡ suc k = omega arith in
+      rw e at (whole-on s.size v s.at s.slots k ih (omega (arith, w.few)) (low-whole k (omega arith)))
 
-  pub low_run : Placed v s → c ≡ sealed_run s.size s.slots v s.at
-  low_run p =
-      let front = low-front p.room c (omega arith) in
+  pub low_run : c ≡ sealed_run s.size s.slots v s.at
+  low_run =
+      let front = low-front c (omega arith) in
       elim (dec_lt c s.slots) [
-        | yes y ↦ whole-stops s.size v s.at s.slots c _ front y (low-torn y)
-        | no z ↦ whole-all s.size v s.at s.slots c _ front (omega arith)
+        | yes y ↦ whole-stops s.size v s.at s.slots c front y (low-torn y)
+        | no z ↦ whole-all s.size v s.at s.slots c front (omega arith)
       ]
 
   -- the highest number of a ring whose other slots are zero
@@ -126,12 +121,12 @@ module _ (v : List ℕ) (s : Section) (c : ℕ) (w : Swept (slots_in v s) 1 c) w
 
 -- ---- the law
 
-pub record Closes (v : List ℕ) (s : Section) (f c : ℕ) : Type 0 where
+pub record Closes (v : List ℕ) (s : Extent) (f c : ℕ) : Type 0 where
   pub count : count_in v (slots_in v s) ≡ f + c - 1
   pub first : first_in (slots_in v s) (f + c - 1) ≡ begun_of s.ring f c
   pub ends : ends_in v (slots_in v s) (begun_of s.ring f c) (f + c - 1) ≡ true
 
-module _ (v : List ℕ) (s : Section) (p : Placed v s) where
+module _ (v : List ℕ) (s : Extent) (p : Placed v s) where
   -- a ring that turned: the numbers from f on fill its slots, or all but the one behind them
   module _ (f c : ℕ) (t : s.ring ≡ true) (low : 1 ≤ f) (some : 1 ≤ c) (w : Swept (slots_in v s) f c) where
     turned-count : s.slots ≤ suc c → count_in v (slots_in v s) ≡ f + c - 1
@@ -218,7 +213,7 @@ module _ (v : List ℕ) (s : Section) (p : Placed v s) where
       closes-short =
           let e : 1 + c - 1 ≡ c = omega arith in
           let n : c ≡ count_in v (slots_in v s) =
-          by_cases s.ring (count-ring v s c (low-highest v s c w p short zero_rest)) (count-run v s c (low_run v s c w p)) in
+          by_cases s.ring (count-ring v s c (low-highest v s c w p short zero_rest)) (count-run v s c (low_run v s c w)) in
           record { count = rw e (sym n); first = rw e short-first; ends = rw e (short-ends _ short-begun) }
 
   -- no ring, and its slots are full
@@ -227,7 +222,7 @@ module _ (v : List ℕ) (s : Section) (p : Placed v s) where
       let L : ℕ = s.slots in
       let e : 1 + L - 1 ≡ L = omega arith in
       record {
-        count = rw e (sym (count-run v s L (low_run v s L w p) t));
+        count = rw e (sym (count-run v s L (low_run v s L w) t));
         first = sym (first_one v s _ t) ∙ rw t;
         ends = sym (ends-past v s _ _ (omega arith));
       }
@@ -257,7 +252,7 @@ module _ (v : List ℕ) (s : Section) (p : Placed v s) where
         let one : f ≡ 1 = eqb-true f 1 (and_left (eqb f 1) _ t) in
         rw one (closes-short c h (rw one at w) (and_right (eqb f 1) _ t))
 
-pub closes : (v : List ℕ) (s : Section) (f c : ℕ) → Placed v s → 1 ≤ f → (s.ring ≡ false → f ≡ 1) → (s.slots ≡ 0 → f ≡ 1)
+pub closes : (v : List ℕ) (s : Extent) (f c : ℕ) → Placed v s → 1 ≤ f → (s.ring ≡ false → f ≡ 1) → (s.slots ≡ 0 → f ≡ 1)
     → Swept (slots_in v s) f c → closed_of v s f c ≡ true → Closes v s f c
 unfolding closed_of
 closes v s f c p low plain empty w closed = elim (ℕ_discrete c s.slots) [
@@ -268,7 +263,7 @@ closes v s f c p low plain empty w closed = elim (ℕ_discrete c s.slots) [
 ]
 
 -- no numbers that are all that the section holds start at 1
-pub closed_none : (v : List ℕ) (s : Section) (f c : ℕ) → (s.slots ≡ 0 → f ≡ 1) → closed_of v s f c ≡ true → c ≡ 0 → f ≡ 1
+pub closed_none : (v : List ℕ) (s : Extent) (f c : ℕ) → (s.slots ≡ 0 → f ≡ 1) → closed_of v s f c ≡ true → c ≡ 0 → f ≡ 1
 unfolding closed_of
 closed_none v s f c empty closed z = ⊎_elim
     (λ h. empty (omega (arith, eqb-true c s.slots h)))

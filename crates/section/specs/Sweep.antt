@@ -4,11 +4,11 @@ use Rattle.model.specs.Bytes.{field}
 use Rattle.model.specs.Checksum.{sealed}
 use Rattle.model.specs.Geometry.{slot_of}
 use Rattle.model.specs.Scan as scan
-use Rattle.section.specs.declared.Section.{Section}
+use Rattle.section.specs.declared.Extent.{Extent}
 use Rattle.section.specs.declared.guess.Guess.{Guess}
 
 -- what is sure of a guess: the slot is the number's, and no number of a run from there on is too large
-pub record Guessed (s : Section) (u : Guess) : Type 0 where
+pub record Guessed (s : Extent) (u : Guess) : Type 0 where
   pub some : 1 ≤ u.first
   pub low : u.first ≤ 4294960000
   pub inside : 1 ≤ s.slots → u.slot < s.slots
@@ -25,7 +25,7 @@ pub record Swept (s : scan.Section) (f c : ℕ) : Type 0 where
 
 -- these numbers are all that the section holds: they fill the slots; or, from above 1 on, all but the one behind them,
 -- which the next store meets; or they start at 1 and what follows the slot behind them is zero
-unfoldable pub closed_of : List ℕ → Section → ℕ → ℕ → Bool
+unfoldable pub closed_of : List ℕ → Extent → ℕ → ℕ → Bool
 closed_of v s f c =
     eqb c s.slots || ((ltb 1 f && (ltb 0 c && eqb (suc c) s.slots))
     || (eqb f 1 && scan.rest_zero (s.size + 4) s.slots v s.at c))

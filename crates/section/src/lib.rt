@@ -1,11 +1,10 @@
 // A section of a volume, its log or its notes: its whole slots, and the run of numbers that they hold.
 #![tactic(auto)]
 
-ghost use Rattle.std.specs.Prelude.{◌≡◌, true, cond, suc, ◌+◌, ◌-◌, ◌*◌, ◌%◌, ◌≤◌, ◌<◌, length};
+ghost use Rattle.std.specs.Prelude.{◌≡◌, true, cond, suc, ◌+◌, ◌-◌, ◌%◌, ◌≤◌, ◌<◌};
 ghost use Rattle.model.specs.Bytes as bytes;
 ghost use Rattle.model.specs.Checksum.{sealed};
 ghost use Rattle.model.specs.Scan as scans;
-ghost use Rattle.model.specs.Tables as tables;
 ghost use Rattle.section.specs.Section.{Placed, slot_bytes, highest_at, front_at, front_in, slots_in, run_in};
 
 pub mod guess;
@@ -17,11 +16,19 @@ use volume::ring;
 // Where a section lies: whether it is a ring, where its slots start, an item's bytes before its checksum, and how many
 // slots it has.
 #[derive(Clone, Copy)]
-pub struct Section {
+pub struct Extent {
     pub ring: bool,
     pub at: usize,
     pub size: usize,
     pub slots: u32,
+}
+
+// A volume's bytes and where in them the section lies.
+#[derive(Clone, Copy)]
+pub struct Section<'a> {
+    pub bytes: &'a [u8],
+    pub extent: Extent,
+    pub ghost placed: { Placed bytes.now extent },
 }
 
 // The numbers that a section holds: the first, and how many were ever given, which is the last; none where the first is
@@ -40,17 +47,6 @@ pub struct Front {
     pub top: u32,
 }
 
-// The bytes of a slot, counted from 0.
-pub fn item(v: &[u8], s: Section, slot: u32) -> &[u8]
-    requires placed { Placed v.now s }
-    requires slot_lt_slots { slot < s.slots }
-    ensures { result.now ≡ slot_bytes v.now s slot }
-{
-    let from = s.at + (s.size + 4) * (slot as usize);
-    let end = from + (s.size + 4);
-    &v[from..end]
-}
-
 // The slot of a run's first number, counted from 0, of so many.
 pub fn start(first: u64, slots: u32) -> u32
     requires { 1 ≤ first }
@@ -60,7 +56,7 @@ pub fn start(first: u64, slots: u32) -> u32
         return 0;
     }
     let b = first - 1;
-    let all = slots as u64;
+    let all = u64::from(slots);
     if b < all {
         return b as u32;
     }
@@ -81,10 +77,7 @@ pub fn whole(item: &[u8], size: usize, slot: u32, front: u32) -> bool
     requires { slot < front → sealed size item.now ≡ true }
     ensures { result ≡ sealed size item.now }
 {
-    if slot < front {
-        return true;
-    }
-    checksum::holds(item, size)
+    slot < front || checksum::holds(item, size)
 }
 
 // The number of an item whose checksum is right, else 0.
@@ -98,122 +91,135 @@ fn number(item: &[u8], n: usize) -> u32
     }
 }
 
-// The larger of two numbers.
-fn larger(a: u32, b: u32) -> u32
-    ensures { result ≡ tables.larger a b }
-{
-    if a <= b { b } else { a }
-}
-
-// The highest number in a whole slot, of `most` slots of n bytes and a checksum from a place on; in the first `front`
-// it is `below`.
-fn highest(v: &[u8], at: usize, n: usize, most: usize, front: usize, below: u32) -> u32
-    requires most_in_bounds { (at + (n + 4) * most ≤ length v.now) × (n ≤ 252) }
-    requires front_le_most { (front ≤ most) × (below ≡ highest_at n v.now at front) }
-    ensures { result ≡ highest_at n v.now at most }
-{
-    let mut k = front;
-    let mut from = at + (n + 4) * front;
-    let mut top = below;
-    while k < most {
-        let end = from + (n + 4);
-        let x = number(&v[from..end], n);
-        top = larger(top, x);
-        from = end;
-        k += 1;
+impl<'a> Section<'a> {
+    // The bytes of a slot, counted from 0.
+    pub fn item(&self, slot: u32) -> &'a [u8]
+        requires { slot < self.now.extent.slots }
+        ensures { result.now ≡ slot_bytes self.now.bytes.now self.now.extent slot }
+    {
+        let s = self.extent;
+        let from = s.at + (s.size + 4) * (slot as usize);
+        let end = from + (s.size + 4);
+        &self.bytes[from..end]
     }
-    top
-}
 
-// Their whole front.
-fn sealed(v: &[u8], at: usize, n: usize, most: usize) -> Front
-    requires { (at + (n + 4) * most ≤ length v.now) × (n ≤ 252) × (most ≤ 1024) }
-    ensures { result ≡ front_at n v.now at most }
-{
-    let mut k: usize = 0;
-    let mut from = at;
-    let mut top: u32 = 0;
-    while k < most {
-        let end = from + (n + 4);
-        let item = &v[from..end];
-        if !checksum::holds(item, n) {
-            break;
+    // The whole front.
+    fn front(&self) -> Front
+        ensures { result ≡ front_at self.now.extent.size self.now.bytes.now self.now.extent.at self.now.extent.slots }
+    {
+        let s = self.extent;
+        let mut top = 0;
+        for slot in 0..s.slots {
+            let item = self.item(slot);
+            if !checksum::holds(item, s.size) {
+                return Front { slots: slot, top };
+            }
+            top = top.max(field::u32_at(item, 0));
         }
-        top = larger(top, field::u32_at(item, 0));
-        from = end;
-        k += 1;
+        Front {
+            slots: s.slots,
+            top,
+        }
     }
-    Front {
-        slots: k as u32,
-        top,
-    }
-}
 
-// How many numbers were given: in a ring the highest in a whole slot.
-fn count(v: &[u8], s: Section, front: Front) -> u32
-    requires placed { Placed v.now s }
-    requires front_value { front ≡ front_at s.size v.now s.at s.slots }
-    ensures { result ≡ scans.count_in v.now (slots_in v.now s) }
-{
-    let whole = front.slots;
-    if s.ring {
-        highest(v, s.at, s.size, s.slots as usize, whole as usize, front.top)
-    } else {
-        whole
+    // The highest number in a whole slot.
+    fn highest(&self, front: Front) -> u32
+        requires { front ≡ front_at self.now.extent.size self.now.bytes.now self.now.extent.at self.now.extent.slots }
+        ensures { result ≡ highest_at self.now.extent.size self.now.bytes.now self.now.extent.at self.now.extent.slots }
+    {
+        let s = self.extent;
+        let mut top = front.top;
+        for slot in front.slots..s.slots {
+            top = top.max(number(self.item(slot), s.size));
+        }
+        top
     }
-}
 
-// The slot that the number after k goes to is whole; of no slots none is. It is not summed where it is known to be at
-// the whole front.
-fn next(v: &[u8], s: Section, k: u32, front: u32) -> bool
-    requires placed { Placed v.now s }
-    requires front_bound { front ≤ front_in v.now s }
-    ensures { result ≡ sealed s.size (slot_bytes v.now s (k % s.slots)) }
-{
-    if s.slots == 0 {
-        return false;
+    // How many numbers were given: in a ring the highest in a whole slot.
+    fn count(&self, front: Front) -> u32
+        requires { front ≡ front_at self.now.extent.size self.now.bytes.now self.now.extent.at self.now.extent.slots }
+        ensures { result ≡ scans.count_in self.now.bytes.now (slots_in self.now.bytes.now self.now.extent) }
+    {
+        if self.extent.ring {
+            self.highest(front)
+        } else {
+            front.slots
+        }
     }
-    let place = ring::turned(k, s.slots);
-    whole(item(v, s, place), s.size, place, front)
-}
 
-// What of a number is above another; 0 where nothing is.
-fn above(a: u32, b: u32) -> u32
-    ensures { result ≡ a - b }
-{
-    if b <= a { a - b } else { 0 }
-}
-
-// The run start, with n numbers given: of a ring max(1, n - slots + 1), or one later if that slot is not whole; `front`
-// slots are known to be.
-pub fn first(v: &[u8], s: Section, n: u32, front: u32) -> u64
-    requires placed { Placed v.now s }
-    requires front_bound { front ≤ front_in v.now s }
-    ensures { result ≡ scans.first_in (slots_in v.now s) n }
-{
-    if !s.ring {
-        return 1;
+    // The slot that the number after k goes to is whole; of no slots none is. It is not summed where it is known to be
+    // at the whole front.
+    fn next(&self, k: u32, front: u32) -> bool
+        requires { front ≤ front_in self.now.bytes.now self.now.extent }
+        ensures { result
+            ≡ sealed self.now.extent.size
+            (slot_bytes self.now.bytes.now self.now.extent (k % self.now.extent.slots)) }
+    {
+        let s = self.extent;
+        if s.slots == 0 {
+            return false;
+        }
+        let place = ring::turned(k, s.slots);
+        whole(self.item(place), s.size, place, front)
     }
-    let below = above(n, s.slots);
-    if next(v, s, below, front) {
-        below as u64 + 1
-    } else {
-        below as u64 + 2
-    }
-}
 
-// The numbers that a section holds.
-pub fn held(v: &[u8], s: Section) -> Run
-    requires { Placed v.now s }
-    ensures { result ≡ run_in v.now s }
-{
-    let front = sealed(v, s.at, s.size, s.slots as usize);
-    let count = count(v, s, front);
-    let whole = front.slots;
-    Run {
-        first: first(v, s, count, whole),
-        count,
-        front: whole,
+    // The run start, with n numbers given: of a ring max(1, n - slots + 1), or one later if that slot is not whole;
+    // `front` slots are known to be.
+    pub fn first(&self, n: u32, front: u32) -> u64
+        requires { front ≤ front_in self.now.bytes.now self.now.extent }
+        ensures { result ≡ scans.first_in (slots_in self.now.bytes.now self.now.extent) n }
+    {
+        if !self.extent.ring {
+            return 1;
+        }
+        let below = n.saturating_sub(self.extent.slots);
+        if self.next(below, front) {
+            u64::from(below) + 1
+        } else {
+            u64::from(below) + 2
+        }
+    }
+
+    // The numbers that the section holds.
+    pub fn held(&self) -> Run
+        ensures { result ≡ run_in self.now.bytes.now self.now.extent }
+    {
+        let front = self.front();
+        let count = self.count(front);
+        Run {
+            first: self.first(count, front.slots),
+            count,
+            front: front.slots,
+        }
+    }
+
+    // The slots past slot n + 1 are zero.
+    fn rest(&self, n: u32) -> bool
+        ensures { result
+            ≡ scans.rest_zero (self.now.extent.size + 4) self.now.extent.slots self.now.bytes.now
+            self.now.extent.at n }
+    {
+        let s = self.extent;
+        if s.slots <= n {
+            return true;
+        }
+        let from = s.at + (s.size + 4) * (n as usize + 1);
+        let end = s.at + (s.size + 4) * (s.slots as usize);
+        part::zero(&self.bytes[from..end])
+    }
+
+    // What follows a run: past the turn nothing is asked; before it the next slot is not whole, the run starts at 1, and
+    // the rest is zero.
+    pub fn ends(&self, r: Run) -> bool
+        ensures { result
+            ≡ scans.ends_in self.now.bytes.now (slots_in self.now.bytes.now self.now.extent) r.first r.count }
+    {
+        let n = r.count;
+        if self.extent.slots <= n {
+            return true;
+        }
+        let starts = (n == 0) | (r.first == 1);
+        (!self.next(n, 0) & starts) & self.rest(n)
     }
 }
 
@@ -222,7 +228,7 @@ pub fn span(r: Run) -> u32
     requires { 1 ≤ r.first }
     ensures { result ≡ suc r.count - r.first }
 {
-    let count = r.count as u64;
+    let count = u64::from(r.count);
     if r.first <= count {
         (count - r.first + 1) as u32
     } else {
@@ -235,33 +241,5 @@ pub fn nth(first: u64, i: u32) -> u32
     requires { first + i ≤ 4294967295 }
     ensures { result ≡ first + i }
 {
-    (first + i as u64) as u32
-}
-
-// The slots past slot n + 1 are zero, of `count` slots of `size` bytes that start at a place.
-pub fn rest(volume: &[u8], at: usize, size: usize, count: usize, n: usize) -> bool
-    requires { at + size * count ≤ length volume.now }
-    ensures { result ≡ scans.rest_zero size count volume.now at n }
-{
-    if count <= n {
-        return true;
-    }
-    let from = at + size * (n + 1);
-    let end = at + size * count;
-    part::zero(&volume[from..end])
-}
-
-// What follows a run: past the turn nothing is asked; before it the next slot is not whole, the run starts at 1, and
-// the rest is zero.
-pub fn ends(v: &[u8], s: Section, r: Run) -> bool
-    requires { Placed v.now s }
-    ensures { result ≡ scans.ends_in v.now (slots_in v.now s) r.first r.count }
-{
-    let n = r.count;
-    if s.slots <= n {
-        return true;
-    }
-    let starts = (n == 0) | (r.first == 1);
-    let next = next(v, s, n, 0);
-    (!next & starts) & rest(v, s.at, s.size + 4, s.slots as usize, n as usize)
+    (first + u64::from(i)) as u32
 }

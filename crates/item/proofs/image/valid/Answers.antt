@@ -4,4 +4,4 @@ use Rattle.item.proofs.image.valid.Goals as goal
 
 pub returns : goal.returns
 unfolding valid_image
-returns c = rw (c.sealed.ensures, c.u16_at-page.ensures, c.u16_at-zero.ensures)
+returns c = rw (c.sealed.ensures, c.from-page.ensures, c.u16_at.ensures, c.u16_at-zero.ensures)

@@ -16,4 +16,4 @@ pub returns : goal.returns
 returns c =
     let l : length c.args.payload ≡ 44 = search rules in
     encode-is _ _ _ c.args.c _ c.describe-e.ensures c.requires.1 c.args.dst.now _ _ _ c.args.payload c.requires.0 l
-    c.fields.ensures c.pad.ensures c.set.ensures
+    c.fields.ensures (rw c.from-n.ensures at c.pad.ensures) c.set.ensures

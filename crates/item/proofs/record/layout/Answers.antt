@@ -10,4 +10,5 @@ returns-then-r-lt60 c = absurd (omega arith)
 pub returns : goal.returns
 returns c =
     layout_is c.args.r.now c.read-e.result c.fits-obeys.result c.padding.result c.byte.result c.read-e.ensures
-    c.fits-obeys.ensures c.byte.ensures c.padding.ensures
+    (rw (c.from.ensures, c.from-2.ensures, c.from-3.ensures, c.from-4.ensures) at c.fits-obeys.ensures) c.byte.ensures
+    (rw c.from-5.ensures at c.padding.ensures)

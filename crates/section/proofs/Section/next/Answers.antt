@@ -1,0 +1,25 @@
+-- `section::Section::next` meets its contract.
+use mathlib.Core.Path.{ap, ◌∙◌}
+use Prim.Native.Nat.{ℕ}
+use native.Mathlib.Omega.{arith}
+use Rattle.laws.proofs.Checksums.{run-sealed}
+use Rattle.model.specs.Checksum.{sealed}
+use Rattle.section.specs.Section.{slot_bytes}
+use Rattle.section.proofs.SectionLaws.{none-whole}
+use Rattle.section.proofs.Section.next.Goals as goal
+
+pub returns-then-s-eq0 : goal.returns-then-s-eq0
+returns-then-s-eq0 c = none-whole _ _ _ _ (c.args.self.now.placed.none c.if-s-eq0.true)
+
+pub whole-requires : goal.whole-requires
+whole-requires c h =
+    let s = c.args.self.now.extent in
+    ap (sealed s.size) c.item.ensures
+    ∙ run-sealed s.size c.args.self.now.bytes.now s.slots s.at c.turned-place.result (omega (arith, h, c.requires))
+
+pub returns : goal.returns
+returns c =
+    let s = c.args.self.now.extent in
+    c.whole.ensures
+    ∙ ap (sealed s.size) c.item.ensures
+    ∙ ap (λ (k : ℕ). sealed s.size (slot_bytes c.args.self.now.bytes.now s k)) c.turned-place.ensures.0
