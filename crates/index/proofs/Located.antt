@@ -17,7 +17,7 @@ use Rattle.model.specs.declared.geometry.Geometry.{Geometry}
 use Rattle.log_scan.specs.LogSection.{Sized}
 use Rattle.index.specs.NoteSection.{note_section, note_run}
 use Rattle.section.specs.Section.{Placed, slot_bytes, slots_in, front_in, run_in}
-use Rattle.section.specs.declared.Section.{Section}
+use Rattle.section.specs.declared.Extent.{Extent}
 use Rattle.section.specs.declared.Run.{Run}
 
 module _ (g : Geometry) (v : List ℕ) where
@@ -26,9 +26,9 @@ module _ (g : Geometry) (v : List ℕ) where
   note-slot i = let e : start g (note_at 1) + (12 + 4) * i ≡ start g (note_at (suc i)) = omega arith in ap (λ (k : ℕ). part v k 16) e
 
   -- the slot of number n, as a run's scan comes to it
-  module _ (s : Section) (n slot : ℕ) (r : List ℕ) (er : r ≡ slot_bytes v s slot) where
+  module _ (s : Extent) (n slot : ℕ) (r : List ℕ) (er : r ≡ slot_bytes v s slot) where
     pub note-here : s ≡ note_section g → slot ≡ (n - 1) % g.notes → r ≡ item g v (note_slot g n)
-    note-here es e = er ∙ ap (λ (x : Section). slot_bytes v x slot) es ∙ ap (slot_bytes v (note_section g)) e ∙ note-slot ((n - 1) % g.notes)
+    note-here es e = er ∙ ap (λ (x : Extent). slot_bytes v x slot) es ∙ ap (slot_bytes v (note_section g)) e ∙ note-slot ((n - 1) % g.notes)
 
   -- the code's section is the definitions'
   pub note-section : slots_in v (note_section g) ≡ note_slots g v
@@ -45,7 +45,7 @@ module _ (g : Geometry) (v : List ℕ) where
   run_of : scan.Section → ℕ → Run
   run_of x front = record { first = first_in x (count_in v x); count = count_in v x; front = front }
 
-  pub note-run : (s : Section) → s ≡ note_section g → (r : Run) → r ≡ run_in v s → r ≡ note_run g v
+  pub note-run : (s : Extent) → s ≡ note_section g → (r : Run) → r ≡ run_in v s → r ≡ note_run g v
   unfolding run_of note_count first_note
   note-run s es r er = er ∙ ap (run_in v) es ∙ ap (λ (x : scan.Section). run_of x (front_in v (note_section g))) note-section
 

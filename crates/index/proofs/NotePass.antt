@@ -18,14 +18,14 @@ use Rattle.model.specs.Scan.{log_record, note_record, durable_count, first_held,
 use Rattle.model.specs.Scan.{note_follows, note_fits, ends_in, valid_notes, index_of}
 use Rattle.model.specs.declared.{geometry.Geometry.Geometry, item.Note.Note, state.Entry.Entry}
 use Rattle.log_scan.specs.Rows.{row_of}
-use Rattle.index_rows.specs.Columns.{Noted, Blank, earlier_entry, slot_in}
+use Rattle.index_rows.specs.declared.columns.Columns.{Columns}
+use Rattle.index_rows.specs.Columns.{Noted, Blank, earlier_row, entered, slot_in}
 use Rattle.index.specs.NoteSection.{note_section, note_run, note_after, note_agrees, noted_index, notes_fit}
 use Rattle.section.specs.Section.{slots_in, front_in}
 use Rattle.section.specs.declared.Run.{Run}
-use Rattle.section.specs.declared.Section.{Section}
+use Rattle.section.specs.declared.Extent.{Extent}
 use Rattle.log_scan.proofs.RowLaws.{column-set, row_is}
-use Rattle.index_rows.proofs.ColumnLaws.{slot-in, log-written, log-slots, log-backup, noted-written, noted-slot}
-use Rattle.index_rows.proofs.ColumnLaws.{noted-backup, Long, blank-long, long-set}
+use Rattle.index_rows.proofs.ColumnLaws.{slot-in, log-written, log-slots, log-backup, noted-written, noted-slot, noted-backup}
 use Rattle.index.proofs.Located.{note-known, note-section, first-note-low, notes-some}
 use Rattle.log_scan.proofs.Conjunctions.{guarded}
 
@@ -49,10 +49,9 @@ module _ (g : Geometry) (v : List ℕ) where
   ends h = rw (h, note-section g v)
 
   -- the first i notes of a run from f on fit, and gave the columns
-  pub record Entered (f i : ℕ) (written slots backup : List ℕ) : Type 0 where
+  pub record Entered (f i : ℕ) (c : Columns) : Type 0 where
     pub held : every i (λ j. note_fits g v (note_index g v f j) (f + j)) ≡ true
-    pub same : Noted (note_index g v f i) written slots backup
-    pub long : Long written slots backup
+    pub same : Noted (note_index g v f i) c
 
   -- the notes' run
   module _ (r : Run) (er : r ≡ note_run g v) where
@@ -79,19 +78,19 @@ module _ (g : Geometry) (v : List ℕ) where
         (sym er) breaks
 
     -- all fit
-    module _ (i : ℕ) (written slots backup : List ℕ) (j : Entered r.first i written slots backup)
+    module _ (i : ℕ) (c : Columns) (j : Entered r.first i c)
         (ei : i ≡ suc r.count - r.first) where
-      pub notes-end : (s : Section) → s ≡ note_section g → (b : Bool) → b ≡ ends_in v (slots_in v s) r.first r.count
+      pub notes-end : (s : Extent) → s ≡ note_section g → (b : Bool) → b ≡ ends_in v (slots_in v s) r.first r.count
           → b ≡ notes_fit g v
       notes-end s es b eb =
-          eb ∙ ap (λ (x : Section). ends_in v (slots_in v x) r.first r.count) es
+          eb ∙ ap (λ (x : Extent). ends_in v (slots_in v x) r.first r.count) es
           ∙ subst (λ (x : Run). every (suc x.count - x.first) (λ k. note_fits g v (note_index g v x.first k) (x.first + k)) ≡ true
           → ends_in v (slots_in v (note_section g)) x.first x.count ≡ notes_fit g v) (sym er) ends (rw ei at j.held)
 
-      pub notes-columns : Noted (noted_index g v) written slots backup
+      pub notes-columns : Noted (noted_index g v) c
       notes-columns =
-          subst (λ (x : Run). Noted (note_index g v x.first (suc x.count - x.first)) written slots backup) er
-          (subst (λ (k : ℕ). Noted (note_index g v r.first k) written slots backup) ei j.same)
+          subst (λ (x : Run). Noted (note_index g v x.first (suc x.count - x.first)) c) er
+          (subst (λ (k : ℕ). Noted (note_index g v r.first k) c) ei j.same)
 
   -- the rule of the notes, with what is judged at the end
   pub notes-valid : valid_notes g v
@@ -100,9 +99,9 @@ module _ (g : Geometry) (v : List ℕ) where
   notes-valid = refl
 
   -- the columns before any note
-  note-none : (f : ℕ) (written slots backup : List ℕ) → Blank written slots backup → Noted (note_index g v f 0) written slots backup
+  note-none : (f : ℕ) (c : Columns) → Blank c → Noted (note_index g v f 0) c
   unfolding note_index
-  note-none f written slots backup b =
+  note-none f c b =
       let n = durable_count g v in
       let s = first_held g v n in
       record {
@@ -111,17 +110,15 @@ module _ (g : Geometry) (v : List ℕ) where
         backup-is = log-backup g v s (suc n - s) ∙ sym b.backup-none;
       }
 
-  pub entered-none : (f : ℕ) (written slots backup : List ℕ) → Blank written slots backup → Entered f 0 written slots backup
-  entered-none f written slots backup b =
-      record { held = every-none _; same = note-none f written slots backup b; long = blank-long written slots backup b }
+  pub entered-none : (f : ℕ) (c : Columns) → Blank c → Entered f 0 c
+  entered-none f c b = record { held = every-none _; same = note-none f c b }
 
   -- note k = f + i as it was read and judged, after notes that gave the columns
-  module _ (few : g.pages ≤ 64) (f i : ℕ) (written slots backup : List ℕ)
-      (same : Noted (note_index g v f i) written slots backup) (k : ℕ) (k-is : k ≡ f + i)
+  module _ (few : g.pages ≤ 64) (f i : ℕ) (c : Columns) (same : Noted (note_index g v f i) c) (k : ℕ) (k-is : k ≡ f + i)
       (r : List ℕ) (er : r ≡ item g v (note_slot g k)) (e : Note) (ee : e ≡ note_of r) (j : ℕ) (ej : j ≡ row_of e.page)
-      (was : Entry) (ew : was ≡ earlier_entry (get_or written j 0) (get_or slots j 0) (get_or backup j 0))
+      (was : Entry) (ew : was ≡ earlier_row c j)
       (durable first : ℕ) (ed : durable ≡ durable_count g v) (ef : first ≡ first_held g v (durable_count g v))
-      (whole used follows named ok : Bool) (eh : whole ≡ sealed 12 r) (eu : used ≡ (leb 1 e.slot && slot_in e.slot slots))
+      (whole used follows named ok : Bool) (eh : whole ≡ sealed 12 r) (eu : used ≡ (leb 1 e.slot && slot_in e.slot c.slots))
       (el : follows ≡ note_after was e g.slots used)
       (en : named ≡ (ltb e.lsn first || eqb (log_record g v e.lsn).page e.page))
       (eo : ok ≡ note_agrees whole e k g.pages durable named follows) where
@@ -141,20 +138,20 @@ module _ (g : Geometry) (v : List ℕ) where
         ∙ get_or-map h (note_index g v f i) (e.page - 1) empty_entry
 
     written_at : within g.pages e.page ≡ true → was.written ≡ (entry_of (note_index g v f i) e.page).written
-    written_at t = ap (λ (x : Entry). x.written) ew ∙ at-page (λ (x : Entry). x.written) refl written same.written_is t
+    written_at t = ap (λ (x : Entry). x.written) ew ∙ at-page (λ (x : Entry). x.written) refl c.written same.written_is t
 
     slot-at : within g.pages e.page ≡ true → was.slot ≡ (entry_of (note_index g v f i) e.page).slot
-    slot-at t = ap (λ (x : Entry). x.slot) ew ∙ at-page (λ (x : Entry). x.slot) refl slots same.slots-are t
+    slot-at t = ap (λ (x : Entry). x.slot) ew ∙ at-page (λ (x : Entry). x.slot) refl c.slots same.slots-are t
 
     backup-at : within g.pages e.page ≡ true → was.backup ≡ (entry_of (note_index g v f i) e.page).backup
-    backup-at t = ap (λ (x : Entry). x.backup) ew ∙ at-page (λ (x : Entry). x.backup) refl backup same.backup-is t
+    backup-at t = ap (λ (x : Entry). x.backup) ew ∙ at-page (λ (x : Entry). x.backup) refl c.backup same.backup-is t
 
-    used-is : slot_in e.slot slots ≡ slot_used e.slot (note_index g v f i)
+    used-is : slot_in e.slot c.slots ≡ slot_used e.slot (note_index g v f i)
     used-is = ap (slot_in e.slot) (sym same.slots-are) ∙ slot-in e.slot (note_index g v f i)
 
     follows_is : within g.pages e.page ≡ true → follows ≡ note_follows g (note_index g v f i) e
     unfolding note_follows
-    follows_is t = el ∙ rw (eu, searched g.slots e.slot (slot_in e.slot slots), written_at t, backup-at t, used-is)
+    follows_is t = el ∙ rw (eu, searched g.slots e.slot (slot_in e.slot c.slots), written_at t, backup-at t, used-is)
 
     pub note-judged : ok ≡ note_fits g v (note_index g v f i) (f + i)
     unfolding note_fits
@@ -176,26 +173,24 @@ module _ (g : Geometry) (v : List ℕ) where
         (column-set h (note_index g v f i) (e.page - 1) (with_note (entry_of (note_index g v f i) e.page) e))
 
     note-enters : ok ≡ true → (x : Entry) → x ≡ with_note was e
-        → Noted (note_index g v f (i + 1)) (set written j x.written) (set slots j x.slot) (set backup j x.backup)
+        → Noted (note_index g v f (i + 1)) (entered c j x)
     note-enters t x ex =
         let w : within g.pages e.page ≡ true =
         all-at (whole ∷ note_layout e ∷ eqb e.number k ∷ within g.pages e.page ∷ within durable e.lsn ∷ named ∷ follows ∷ []) 3
         (sym eo ∙ t) in
         let b = entry_of (note_index g v f i) e.page in
         record {
-          written_is = enters (λ (q : Entry). q.written) written same.written_is x.written w
+          written_is = enters (λ (q : Entry). q.written) c.written same.written_is x.written w
               (ap (λ (q : Entry). q.written) ex ∙ noted-written was b e (written_at w));
-          slots-are = enters (λ (q : Entry). q.slot) slots same.slots-are x.slot w
+          slots-are = enters (λ (q : Entry). q.slot) c.slots same.slots-are x.slot w
               (ap (λ (q : Entry). q.slot) ex ∙ noted-slot was b e (slot-at w));
-          backup-is = enters (λ (q : Entry). q.backup) backup same.backup-is x.backup w
+          backup-is = enters (λ (q : Entry). q.backup) c.backup same.backup-is x.backup w
               (ap (λ (q : Entry). q.backup) ex ∙ noted-backup was b e (backup-at w));
         }
 
-    pub entered-more : Entered f i written slots backup → ok ≡ true → (x : Entry) → x ≡ with_note was e
-        → Entered f (i + 1) (set written j x.written) (set slots j x.slot) (set backup j x.backup)
+    pub entered-more : Entered f i c → ok ≡ true → (x : Entry) → x ≡ with_note was e → Entered f (i + 1) (entered c j x)
     entered-more n t x ex =
         record {
           held = every_more (λ z. note_fits g v (note_index g v f z) (f + z)) i n.held (sym note-judged ∙ t);
           same = note-enters t x ex;
-          long = long-set written slots backup n.long j x.written x.slot x.backup;
         }

@@ -7,16 +7,15 @@ use native.Mathlib.Nat.{mod-lt, mod-eq_of_lt, mod-add-mod, mod-eq-sub-mod}
 use native.Mathlib.Omega.{arith}
 use native.Mathlib.Decide.{dec_lt}
 use lib.Dec.{eqb, leb, ltb}
-use lib.ListN.{take, drop, get_or, set}
+use lib.ListN.{get_or, set}
 use lib.Seq.{set-get_or}
 use borrow.Author.Tests.{eqb-true, eqb-false, ltb-false, lt-ltb, le-leb, eq-eqb, ne_eqb}
 use Rattle.laws.proofs.Tables.{by_cases, and_right, or_left, or_right, or-neither, all-holds, when_false, within-bounds, within-holds}
 use Rattle.laws.proofs.Fields.{field-add, field-one, field_below, field-part}
-use Rattle.laws.proofs.Parts.{part-lent}
 use Rattle.model.specs.Tables.{within}
 use Rattle.model.specs.Bytes.{field, part}
 use Rattle.model.specs.Checksum.{sealed}
-use Rattle.model.specs.Geometry.{ring, record_at, note_at, log_slot, note_slot, start, item}
+use Rattle.model.specs.Geometry.{ring, note_at, log_slot, note_slot, start, item}
 use Rattle.model.specs.Item.{record_of, note_of, note_layout}
 use Rattle.model.specs.Index.{with_note}
 use Rattle.model.specs.Scan.{log_record, durable_count, first_held}
@@ -24,8 +23,9 @@ use Rattle.model.specs.declared.geometry.Geometry.{Geometry}
 use Rattle.model.specs.declared.item.Note.{Note}
 use Rattle.section.specs.Sweep.{begun_of}
 use Rattle.log_scan.specs.Rows.{row_of}
-use Rattle.index_rows.specs.Columns.{slot_in}
-use Rattle.index.specs.NotesPassed.{Names, Belongs, row_at, Follows, Enters, BackedUp}
+use Rattle.index_rows.specs.declared.columns.Columns.{Columns}
+use Rattle.index_rows.specs.Columns.{earlier_row, slot_in}
+use Rattle.index.specs.NotesPassed.{Names, Belongs, Follows, BackedUp, with_entered}
 use Rattle.index.specs.NoteSection.{note_after, note_agrees}
 use Rattle.log_scan.specs.LogSwept.{LogCounts}
 use Rattle.log_scan.proofs.RowLaws.{row_is}
@@ -42,19 +42,21 @@ turned-back x d L some few h =
     let m : x % L < L = mod-lt x some in
     sym (mod-add-mod x L d) ∙ mod-eq-sub-mod h ∙ mod-eq_of_lt (omega arith)
 
--- where number n is, of slots of 64 bytes, counted from number f on
-pub near-is : (at L f n from stop r : ℕ) → 1 ≤ f → f ≤ n → n < f + L → from ≡ at + 64 * ((f - 1) % L) → stop ≡ at + 64 * L
-    → (from + 64 * (n - f) < stop → r ≡ from + 64 * (n - f))
-    × (stop ≤ from + 64 * (n - f) → r ≡ from + 64 * (n - f) - (stop - at)) → r ≡ at + 64 * ((n - 1) % L)
-near-is at L f n from stop r some low high ef es step =
-    let q : f - 1 + (n - f) ≡ n - 1 = omega arith in
-    elim (dec_lt ((f - 1) % L + (n - f)) L) [
-      | yes y ↦ let t : (n - 1) % L ≡ (f - 1) % L + (n - f) = ap (λ (x : ℕ). x % L) (sym q) ∙ turned_on (f - 1) (n - f) L y in
-          omega (arith, step.0 (omega arith))
-      | no z ↦ let t : (n - 1) % L ≡ (f - 1) % L + (n - f) - L =
-          ap (λ (x : ℕ). x % L) (sym q) ∙ turned-back (f - 1) (n - f) L (omega arith) (omega arith) (omega arith) in
-          omega (arith, step.1 (omega arith))
-    ]
+-- where number n is, of slots of 64 bytes, counted from number f on: before the turn, and behind it
+module _ (at L f n from stop : ℕ) (some : 1 ≤ f) (low : f ≤ n) (high : n < f + L) (ef : from ≡ at + 64 * ((f - 1) % L)) (es : stop ≡ at + 64 * L) where
+  apart : f - 1 + (n - f) ≡ n - 1
+  apart = omega arith
+
+  pub near-on : from + 64 * (n - f) < stop → from + 64 * (n - f) ≡ at + 64 * ((n - 1) % L)
+  near-on h =
+      let t : (n - 1) % L ≡ (f - 1) % L + (n - f) = ap (λ (x : ℕ). x % L) (sym apart) ∙ turned_on (f - 1) (n - f) L (omega arith) in
+      omega arith
+
+  pub near-back : stop ≤ from + 64 * (n - f) → from + 64 * (n - f) - (stop - at) ≡ at + 64 * ((n - 1) % L)
+  near-back h =
+      let t : (n - 1) % L ≡ (f - 1) % L + (n - f) - L =
+      ap (λ (x : ℕ). x % L) (sym apart) ∙ turned-back (f - 1) (n - f) L (omega arith) (omega arith) (omega arith) in
+      omega arith
 
 -- where the number behind n is, of slots of 16 bytes
 pub next-is : (at L n from end stop r : ℕ) → 1 ≤ n → 1 ≤ L → from ≡ at + 16 * ((n - 1) % L) → end ≡ from + 16 → stop ≡ at + 16 * L
@@ -72,11 +74,11 @@ next-is at L n from end stop r low some ef ee es step =
 
 -- note n, read at its place
 pub note-read : (g : Geometry) (v : List ℕ) (n from : ℕ) → from ≡ start g (note_at 1) + 16 * ((n - 1) % g.notes)
-    → take (from + 16 - from) (drop from v) ≡ item g v (note_slot g n)
+    → part v from 16 ≡ item g v (note_slot g n)
 unfolding item
 note-read g v n from e =
     let q : from ≡ start g (note_slot g n) = omega arith in
-    part-lent v from 16 (from + 16) refl ∙ ap (λ (x : ℕ). part v x 16) q
+    ap (λ (x : ℕ). part v x 16) q
 
 -- ---- a note's fields
 
@@ -116,7 +118,7 @@ module _ (g : Geometry) (v : List ℕ) (f next : ℕ) (h : LogCounts g v f next)
       record { durable = known low; own = or_left _ (lt-ltb _ _ q) }
 
   -- in it
-  pub names_in : f ≤ e.lsn → (k : ℕ) → k ≡ start g (record_at 1) + 64 * ((e.lsn - 1) % g.records) → field 2 (k + 8) v ≡ e.page
+  pub names_in : f ≤ e.lsn → (k : ℕ) → k ≡ start g (log_slot g e.lsn) → field 2 (k + 8) v ≡ e.page
       → Names g v e
   unfolding record_of item
   names_in low k ek ep =
@@ -133,20 +135,19 @@ inside_is most n h =
     let o = or-neither (eqb n 0) (ltb most n) h in
     within-holds most n (omega (arith, eqb-false n 0 o.0)) (ltb-false most n o.1)
 
-pub backed-up : (most j slot lsn : ℕ) (slots backup : List ℕ) (used : Bool)
-    → (ltb lsn (get_or backup j 0) || (eqb slot 0 || ltb most slot)) ≡ false → used ≡ (leb 1 slot && slot_in slot slots) → used ≡ false
-    → BackedUp most j slot lsn slots backup (set slots j slot) (set backup j lsn)
-backed-up most j slot lsn slots backup used h eu free =
-    let o = or-neither (ltb lsn (get_or backup j 0)) (eqb slot 0 || ltb most slot) h in
+pub backed-up : (most j slot lsn : ℕ) (c : Columns) (used : Bool)
+    → (ltb lsn (get_or c.backup j 0) || (eqb slot 0 || ltb most slot)) ≡ false → used ≡ (leb 1 slot && slot_in slot c.slots) → used ≡ false
+    → BackedUp most j slot lsn c (record { last = c.last; written = c.written; slots = set c.slots j slot; backup = set c.backup j lsn })
+backed-up most j slot lsn c used h eu free =
+    let o = or-neither (ltb lsn (get_or c.backup j 0)) (eqb slot 0 || ltb most slot) h in
     record {
-      order = le-leb _ _ (ltb-false lsn (get_or backup j 0) o.0);
+      order = le-leb _ _ (ltb-false lsn (get_or c.backup j 0) o.0);
       inside = inside_is most slot o.1;
       free = sym eu ∙ free;
-      slots-are = refl;
-      backup-is = refl;
+      columns = refl;
     }
 
-module _ (e : Note) (most : ℕ) (written slots backup : List ℕ) where
+module _ (e : Note) (most : ℕ) (c : Columns) where
   abbrev j : ℕ
   j = e.page - 1
 
@@ -154,54 +155,52 @@ module _ (e : Note) (most : ℕ) (written slots backup : List ℕ) where
     is-written : eqb e.kind 1 ≡ true
     is-written = eq-eqb _ _ k
 
-    pub write-follows : e.slot ≡ 0 → get_or written j 0 ≤ e.lsn → Follows e most written slots backup
+    pub write-follows : e.slot ≡ 0 → get_or c.written j 0 ≤ e.lsn → Follows e most c
     unfolding note_layout
-    write-follows z l =
-        record { laid = rw (is-written, eq-eqb _ _ z); after = rw is-written (le-leb _ _ l) }
+    write-follows z l = record { laid = rw (is-written, eq-eqb _ _ z); after = rw is-written (le-leb _ _ l) }
 
-    pub write-enters : (x : List ℕ) → x ≡ set written j e.lsn → Enters e written slots backup x slots backup
-    write-enters x ex =
-        record {
-          written_is = rw is-written ex;
-          slots-are = rw is-written (sym (set-get_or slots j 0));
-          backup-is = rw is-written (sym (set-get_or backup j 0));
-        }
+    pub write-enters : record { last = c.last; written = set c.written j e.lsn; slots = c.slots; backup = c.backup } ≡ with_entered c e
+    write-enters = rw is-written (λ i. record {
+      last = c.last;
+      written = set c.written j e.lsn;
+      slots = sym (set-get_or c.slots j 0) i;
+      backup = sym (set-get_or c.backup j 0) i;
+    })
 
-  module _ (k : e.kind ≡ 2) (y z : List ℕ) (d : BackedUp most j e.slot e.lsn slots backup y z) where
+  module _ (k : e.kind ≡ 2) (d : Columns) (b : BackedUp most j e.slot e.lsn c d) where
     not_written : eqb e.kind 1 ≡ false
     not_written = ne_eqb e.kind 1 (λ q. omega (arith, k, q))
 
-    pub backup-follows : Follows e most written slots backup
+    pub backup-follows : Follows e most c
     unfolding note_layout
     backup-follows =
         record {
           laid = or_right (eqb e.kind 1 && eqb e.slot 0) (eq-eqb _ _ k);
           after = rw not_written (all-holds
-              (leb (get_or backup j 0) e.lsn ∷ within most e.slot ∷ not (leb 1 e.slot && slot_in e.slot slots) ∷ [])
-              (d.order, (d.inside, (ap not d.free, tt))));
+              (leb (get_or c.backup j 0) e.lsn ∷ within most e.slot ∷ not (leb 1 e.slot && slot_in e.slot c.slots) ∷ [])
+              (b.order, (b.inside, (ap not b.free, tt))));
         }
 
-    pub backup-enters : Enters e written slots backup written y z
-    backup-enters =
-        record {
-          written_is = rw not_written (sym (set-get_or written j 0));
-          slots-are = rw not_written d.slots-are;
-          backup-is = rw not_written d.backup-is;
-        }
+    pub backup-enters : d ≡ with_entered c e
+    backup-enters = b.columns ∙ rw not_written (λ i. record {
+      last = c.last;
+      written = sym (set-get_or c.written j 0) i;
+      slots = set c.slots j e.slot;
+      backup = set c.backup j e.lsn;
+    })
 
 -- one note more
-module _ (g : Geometry) (v : List ℕ) (few : g.pages ≤ 64) (f n : ℕ) (low : f ≤ n) (written slots backup : List ℕ)
-    (d : Entered g v f (n - f) written slots backup) (r : List ℕ) (er : r ≡ item g v (note_slot g n)) (whole : sealed 12 r ≡ true)
-    (e : Note) (ee : e ≡ note_of r) (belongs : Belongs g v e n g.pages)
-    (follows : Follows e g.slots written slots backup) where
+module _ (g : Geometry) (v : List ℕ) (few : g.pages ≤ 64) (f n : ℕ) (low : f ≤ n) (c : Columns)
+    (d : Entered g v f (n - f) c) (r : List ℕ) (er : r ≡ item g v (note_slot g n)) (whole : sealed 12 r ≡ true)
+    (e : Note) (ee : e ≡ note_of r) (belongs : Belongs g v e n) (follows : Follows e g.slots c) where
   abbrev used : Bool
-  used = leb 1 e.slot && slot_in e.slot slots
+  used = leb 1 e.slot && slot_in e.slot c.slots
 
   abbrev named : Bool
   named = ltb e.lsn (first_held g v (durable_count g v)) || eqb (log_record g v e.lsn).page e.page
 
   abbrev after : Bool
-  after = note_after (row_at written slots backup (e.page - 1)) e g.slots used
+  after = note_after (earlier_row c (e.page - 1)) e g.slots used
 
   fits : note_agrees (sealed 12 r) e n g.pages (durable_count g v) named after ≡ true
   fits =
@@ -221,12 +220,12 @@ module _ (g : Geometry) (v : List ℕ) (few : g.pages ≤ 64) (f n : ℕ) (low :
   row_here : e.page - 1 ≡ row_of e.page
   row_here = sym (row_is e.page (omega (arith, within-bounds g.pages e.page belongs.inside)))
 
-  pub passed-more : (x y z : List ℕ) → Enters e written slots backup x y z → Entered g v f (n + 1 - f) x y z
-  passed-more x y z t =
+  pub passed-more : (x : Columns) → x ≡ with_entered c e → Entered g v f (n + 1 - f) x
+  passed-more x t =
       let q : n - f + 1 ≡ n + 1 - f = omega arith in
       let k : n ≡ f + (n - f) = omega arith in
-      let was = row_at written slots backup (e.page - 1) in
-      rw (t.written_is, t.slots-are, t.backup-is, ← q)
-      (entered-more g v few f (n - f) written slots backup d.same n k r er e ee (e.page - 1) row_here was refl
+      let was = earlier_row c (e.page - 1) in
+      rw (t, ← q)
+      (entered-more g v few f (n - f) c d.same n k r er e ee (e.page - 1) row_here was refl
       (durable_count g v) (first_held g v (durable_count g v)) refl refl (sealed 12 r) used after named
       (note_agrees (sealed 12 r) e n g.pages (durable_count g v) named after) refl refl refl refl refl d fits (with_note was e) refl)

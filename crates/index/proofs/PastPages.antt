@@ -17,6 +17,7 @@ use Rattle.model.specs.Index.{entry_of, with_note, enter_note}
 use Rattle.model.specs.Scan.{ends_in, note_slots, log_record, note_record, durable_count, first_held, note_count, first_note}
 use Rattle.model.specs.Scan.{note_index, note_follows, note_fits}
 use Rattle.model.specs.declared.{geometry.Geometry.Geometry, state.Entry.Entry}
+use Rattle.index_rows.specs.declared.columns.Columns.{Columns}
 use Rattle.index_rows.specs.Columns.{writtens, Noted, Unwritten}
 use Rattle.index.specs.NoteSection.{noted_index, notes_fit}
 use Rattle.log_scan.proofs.RowLaws.{column-set}
@@ -56,10 +57,9 @@ module _ (g : Geometry) (v : List ℕ) (f : ℕ) where
       ∙ get_or-set_other (writtens l) (e.page - 1) i _ 0 (λ q. omega (arith, w.0, w.1))
       ∙ row-past i h k (and_left (every k fits_at) (fits_at k) t)
 
-pub unwritten : (g : Geometry) (v written slots backup : List ℕ) → notes_fit g v ≡ true → Noted (noted_index g v) written slots backup
-    → Unwritten g.pages written
+pub unwritten : (g : Geometry) (v : List ℕ) (c : Columns) → notes_fit g v ≡ true → Noted (noted_index g v) c → Unwritten g.pages c.written
 unfolding notes_fit
-unwritten g v written slots backup t n =
+unwritten g v c t n =
     let k = note_count g v in
     let f = first_note g v k in
     let h = and_left (every (suc k - f) (fits_at g v f)) (ends_in v (note_slots g v) f k) t in

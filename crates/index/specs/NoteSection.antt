@@ -7,10 +7,10 @@ use Rattle.model.specs.Scan.{valid_run, note_slots, note_count, first_note, note
 use Rattle.model.specs.declared.{geometry.Geometry.Geometry, item.Note.Note}
 use Rattle.model.specs.declared.state.Entry.{Entry}
 use Rattle.section.specs.Section.{front_in}
-use Rattle.section.specs.declared.Section.{Section}
+use Rattle.section.specs.declared.Extent.{Extent}
 use Rattle.section.specs.declared.Run.{Run}
 
-abbrev pub note_section : Geometry → Section
+abbrev pub note_section : Geometry → Extent
 note_section g = record { ring = ring g; at = start g (note_at 1); size = 12; slots = g.notes }
 
 abbrev pub note_run : Geometry → List ℕ → Run

@@ -1,23 +1,21 @@
 // The scan of a volume's log and notes into the page recovery index, for any bytes and without memory or state.
 #![tactic(auto)]
 
-ghost use Rattle.std.specs.Prelude.{◌≡◌, true, ◌≤◌, length, replicate, IfOk};
+ghost use Rattle.std.specs.Prelude.{◌≡◌, true, ◌≤◌, IfOk, IfSome};
 ghost use Rattle.model.specs.Refused.{error_number};
-ghost use Rattle.model.specs.Geometry.{known_magic, geometry_of, valid_volume};
-ghost use Rattle.index_rows.specs.Columns.{Blank, Columns, Wide};
+ghost use Rattle.model.specs.Geometry.{known_magic, geometry_of};
 ghost use Rattle.index.specs.Filled.{Filled, swept_counts};
-ghost use Rattle.index.specs.Scanned.{scan_refusal, column_index, found_of, counts_of, gone_in, scanned_of};
+ghost use Rattle.index.specs.Scanned.{scan_refusal, found_of, counts_of, gone_in, scanned_of};
 
 pub mod notes;
 
-use codec::part;
-use index_rows::columns;
+use index_rows::columns::Columns;
 use log_scan::Swept;
 use model::answer::Refusal;
 use model::geometry::Geometry;
 use model::state::Entry;
 use section::guess;
-use volume::{heading, ring};
+use volume::{Volume, heading, ring};
 
 // What a clean scan counts: the log's run start, and the counts of durable log records and of notes.
 #[derive(Clone, Copy)]
@@ -25,13 +23,6 @@ pub struct Counts {
     pub first: u64,
     pub durable: u32,
     pub notes: u32,
-}
-
-// What one pass gives: whether it tells what the scan is, and what it then counts.
-#[derive(Clone, Copy)]
-pub struct Pass {
-    pub known: bool,
-    pub counts: Counts,
 }
 
 // What a clean scan gives: its counts with the log's run start, and the index.
@@ -57,180 +48,84 @@ pub fn gone(c: Counts) -> bool
     (0 < c.durable) & (1 < c.first)
 }
 
-fn refused(n: u32) -> Counts
-    ensures { result.refusal ≡ n }
-{
-    Counts {
-        refusal: n,
-        first: 0,
-        durable: 0,
-        notes: 0,
-    }
-}
-
-// Sets every number of a column to 0.
-fn clear(column: &mut [u32])
-    ensures { column.new ≡ replicate (length column.old) 0 }
-{
-    let mut i: usize = 0;
-    while i < column.len() {
-        column[i] = 0;
-        i += 1;
-    }
-}
-
-// The columns as they are before a scan.
-fn blank(last: &mut [u32], written: &mut [u32], slots: &mut [u8], backup: &mut [u32])
-    requires { Wide last.old written.old slots.old backup.old }
-    ensures last { last.new ≡ replicate 64 0 }
-    ensures noted { Blank written.new slots.new backup.new }
-{
-    clear(last);
-    clear(written);
-    part::fill(slots, 0);
-    clear(backup);
-}
-
-// What clean sweeps of the log and of the notes count.
-fn total(g: Geometry, records: Swept, numbers: Swept) -> Counts
-    requires { (records.first ≤ records.next) × (1 ≤ records.next) × (1 ≤ numbers.next) }
-    ensures { result ≡ swept_counts g records.first records.next numbers.next }
+// What clean sweeps of the log and of the notes count; `behind`: the number behind the last note.
+fn total(g: Geometry, records: Swept, behind: u32) -> Counts
+    requires { (records.first ≤ records.next) × (1 ≤ records.next) × (1 ≤ behind) }
+    ensures { result ≡ swept_counts g records.first records.next behind }
 {
     let held = records.next - records.first;
     Counts {
-        refusal: 0,
         first: guess::begun(ring::ring(g), records.first, held),
         durable: records.next - 1,
-        notes: numbers.next - 1,
+        notes: behind - 1,
     }
 }
 
-// Scans the log and the notes of a valid volume in one pass each, into columns. What the columns hold where that does
-// not tell means nothing.
-fn fast(
-    volume: &[u8],
-    g: Geometry,
-    last: &mut [u32],
-    written: &mut [u32],
-    slots: &mut [u8],
-    backup: &mut [u32],
-) -> Pass
-    requires volume_value { (valid_volume volume.now ≡ true) × (g ≡ geometry_of volume.now) }
-    requires last_value { last.old ≡ replicate 64 0 }
-    requires blank { Blank written.old slots.old backup.old }
-    ensures known { result.known ≡ true → Filled volume.now result.counts last.new
-        written.new slots.new backup.new }
-    ensures wide { Wide last.new written.new slots.new backup.new }
+// Scans the log and the notes in one pass each, into columns. None where that does not tell what the scan is; what the
+// columns hold then means nothing.
+fn fast(v: &Volume<'_>, c: &mut Columns) -> Option<Result<Counts, Refusal>>
+    requires { c.old ≡ Columns.BLANK }
+    ensures { IfSome result (λ r. Filled v.now.bytes.now r c.new) }
 {
-    let no = refused(18);
-    let unknown = Pass {
-        known: false,
-        counts: no,
-    };
-    let records = log_scan::sweep(volume, g, last);
-    if !records.clean {
-        return unknown;
+    let records = log_scan::sweep(v, &mut c.last)?;
+    let behind = notes::sweep(v, records, c)?;
+    if !c.ordered(v.geometry.pages as usize) {
+        return Some(Err(Refusal::BadNotes));
     }
-    let numbers = notes::sweep(volume, g, records, written, slots, backup);
-    if !numbers.clean {
-        return unknown;
-    }
-    if !columns::ordered(last, written, slots, backup, g.pages as usize) {
-        return Pass {
-            known: true,
-            counts: no,
-        };
-    }
-    Pass {
-        known: true,
-        counts: total(g, records, numbers),
-    }
+    Some(Ok(total(v.geometry, records, behind)))
 }
 
 // The same in two passes each: where the runs lie is found first. This tells of every valid volume.
-fn slow(
-    volume: &[u8],
-    g: Geometry,
-    last: &mut [u32],
-    written: &mut [u32],
-    slots: &mut [u8],
-    backup: &mut [u32],
-) -> Counts
-    requires volume_value { (valid_volume volume.now ≡ true) × (g ≡ geometry_of volume.now) }
-    requires last_value { last.old ≡ replicate 64 0 }
-    requires blank { Blank written.old slots.old backup.old }
-    ensures { Filled volume.now result last.new written.new slots.new
-        backup.new }
+fn slow(v: &Volume<'_>, c: &mut Columns) -> Result<Counts, Refusal>
+    requires { c.old ≡ Columns.BLANK }
+    ensures { Filled v.now.bytes.now result c.new }
 {
-    let records = log_scan::run(volume, g);
-    if !log_scan::scan(volume, g, records, last) {
-        return refused(17);
+    let records = log_scan::run(v);
+    if !log_scan::scan(v, records, &mut c.last) {
+        return Err(Refusal::BadLog);
     }
-    let numbers = notes::run(volume, g);
-    let fit = notes::scan(volume, g, records, numbers, written, slots, backup);
-    if !(fit & columns::ordered(last, written, slots, backup, g.pages as usize)) {
-        return refused(18);
+    let numbers = notes::run(v);
+    let fit = notes::scan(v, records, numbers, c);
+    if !(fit & c.ordered(v.geometry.pages as usize)) {
+        return Err(Refusal::BadNotes);
     }
-    Counts {
-        refusal: 0,
+    Ok(Counts {
         first: records.first,
         durable: records.count,
         notes: numbers.count,
-    }
+    })
 }
 
 // Scans a volume with a known heading and this geometry into columns: refused 1, 17 or 18, or the counts and the
 // columns that its log and notes give.
-fn fill(
-    volume: &[u8],
-    g: Geometry,
-    last: &mut [u32],
-    written: &mut [u32],
-    slots: &mut [u8],
-    backup: &mut [u32],
-) -> Counts
+fn fill(volume: &[u8], g: Geometry, c: &mut Columns) -> Result<Counts, Refusal>
     requires volume_value { (known_magic volume.now ≡ true) × (g ≡ geometry_of volume.now) }
-    requires last_value { last.old ≡ replicate 64 0 }
-    requires blank { Blank written.old slots.old backup.old }
-    ensures refusal { result.refusal ≡ scan_refusal volume.now }
-    ensures counts { result.refusal ≡ 0 → result ≡ counts_of volume.now }
-    ensures columns { result.refusal ≡ 0
-        → Columns (column_index volume.now) last.new written.new slots.new
-        backup.new }
+    requires blank { c.old ≡ Columns.BLANK }
+    ensures { Filled volume.now result c.new }
 {
     if !heading::sound(volume, g) {
-        return refused(1);
+        return Err(Refusal::BadVolume);
     }
-    let once = fast(volume, g, last, written, slots, backup);
-    if once.known {
-        let counts = once.counts;
-        return counts;
+    let v = Volume {
+        bytes: volume,
+        geometry: g,
+    };
+    if let Some(told) = fast(&v, c) {
+        return told;
     }
-    blank(last, written, slots, backup);
-    slow(volume, g, last, written, slots, backup)
+    *c = Columns::BLANK;
+    slow(&v, c)
 }
 
 // The same of any bytes: the heading is compared before a count is read.
-fn read(
-    volume: &[u8],
-    last: &mut [u32],
-    written: &mut [u32],
-    slots: &mut [u8],
-    backup: &mut [u32],
-) -> Counts
-    requires last_value { last.old ≡ replicate 64 0 }
-    requires blank { Blank written.old slots.old backup.old }
-    ensures refusal { result.refusal ≡ scan_refusal volume.now }
-    ensures counts { result.refusal ≡ 0 → result ≡ counts_of volume.now }
-    ensures columns { result.refusal ≡ 0
-        → Columns (column_index volume.now) last.new written.new slots.new
-        backup.new }
+fn read(volume: &[u8], c: &mut Columns) -> Result<Counts, Refusal>
+    requires { c.old ≡ Columns.BLANK }
+    ensures { Filled volume.now result c.new }
 {
     if !heading::known(volume) {
-        return refused(1);
+        return Err(Refusal::BadVolume);
     }
-    let g = heading::geometry(volume);
-    fill(volume, g, last, written, slots, backup)
+    fill(volume, heading::geometry(volume), c)
 }
 
 // Counts what a scan finds, without the index.
@@ -238,11 +133,8 @@ pub fn count(volume: &[u8]) -> Result<Counts, Refusal>
     ensures refusal { error_number result ≡ scan_refusal volume.now }
     ensures counts { IfOk result (λ c. c ≡ counts_of volume.now) }
 {
-    let mut last = [0u32; 64];
-    let mut written = [0u32; 64];
-    let mut slots = [0u8; 64];
-    let mut backup = [0u32; 64];
-    read(volume, &mut last, &mut written, &mut slots, &mut backup)
+    let mut c = Columns::BLANK;
+    read(volume, &mut c)
 }
 
 // Scans a volume.
@@ -250,19 +142,14 @@ pub fn scan(volume: &[u8]) -> Result<Scanned, Refusal>
     ensures refusal { error_number result ≡ scan_refusal volume.now }
     ensures clean { IfOk result (λ s. s ≡ scanned_of volume.now) }
 {
-    let mut last = [0u32; 64];
-    let mut written = [0u32; 64];
-    let mut slots = [0u8; 64];
-    let mut backup = [0u32; 64];
-    let counts = read(volume, &mut last, &mut written, &mut slots, &mut backup);
-    let index = columns::gather(&last, &written, &slots, &backup);
-    Scanned {
-        refusal: counts.refusal,
+    let mut c = Columns::BLANK;
+    let counts = read(volume, &mut c)?;
+    Ok(Scanned {
         first: counts.first,
         durable: counts.durable,
         notes: counts.notes,
-        index,
-    }
+        index: c.gather(),
+    })
 }
 
 // Scans a volume with a known heading and this geometry for one page's entry, without an array of all entries.
@@ -271,15 +158,10 @@ pub fn seek(volume: &[u8], g: Geometry, page: u32) -> Result<Found, Refusal>
     ensures refusal { error_number result ≡ scan_refusal volume.now }
     ensures clean { IfOk result (λ f. f ≡ found_of volume.now page) }
 {
-    let mut last = [0u32; 64];
-    let mut written = [0u32; 64];
-    let mut slots = [0u8; 64];
-    let mut backup = [0u32; 64];
-    let counts = fill(volume, g, &mut last, &mut written, &mut slots, &mut backup);
-    let entry = columns::entry(&last, &written, &slots, &backup, page);
-    Found {
-        refusal: counts.refusal,
+    let mut c = Columns::BLANK;
+    let counts = fill(volume, g, &mut c)?;
+    Ok(Found {
         first: counts.first,
-        entry,
-    }
+        entry: c.entry(page),
+    })
 }

@@ -1,9 +1,9 @@
 // The notes: judged one by one, and what they say of each page.
-ghost use Rattle.std.specs.Prelude.{◌≡◌, true, ◌||◌, eqb, ltb, length};
+ghost use Rattle.std.specs.Prelude.{◌≡◌, true, ◌||◌, eqb, ltb, IfSome};
 ghost use Rattle.model.specs.Scan.{log_record};
-ghost use Rattle.index_rows.specs.Columns.{Blank, Noted, earlier_entry};
+ghost use Rattle.index_rows.specs.Columns.{Blank, Noted};
 ghost use Rattle.index.specs.NotesPassed.{NotesPassed};
-ghost use Rattle.log_scan.specs.LogSection.{Sized, log_run};
+ghost use Rattle.log_scan.specs.LogSection.{log_run};
 ghost use Rattle.index.specs.NoteSection.{note_section, note_run, note_after, note_agrees, noted_index, notes_fit};
 ghost use Rattle.log_scan.specs.LogSwept.{LogCounts};
 ghost use Rattle.index.specs.NotesSwept.{NotesSwept};
@@ -12,56 +12,47 @@ ghost use Rattle.section.specs.Sweep.{Guessed};
 mod entering;
 
 use codec::field;
-use index_rows::{columns, entries};
+use entering::Reach;
+use index_rows::columns::Columns;
+use index_rows::entries;
 use item::note;
-use log_scan::{Passed, Swept};
-use model::geometry::Geometry;
+use log_scan::Swept;
 use model::item::Note;
 use model::state::Entry;
 use section::guess::Guess;
-use section::{Run, Section, guess};
+use section::{Extent, Run, Section, guess};
 use sums::products;
-use volume::{place, ring};
+use volume::{Volume, place, ring};
 
 // Where the notes lie.
-fn locate(g: Geometry) -> Section
-    ensures { result ≡ note_section g }
+fn locate<'a>(v: &Volume<'a>) -> Section<'a>
+    ensures bytes { result.bytes.now ≡ v.now.bytes.now }
+    ensures extent { result.extent ≡ note_section v.now.geometry }
 {
+    let g = v.geometry;
     Section {
-        ring: ring::ring(g),
-        at: place::note_at(g, 1),
-        size: 12,
-        slots: g.notes,
+        bytes: v.bytes,
+        extent: Extent {
+            ring: ring::ring(g),
+            at: place::note_at(g, 1),
+            size: 12,
+            slots: g.notes,
+        },
     }
 }
 
 // The numbers that the notes hold.
-pub fn run(volume: &[u8], g: Geometry) -> Run
-    requires { Sized g volume.now }
-    ensures { result ≡ note_run g volume.now }
+pub fn run(v: &Volume<'_>) -> Run
+    ensures { result ≡ note_run v.now.geometry v.now.bytes.now }
 {
-    section::held(volume, locate(g))
+    locate(v).held()
 }
 
 // The page of record n.
-fn page(volume: &[u8], g: Geometry, n: u32) -> u16
-    requires { Sized g volume.now }
-    ensures { result ≡ (log_record g volume.now n).page }
+fn page(v: &Volume<'_>, n: u32) -> u16
+    ensures { result ≡ (log_record v.now.geometry v.now.bytes.now n).page }
 {
-    field::u16_at(place::record(volume, g, n), 8)
-}
-
-// An entry as earlier notes left it; no note reads or changes the numbers of its records.
-fn earlier(written: u32, slot: u8, backup: u32) -> Entry
-    ensures { result ≡ earlier_entry written slot backup }
-{
-    Entry {
-        last: 0,
-        durable: 0,
-        written,
-        slot,
-        backup,
-    }
+    field::u16_at(v.record(n), 8)
 }
 
 // A note may follow those that gave its page's entry; `used`: its slot is in the index.
@@ -71,17 +62,16 @@ fn follows(e: Entry, n: Note, slots: u32, used: bool) -> bool
     if n.kind == 1 {
         return e.written <= n.lsn;
     }
-    let slot = n.slot as u32;
+    let slot = u32::from(n.slot);
     (e.backup <= n.lsn) & (((1 <= slot) & (slot <= slots)) & !used)
 }
 
 // The note's number is below a log's run from `first` on, where it is not looked up, or that of a record of its page.
-fn agrees(volume: &[u8], g: Geometry, first: u64, n: Note) -> bool
-    requires { Sized g volume.now }
+fn agrees(v: &Volume<'_>, first: u64, n: Note) -> bool
     ensures { result
-        ≡ (ltb n.lsn first || eqb (log_record g volume.now n.lsn).page n.page) }
+        ≡ (ltb n.lsn first || eqb (log_record v.now.geometry v.now.bytes.now n.lsn).page n.page) }
 {
-    ((n.lsn as u64) < first) | (page(volume, g, n.lsn) == n.page)
+    (u64::from(n.lsn) < first) | (page(v, n.lsn) == n.page)
 }
 
 // Note k of a volume with these pages and durable records, whole or not, after earlier ones; `named`: it may name its
@@ -89,146 +79,91 @@ fn agrees(volume: &[u8], g: Geometry, first: u64, n: Note) -> bool
 fn fits(whole: bool, n: Note, k: u32, pages: u32, durable: u32, named: bool, follows: bool) -> bool
     ensures { result ≡ note_agrees whole n k pages durable named follows }
 {
-    let own = n.page as u32;
+    let own = u32::from(n.page);
     let inside = (1 <= own) & (own <= pages);
     let known = (1 <= n.lsn) & (n.lsn <= durable);
     let right = note::layout(n);
     whole & (right & ((n.number == k) & (inside & (known & (named & follows)))))
 }
 
-// Scans the notes after the log's run into the columns of written numbers, slots and backups: whether they keep the
-// restart rule, but for what is judged at the end.
-pub fn scan(
-    volume: &[u8],
-    g: Geometry,
-    log: Run,
-    run: Run,
-    written: &mut [u32],
-    slots: &mut [u8],
-    backup: &mut [u32],
-) -> bool
-    requires sized { Sized g volume.now }
-    requires log_value { (log ≡ log_run g volume.now) × (run ≡ note_run g volume.now) }
-    requires blank { Blank written.old slots.old backup.old }
-    ensures fit { result ≡ notes_fit g volume.now }
-    ensures columns { result ≡ true
-        → Noted (noted_index g volume.now) written.new slots.new backup.new }
+// Scans the notes after the log's run into the columns that they fill: whether they keep the restart rule, but for what
+// is judged at the end.
+pub fn scan(v: &Volume<'_>, log: Run, run: Run, c: &mut Columns) -> bool
+    requires log_value { log ≡ log_run v.now.geometry v.now.bytes.now }
+    requires run_value { run ≡ note_run v.now.geometry v.now.bytes.now }
+    requires blank { Blank c.old }
+    ensures fit { result ≡ notes_fit v.now.geometry v.now.bytes.now }
+    ensures columns { result ≡ true → Noted (noted_index v.now.geometry v.now.bytes.now) c.new }
+    ensures last { c.new.last ≡ c.old.last }
 {
-    let span = section::span(run);
-    let s = locate(g);
-    let mut slot = section::start(run.first, s.slots);
-    for i in 0..span {
+    let g = v.geometry;
+    let s = locate(v);
+    let mut slot = section::start(run.first, g.notes);
+    for i in 0..section::span(run) {
         let k = section::nth(run.first, i);
-        let r = section::item(volume, s, slot);
+        let r = s.item(slot);
         let n = note::read(r);
-        let j = log_scan::row(n.page as u32);
-        let was = earlier(written[j], slots[j], backup[j]);
-        let follows = follows(was, n, g.slots, columns::taken(slots, n.slot as u32));
-        let named = agrees(volume, g, log.first, n);
+        let j = log_scan::row(u32::from(n.page));
+        let was = c.earlier(j);
+        let follows = follows(was, n, g.slots, c.taken(u32::from(n.slot)));
+        let named = agrees(v, log.first, n);
         let whole = section::whole(r, 12, slot, run.front);
         if !fits(whole, n, k, g.pages, log.count, named, follows) {
             return false;
         }
         let e = entries::noted(was, n);
-        written[j] = e.written;
-        slots[j] = e.slot;
-        backup[j] = e.backup;
-        slot = section::after(slot, s.slots);
+        c.enter(j, e);
+        slot = section::after(slot, g.notes);
     }
-    section::ends(volume, s, run)
+    s.ends(run)
 }
 
-// Passes over the notes from a guessed start on, after a log that a sweep found, into the columns: as far as they are
-// whole.
-fn pass(
-    volume: &[u8],
-    g: Geometry,
-    log: Swept,
-    u: Guess,
-    written: &mut [u32],
-    slots: &mut [u8],
-    backup: &mut [u32],
-) -> Passed
-    requires sized { Sized g volume.now }
-    requires log_counts { LogCounts g volume.now log.first log.next }
-    requires guessed { Guessed (note_section g) u }
-    requires blank { Blank written.old slots.old backup.old }
-    ensures passed { result.clean ≡ true
-        → NotesPassed g volume.now u.first result.next written.new slots.new
-        backup.new }
-    ensures wide { (length written.new ≡ 64) × (length slots.new ≡ 64)
-        × (length backup.new ≡ 64) }
+// Passes over the notes from a guessed start on, after a log that a sweep found, into the columns, as far as they are
+// whole: the number behind the last; none where one does not fit.
+fn pass(v: &Volume<'_>, log: Swept, u: Guess, c: &mut Columns) -> Option<u32>
+    requires log_counts { LogCounts v.now.geometry v.now.bytes.now log.first log.next }
+    requires guessed { Guessed (note_section v.now.geometry) u }
+    requires blank { Blank c.old }
+    ensures passed { IfSome result
+        (λ next. NotesPassed v.now.geometry v.now.bytes.now u.first next c.new) }
+    ensures last { c.new.last ≡ c.old.last }
 {
-    let most = g.slots;
-    let l = entering::find_log(g, log);
+    let g = v.geometry;
+    let l = Reach::of(v, log);
     let at = place::note_at(g, 1);
     let stop = at + 16 * (g.notes as usize);
     let past = u.first + g.notes;
     let mut from = at + 16 * (u.slot as usize);
-    let mut n = u.first;
-    while n < past {
-        let end = from + 16;
-        let r = &volume[from..end];
+    for n in u.first..past {
+        let r = place::array(v.bytes, from);
         if !products::note_holds(r) {
-            return Passed {
-                next: n,
-                clean: true,
-            };
+            return Some(n);
         }
         let e = entering::fields(r);
-        if !entering::belongs(volume, g, log, l, e, n, g.pages) {
-            return Passed {
-                next: n,
-                clean: false,
-            };
+        if !l.belongs(e, n) {
+            return None;
         }
-        if !entering::enter(written, slots, backup, most, e) {
-            return Passed {
-                next: n,
-                clean: false,
-            };
+        if !entering::enter(c, g.slots, e) {
+            return None;
         }
-        from = guess::onward(end, at, stop);
-        n += 1;
+        from = guess::onward(from + 16, at, stop);
     }
-    Passed {
-        next: n,
-        clean: true,
-    }
+    Some(past)
 }
 
-// Sweeps the notes after a log that a sweep found, in one pass, into the columns: clean where these are all notes and
-// keep the restart rule, but for what is judged at the end. Where it is not clean, nothing is known of them.
-pub fn sweep(
-    volume: &[u8],
-    g: Geometry,
-    log: Swept,
-    written: &mut [u32],
-    slots: &mut [u8],
-    backup: &mut [u32],
-) -> Swept
-    requires sized { Sized g volume.now }
-    requires log_counts { LogCounts g volume.now log.first log.next }
-    requires blank { Blank written.old slots.old backup.old }
-    ensures swept { result.clean ≡ true
-        → NotesSwept g volume.now result.next written.new slots.new backup.new }
-    ensures wide { (length written.new ≡ 64) × (length slots.new ≡ 64)
-        × (length backup.new ≡ 64) }
+// Sweeps the notes after a log that a sweep found, in one pass, into the columns: the number behind the last where
+// these are all notes and keep the restart rule, but for what is judged at the end. Else nothing is known of them.
+pub fn sweep(v: &Volume<'_>, log: Swept, c: &mut Columns) -> Option<u32>
+    requires log_counts { LogCounts v.now.geometry v.now.bytes.now log.first log.next }
+    requires blank { Blank c.old }
+    ensures swept { IfSome result (λ next. NotesSwept v.now.geometry v.now.bytes.now next c.new) }
+    ensures last { c.new.last ≡ c.old.last }
 {
-    let s = locate(g);
-    let u = guess::guess_start(volume, s);
-    let p = pass(volume, g, log, u, written, slots, backup);
-    let next = p.next;
-    if !p.clean {
-        return Swept {
-            first: u.first,
-            next,
-            clean: false,
-        };
+    let s = locate(v);
+    let u = s.guess_start();
+    let next = pass(v, log, u, c)?;
+    if !s.closed(u.first, next - u.first) {
+        return None;
     }
-    Swept {
-        first: u.first,
-        next,
-        clean: guess::closed(volume, s, u.first, next - u.first),
-    }
+    Some(next)
 }

@@ -6,8 +6,9 @@ use mathlib.Core.List.{List, [], ◌∷◌, map}
 use native.Mathlib.Numerals.{add-one}
 use native.Mathlib.Omega.{arith}
 use lib.Dec.{eqb, leb}
-use lib.ListN.{length, drop, get_or, set, take, replicate, length-map, length-set, length-replicate, drop_of_length-le}
-use lib.ListN.{get_or-map, get_or-eq_default}
+use mir.Val.{bool_byte}
+use lib.ListN.{length, drop, get_or, set, take, replicate, length-map, drop_of_length-le}
+use lib.ListN.{get_or-map}
 use lib.Seq.{drop-cons, map-set_same, take-suc-set, take-suc, take_all}
 use borrow.Author.Tests.{ne_eqb, le-leb}
 use Rattle.laws.proofs.Tables.{by_cases, every-same, or_right}
@@ -19,8 +20,8 @@ use Rattle.model.specs.declared.geometry.Geometry.{Geometry}
 use Rattle.model.specs.declared.item.Note.{Note}
 use Rattle.model.specs.declared.state.Entry.{Entry}
 use Rattle.log_scan.specs.Rows.{lasts}
-use Rattle.index_rows.specs.Columns.{durables, writtens, slots_in, backups, Columns, Blank, column_row, columns_ordered}
-use Rattle.index_rows.specs.Columns.{slot_in, Wide, Unwritten}
+use Rattle.index_rows.specs.declared.columns.Columns.{Columns}
+use Rattle.index_rows.specs.Columns.{durables, writtens, slots_in, backups, ColumnsOf, column_row, columns_ordered, slot_in, Unwritten}
 use Rattle.log_scan.proofs.RowLaws.{column-set}
 
 -- ---- the slot's search
@@ -35,8 +36,12 @@ pub or-none : (found rest : Bool) → rest ≡ false → found ≡ (found || res
 or-none true rest e = refl
 or-none false rest e = sym e
 
+pub one-most : (t : Bool) → bool_byte t ≤ 1
+one-most true = omega arith
+one-most false = omega arith
+
 -- a count is not 0 where something was counted
-counts : (n d : ℕ) (t : Bool) → d ≡ cond t 1 0 → not (eqb (n + d) 0) ≡ (not (eqb n 0) || t)
+counts : (n d : ℕ) (t : Bool) → d ≡ bool_byte t → not (eqb (n + d) 0) ≡ (not (eqb n 0) || t)
 counts n d true e =
     let k : d ≡ 1 = e in
     let z : eqb (n + d) 0 ≡ false = ne_eqb (n + d) 0 (λ q. omega arith) in
@@ -59,26 +64,27 @@ module _ (b : ℕ) (l : List ℕ) (i : ℕ) where
   in_end h = rw (drop_of_length-le l h)
 
   -- a row that is the slot's is counted, and then the count is not 0
-  pub counted_next : (n d : ℕ) → i < length l → d ≡ cond (eqb (get_or l i 0) b) 1 0
+  pub counted_next : (n d : ℕ) → i < length l → d ≡ bool_byte (eqb (get_or l i 0) b)
       → (not (eqb (n + d) 0) || slot_in b (drop (i + 1) l)) ≡ (not (eqb n 0) || slot_in b (drop i l))
   counted_next n d h e = rw (counts n d (eqb (get_or l i 0) b) e) (sym (in-next (not (eqb n 0)) h))
 
 -- ---- rows
 
-module _ (index : List Entry) (last written slots backup : List ℕ) (c : Columns index last written slots backup) where
-  pub row_of : (i : ℕ) → column_row last written slots backup i ≡ settled (get_or index i empty_entry)
+module _ (index : List Entry) (c : Columns) (h : ColumnsOf index c) where
+  pub row_of : (i : ℕ) → column_row c i ≡ settled (get_or index i empty_entry)
   row_of i =
-      let a : get_or last i 0 ≡ (get_or index i empty_entry).last = ap (λ (l : List ℕ). get_or l i 0) (sym c.last-is)
+      let e = get_or index i empty_entry in
+      let a : get_or c.last i 0 ≡ e.last = ap (λ (l : List ℕ). get_or l i 0) (sym h.last-is)
       ∙ get_or-map (λ (e : Entry). e.last) index i empty_entry in
-      let d : get_or last i 0 ≡ (get_or index i empty_entry).durable = ap (λ (l : List ℕ). get_or l i 0) (sym c.durable-is)
+      let d : get_or c.last i 0 ≡ e.durable = ap (λ (l : List ℕ). get_or l i 0) (sym h.durable-is)
       ∙ get_or-map (λ (e : Entry). e.durable) index i empty_entry in
-      let w : get_or written i 0 ≡ (get_or index i empty_entry).written = ap (λ (l : List ℕ). get_or l i 0) (sym c.noted.written_is)
+      let w : get_or c.written i 0 ≡ e.written = ap (λ (l : List ℕ). get_or l i 0) (sym h.noted.written_is)
       ∙ get_or-map (λ (e : Entry). e.written) index i empty_entry in
-      let s : get_or slots i 0 ≡ (get_or index i empty_entry).slot = ap (λ (l : List ℕ). get_or l i 0) (sym c.noted.slots-are)
+      let s : get_or c.slots i 0 ≡ e.slot = ap (λ (l : List ℕ). get_or l i 0) (sym h.noted.slots-are)
       ∙ get_or-map (λ (e : Entry). e.slot) index i empty_entry in
-      let b : get_or backup i 0 ≡ (get_or index i empty_entry).backup = ap (λ (l : List ℕ). get_or l i 0) (sym c.noted.backup-is)
+      let b : get_or c.backup i 0 ≡ e.backup = ap (λ (l : List ℕ). get_or l i 0) (sym h.noted.backup-is)
       ∙ get_or-map (λ (e : Entry). e.backup) index i empty_entry in
-      same (get_or index i empty_entry) (get_or last i 0) (get_or written i 0) (get_or slots i 0) (get_or backup i 0) a d w s b
+      same e (get_or c.last i 0) (get_or c.written i 0) (get_or c.slots i 0) (get_or c.backup i 0) a d w s b
     where
       same : (x : Entry) (a w s b : ℕ) → a ≡ x.last → a ≡ x.durable → w ≡ x.written → s ≡ x.slot → b ≡ x.backup
           → ◌≡◌ {A = Entry}
@@ -92,67 +98,56 @@ module _ (index : List Entry) (last written slots backup : List ℕ) (c : Column
           plain x a w s b ea ed ew es eb = λ i. record { last = ea i; durable = ed i; written = ew i; slot = es i; backup = eb i }
 
   -- and so it is the settled index's
-  pub settled-row : (i : ℕ) → column_row last written slots backup i ≡ get_or (map settled index) i empty_entry
+  pub settled-row : (i : ℕ) → column_row c i ≡ get_or (map settled index) i empty_entry
   settled-row i = row_of i ∙ sym (get_or-map settled index i empty_entry)
 
-  pub ordered-is : columns_ordered last written slots backup
+  pub ordered-is : columns_ordered c
       ≡ every 64 (λ i. leb (entry_row (map settled index) i).written (entry_row (map settled index) i).last)
   unfolding columns_ordered
   ordered-is = every-same _ _ 64 (λ i b. ap (λ (e : Entry). leb e.written e.last) (settled-row i))
 
-  pub index-length : length index ≡ length last
-  index-length = sym (length-map index (λ (e : Entry). e.last)) ∙ ap length c.last-is
+  pub index-length : length index ≡ length c.last
+  index-length = sym (length-map index (λ (e : Entry). e.last)) ∙ ap length h.last-is
 
   -- i rows are made
   pub gathered-more : (made : List Entry) (i : ℕ) (x : Entry) → i < length made → i < length index
-      → take i made ≡ take i (map settled index) → x ≡ column_row last written slots backup i
+      → take i made ≡ take i (map settled index) → x ≡ column_row c i
       → take (i + 1) (set made i x) ≡ take (i + 1) (map settled index)
-  gathered-more made i x h k e ex =
+  gathered-more made i x b k e ex =
       let l : i < length (map settled index) = omega (arith, length-map index settled) in
-      rw (add-one, take-suc-set made i x h, e, ex, settled-row i, take-suc (map settled index) i empty_entry l)
+      rw (add-one, take-suc-set made i x b, e, ex, settled-row i, take-suc (map settled index) i empty_entry l)
 
-  pub gathered-all : length last ≡ 64 → (made : List Entry) (i : ℕ) → i ≡ 64 → length made ≡ 64 → take i made ≡ take i (map settled index)
+  pub gathered-all : length c.last ≡ 64 → (made : List Entry) (i : ℕ) → i ≡ 64 → length made ≡ 64 → take i made ≡ take i (map settled index)
       → made ≡ map settled index
-  gathered-all h made i e l q =
+  gathered-all k made i e l q =
       sym (take_all i made (omega arith)) ∙ q ∙ take_all i (map settled index) (omega (arith, index-length, length-map index settled))
-
--- past the last row
-pub row-past : (last written slots backup : List ℕ) → Wide last written slots backup → (i : ℕ) → 64 ≤ i
-    → empty_entry ≡ column_row last written slots backup i
-row-past last written slots backup w i h =
-    rw (
-      get_or-eq_default last 0 {n = i} (omega (arith, w.last-wide)),
-      get_or-eq_default written 0 {n = i} (omega (arith, w.written-wide)),
-      get_or-eq_default slots 0 {n = i} (omega (arith, w.slots-wide)),
-      get_or-eq_default backup 0 {n = i} (omega (arith, w.backup-wide)),
-    )
 
 and-unit : (x : Bool) → (x && true) ≡ x
 and-unit true = refl
 and-unit false = refl
 
 -- no written number above its page's last, row by row
-module _ (last written slots backup : List ℕ) where
+module _ (c : Columns) where
   abbrev ordered_at : ℕ → Bool
-  ordered_at i = leb (column_row last written slots backup i).written (column_row last written slots backup i).last
+  ordered_at i = leb (column_row c i).written (column_row c i).last
 
-  pub ordered-next : (i : ℕ) (sound : Bool) (e : Entry) → sound ≡ every i ordered_at → e ≡ column_row last written slots backup i
+  pub ordered-next : (i : ℕ) (sound : Bool) (e : Entry) → sound ≡ every i ordered_at → e ≡ column_row c i
       → (sound && leb e.written e.last) ≡ every (i + 1) ordered_at
   unfolding every
   ordered-next i sound e h q = rw (add-one, h, q)
 
   -- rows in which nothing is written
-  ordered-past : (pages d : ℕ) → Unwritten pages written → every (pages + d) ordered_at ≡ every pages ordered_at
+  ordered-past : (pages d : ℕ) → Unwritten pages c.written → every (pages + d) ordered_at ≡ every pages ordered_at
   unfolding every
   ordered-past pages zero u = let e : pages + 0 ≡ pages = omega arith in rw e
   ordered-past pages (suc d) u =
       let e : pages + suc d ≡ suc (pages + d) = omega arith in
-      let w : get_or written (pages + d) 0 ≡ 0 = u.unwritten (pages + d) (omega arith) in
-      let t : ordered_at (pages + d) ≡ true = rw w (le-leb 0 (column_row last written slots backup (pages + d)).last (omega arith)) in
+      let w : get_or c.written (pages + d) 0 ≡ 0 = u.unwritten (pages + d) (omega arith) in
+      let t : ordered_at (pages + d) ≡ true = rw w (le-leb 0 (column_row c (pages + d)).last (omega arith)) in
       rw (e, t) (and-unit (every (pages + d) ordered_at) ∙ ordered-past pages d u)
 
-  pub ordered-all : (pages : ℕ) → pages ≤ 64 → Unwritten pages written → (i : ℕ) (sound : Bool) → i ≡ pages → sound ≡ every i ordered_at
-      → sound ≡ columns_ordered last written slots backup
+  pub ordered-all : (pages : ℕ) → pages ≤ 64 → Unwritten pages c.written → (i : ℕ) (sound : Bool) → i ≡ pages → sound ≡ every i ordered_at
+      → sound ≡ columns_ordered c
   unfolding columns_ordered
   ordered-all pages few u i sound e h =
       let s : 64 ≡ pages + (64 - pages) = omega arith in
@@ -212,27 +207,3 @@ module _ (a b : Entry) (n : Note) where
 
   pub noted-backup : a.backup ≡ b.backup → (with_note a n).backup ≡ (with_note b n).backup
   noted-backup h = by_cases (is_written n) (λ t. rw t h) (λ t. rw t)
-
--- ---- the lengths of the notes' columns
-
-pub record Long (written slots backup : List ℕ) : Type 0 where
-  pub written-long : length written ≡ 64
-  pub slots-long : length slots ≡ 64
-  pub backup-long : length backup ≡ 64
-
-module _ (written slots backup : List ℕ) where
-  pub blank-long : Blank written slots backup → Long written slots backup
-  blank-long b =
-      record {
-        written-long = ap length b.written_none ∙ length-replicate {A = ℕ} 64 0;
-        slots-long = ap length b.slots-none ∙ length-replicate {A = ℕ} 64 0;
-        backup-long = ap length b.backup-none ∙ length-replicate {A = ℕ} 64 0;
-      }
-
-  pub long-set : Long written slots backup → (i w s b : ℕ) → Long (set written i w) (set slots i s) (set backup i b)
-  long-set l i w s b =
-      record {
-        written-long = length-set written i w ∙ l.written-long;
-        slots-long = length-set slots i s ∙ l.slots-long;
-        backup-long = length-set backup i b ∙ l.backup-long;
-      }

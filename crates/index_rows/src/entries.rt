@@ -19,8 +19,7 @@ pub fn entry(index: [Entry; 64], page: u32) -> Entry
     ensures { result ≡ entry_of index page }
 {
     if page <= 64 {
-        let i = log_scan::row(page);
-        index[i]
+        index[log_scan::row(page)]
     } else {
         EMPTY
     }
@@ -30,15 +29,7 @@ pub fn entry(index: [Entry; 64], page: u32) -> Entry
 pub fn used(index: [Entry; 64], slot: u32) -> bool
     ensures { result ≡ slot_used slot index }
 {
-    let mut i: usize = 0;
-    while i < 64 {
-        let e = index[i];
-        if e.slot as u32 == slot {
-            return true;
-        }
-        i += 1;
-    }
-    false
+    index.iter().any(|e| u32::from(e.slot) == slot)
 }
 
 // An entry with a note entered.
@@ -47,19 +38,14 @@ pub fn noted(e: Entry, n: Note) -> Entry
 {
     if n.kind == 1 {
         Entry {
-            last: e.last,
-            durable: e.durable,
             written: n.lsn,
-            slot: e.slot,
-            backup: e.backup,
+            ..e
         }
     } else {
         Entry {
-            last: e.last,
-            durable: e.durable,
-            written: e.written,
             slot: n.slot,
             backup: n.lsn,
+            ..e
         }
     }
 }
@@ -69,8 +55,7 @@ pub fn enter(mut index: [Entry; 64], n: Note) -> [Entry; 64]
     requires { (1 ≤ n.page) × (n.page ≤ 64) }
     ensures { result ≡ enter_note index n }
 {
-    let i = log_scan::row(n.page as u32);
-    let e = index[i];
-    index[i] = noted(e, n);
+    let i = log_scan::row(u32::from(n.page));
+    index[i] = noted(index[i], n);
     index
 }

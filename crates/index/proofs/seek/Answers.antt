@@ -1,7 +1,13 @@
 -- `index::seek` meets its contract: the columns are those of the index.
-use Rattle.index.proofs.Whole.{finds}
+use mathlib.Core.Path.{ap, ◌∙◌}
+use Prim.Native.Nat.{◌-◌}
+use Rattle.index.specs.declared.Counts.{Counts}
+use Rattle.index_rows.proofs.ColumnLaws.{settled-row}
 use Rattle.index.proofs.seek.Goals as goal
 
-pub returns : goal.returns
-returns c = let f = c.fill-counts in
-    record { refusal = f.ensures.refusal; clean = λ z. finds _ _ _ _ _ _ _ _ (f.ensures.counts z) (f.ensures.columns z) c.entry-entry.ensures }
+pub returns-clause-clean : goal.returns-clause-clean
+returns-clause-clean c =
+    let f = c.in_ok-counts.ensures in
+    let first = ap (λ (k : Counts). k.first) f.counts in
+    let entry = c.entry.ensures ∙ settled-row _ _ f.columns (c.args.page - 1) in
+    λ i. record { first = first i; entry = entry i }

@@ -4,186 +4,91 @@ use mathlib.Core.Path.{◌≡◌, refl, sym, ap, ◌∙◌}
 use Prim.Native.Nat.{ℕ, ◌+◌, ◌-◌, ◌*◌, ◌%◌, ◌≤◌, ◌<◌}
 use native.Mathlib.Nat.{mod-lt}
 use native.Mathlib.Omega.{arith}
-use lib.ListN.{length, take, drop}
-use Rattle.laws.proofs.Parts.{lent_length}
-use Rattle.laws.proofs.Tables.{true-not-false, within-bounds}
+use lib.ListN.{length}
+use Rattle.laws.proofs.Tables.{within-bounds}
 use Rattle.model.specs.Checksum.{sealed}
 use Rattle.model.specs.Geometry.{note_at, note_slot, start, item}
+use Rattle.log_scan.specs.LogSection.{Sized}
+use Rattle.log_scan.proofs.Located.{sized}
 use Rattle.index.specs.NotesPassed.{Belongs}
-use Rattle.index_rows.proofs.ColumnLaws.{Long, blank-long}
 use Rattle.index.proofs.NotePass.{entered-none}
 use Rattle.index.proofs.NoteSweep.{next-is, note-read, passed-more}
-use Rattle.index.proofs.notes.pass.Goals.{At-loop-n, Else-not-belongs, In-loop-n}
+use Rattle.index.proofs.notes.pass.Goals.{Start, In-loop-n, After-array-r, Else-not-belongs}
 use Rattle.index.proofs.notes.pass.Goals as goal
 
--- where a note is looked for, there is a slot for it
-some : (c : In-loop-n) → 1 ≤ c.args.g.notes
-some c = omega (arith, c.loop-n-test.true, c.loop-n.invariant.0)
+sizes : (c : Start) → Sized c.args.v.now.geometry c.args.v.now.bytes.now
+sizes c = sized _ _ c.args.v.now.valid c.args.v.now.read
 
-here : (c : In-loop-n) → c.loop-n.from ≡ start c.args.g (note_at 1) + 16 * ((c.loop-n.n - 1) % c.args.g.notes)
-here c = c.loop-n.invariant.2 (some c)
+-- the next note is looked for at its number's place, which is in the volume
+here : (c : In-loop-n) → let g = c.args.v.now.geometry in c.loop-n.from ≡ start g (note_at 1) + 16 * ((c.loop-n.n - 1) % g.notes)
+here c = c.loop-n.invariant.place (omega arith)
 
--- it is in the volume
-room : (c : In-loop-n) → c.loop-n.from + 16 ≤ length c.args.volume.now
+room : (c : In-loop-n) → c.loop-n.from + 16 ≤ length c.args.v.now.bytes.now
 room c =
-    let m : (c.loop-n.n - 1) % c.args.g.notes < c.args.g.notes = mod-lt (c.loop-n.n - 1) (some c) in
-    omega (arith, here c, c.requires.sized.size)
+    let g = c.args.v.now.geometry in
+    let z = sized _ _ c.args.v.now.valid c.args.v.now.read in
+    let m : (c.loop-n.n - 1) % g.notes < g.notes = mod-lt (c.loop-n.n - 1) (omega arith) in
+    omega (arith, here c, z.size)
 
-read : (c : In-loop-n) → let f = c.loop-n.from in
-    take (f + 16 - f) (drop f c.args.volume.now) ≡ item c.args.g c.args.volume.now (note_slot c.args.g c.loop-n.n)
-read c = note-read c.args.g c.args.volume.now c.loop-n.n c.loop-n.from (here c)
+read : (c : After-array-r) → let v = c.args.v.now in c.array-r.result.now ≡ item v.geometry v.bytes.now (note_slot v.geometry c.loop-n.n)
+read c = c.array-r.ensures ∙ note-read _ _ _ _ (c.loop-n.invariant.place (omega arith))
 
--- the columns keep their lengths
-entry-long : (c : At-loop-n)
-    → Long c.args.written.now c.args.slots.now c.args.backup.now
-entry-long c = blank-long _ _ _ c.requires.blank
-
-belonging : (c : Else-not-belongs) → Belongs c.args.g c.args.volume.now c.fields-e.result c.loop-n.n c.args.g.pages
-belonging c = c.belongs.ensures c.if-not-belongs.false
-
-pub find_log-l-requires : goal.find_log-l-requires
-find_log-l-requires c = let p = c.requires in (p.log_counts.some, p.sized.some)
+belonging : (c : Else-not-belongs) → Belongs c.args.v.now.geometry c.args.v.now.bytes.now c.fields-e.result c.loop-n.n
+belonging c = rw c.of-l.ensures at (c.belongs.ensures c.if-not-belongs.false)
 
 pub overflow_add-stop : goal.overflow_add-stop
-overflow_add-stop c = let p = c.requires in
-    omega (arith, c.note_at-at.ensures, p.sized.pages, p.sized.slots, p.sized.records, p.sized.notes)
+overflow_add-stop c =
+    let z = sizes (goal.at.overflow_add-stop c).Start in omega (arith, c.note_at-at.ensures, z.pages, z.slots, z.records, z.notes)
 
 pub overflow_add-past : goal.overflow_add-past
-overflow_add-past c = let p = c.requires in
-    omega (arith, p.guessed.low, p.sized.notes)
+overflow_add-past c =
+    let z = sizes (goal.at.overflow_add-past c).Start in omega (arith, c.requires.guessed.low, z.notes)
 
 pub overflow_add-from : goal.overflow_add-from
-overflow_add-from c = let p = c.requires in
-    omega (arith, c.note_at-at.ensures, p.sized.pages, p.sized.slots, p.sized.records)
+overflow_add-from c =
+    let z = sizes (goal.at.overflow_add-from c).Start in omega (arith, c.note_at-at.ensures, z.pages, z.slots, z.records)
 
 pub loop-n-init : goal.loop-n-init
 loop-n-init c =
     let u = c.args.u in
-    let h = c.requires.guessed in
-    let z : u.first - u.first ≡ 0 = omega arith in (
-      omega arith,
-      omega arith,
-      λ m. omega (arith, c.note_at-at.ensures, h.place m),
-      rw z (entered-none _ _ _ _ _ _ c.requires.blank),
-    )
-
-pub overflow_add-end : goal.overflow_add-end
-overflow_add-end c = let p = c.requires.sized in omega (arith, room c, p.size, p.pages, p.slots, p.records, p.notes)
-
-pub slice_bounds-r-end : goal.slice_bounds-r-end
-slice_bounds-r-end c = omega (arith, room c)
-
-pub note_holds-requires : goal.note_holds-requires
-note_holds-requires c = lent_length _ _ 16 (room (goal.at.note_holds-requires c).In-loop-n)
-
-pub shape_of-written-then-not-note_holds : goal.shape_of-written-then-not-note_holds
-shape_of-written-then-not-note_holds c = c.loop-n.invariant.3.long.written-long ∙ sym (entry-long (goal.at.shape_of-written-then-not-note_holds c).At-loop-n).written-long
-
-pub shape_of-slots-then-not-note_holds : goal.shape_of-slots-then-not-note_holds
-shape_of-slots-then-not-note_holds c = c.loop-n.invariant.3.long.slots-long ∙ sym (entry-long (goal.at.shape_of-slots-then-not-note_holds c).At-loop-n).slots-long
-
-pub shape_of-backup-then-not-note_holds : goal.shape_of-backup-then-not-note_holds
-shape_of-backup-then-not-note_holds c = c.loop-n.invariant.3.long.backup-long ∙ sym (entry-long (goal.at.shape_of-backup-then-not-note_holds c).At-loop-n).backup-long
-
-pub returns-then-not-note_holds : goal.returns-then-not-note_holds
-returns-then-not-note_holds c =
-    let l = c.loop-n.invariant in record {
-      passed = λ t. record {
-        order = l.0;
-        few = l.1;
-        held = l.3.held;
-        noted = l.3.same;
-        torn = λ h. ap (sealed 12) (sym (read (goal.at.returns-then-not-note_holds c).In-loop-n)) ∙ sym c.note_holds.ensures ∙ c.if-not-note_holds.true;
-      };
-      wide = (c.loop-n.invariant.3.long.written-long, c.loop-n.invariant.3.long.slots-long, c.loop-n.invariant.3.long.backup-long);
+    let z : u.first - u.first ≡ 0 = omega arith in
+    record {
+      place = λ m. omega (arith, c.note_at-at.ensures, c.requires.guessed.place m);
+      entered = rw z (entered-none _ _ _ _ c.requires.blank);
+      last = refl;
     }
 
-pub fields-e-requires : goal.fields-e-requires
-fields-e-requires c = lent_length _ _ 16 (room (goal.at.fields-e-requires c).In-loop-n)
+pub array-r-requires : goal.array-r-requires
+array-r-requires c = (omega arith, room (goal.at.array-r-requires c).In-loop-n)
 
-pub belongs-requires : goal.belongs-requires
-belongs-requires c =
-    record { sized = c.requires.sized; log_counts = c.requires.log_counts; reaches = c.find_log-l.ensures }
-
-pub shape_of-written-then-not-belongs : goal.shape_of-written-then-not-belongs
-shape_of-written-then-not-belongs c = c.loop-n.invariant.3.long.written-long ∙ sym (entry-long (goal.at.shape_of-written-then-not-belongs c).At-loop-n).written-long
-
-pub shape_of-slots-then-not-belongs : goal.shape_of-slots-then-not-belongs
-shape_of-slots-then-not-belongs c = c.loop-n.invariant.3.long.slots-long
-    ∙ sym (entry-long (goal.at.shape_of-slots-then-not-belongs c).At-loop-n).slots-long
-
-pub shape_of-backup-then-not-belongs : goal.shape_of-backup-then-not-belongs
-shape_of-backup-then-not-belongs c = c.loop-n.invariant.3.long.backup-long ∙ sym (entry-long (goal.at.shape_of-backup-then-not-belongs c).At-loop-n).backup-long
-
-pub returns-then-not-belongs : goal.returns-then-not-belongs
-returns-then-not-belongs c =
-    record { passed = λ t. absurd (true-not-false t refl); wide = (c.loop-n.invariant.3.long.written-long, c.loop-n.invariant.3.long.slots-long, c.loop-n.invariant.3.long.backup-long) }
+pub returns-then-not-note_holds-clause-passed : goal.returns-then-not-note_holds-clause-passed
+returns-then-not-note_holds-clause-passed c =
+    let l = c.loop-n.invariant in record {
+      order = omega arith;
+      few = omega arith;
+      held = l.entered.held;
+      noted = l.entered.same;
+      torn = λ h. ap (sealed 12) (sym (read (goal.at.returns-then-not-note_holds-clause-passed c).After-array-r))
+          ∙ sym c.note_holds.ensures ∙ c.if-not-note_holds.true;
+    }
 
 pub enter-requires : goal.enter-requires
 enter-requires c =
-    let w = within-bounds _ _ (belonging (goal.at.enter-requires c).Else-not-belongs).inside in record { written_len = (c.loop-n.invariant.3.long.written-long, c.loop-n.invariant.3.long.slots-long, c.loop-n.invariant.3.long.backup-long); le_page = (w.0, omega (arith, w.1, c.requires.sized.pages)) }
-
-pub shape_of-written-then-not-enter : goal.shape_of-written-then-not-enter
-shape_of-written-then-not-enter c =
-    c.enter.auto.written ∙ c.loop-n.invariant.3.long.written-long ∙ sym (entry-long (goal.at.shape_of-written-then-not-enter c).At-loop-n).written-long
-
-pub shape_of-slots-then-not-enter : goal.shape_of-slots-then-not-enter
-shape_of-slots-then-not-enter c =
-    c.enter.auto.slots ∙ c.loop-n.invariant.3.long.slots-long ∙ sym (entry-long (goal.at.shape_of-slots-then-not-enter c).At-loop-n).slots-long
-
-pub shape_of-backup-then-not-enter : goal.shape_of-backup-then-not-enter
-shape_of-backup-then-not-enter c =
-    c.enter.auto.backup ∙ c.loop-n.invariant.3.long.backup-long ∙ sym (entry-long (goal.at.shape_of-backup-then-not-enter c).At-loop-n).backup-long
-
-pub returns-then-not-enter : goal.returns-then-not-enter
-returns-then-not-enter c =
-    let k = c.enter.auto in
-    let l = c.loop-n.invariant.3.long in
-    record { passed = λ t. absurd (true-not-false t refl); wide = (k.written ∙ l.written-long, k.slots ∙ l.slots-long, k.backup ∙ l.backup-long) }
-
-pub overflow_add-n : goal.overflow_add-n
-overflow_add-n c =
-    let p = c.requires in
-    omega (arith, c.loop-n-test.true, p.guessed.low, p.sized.notes)
-
-pub loop-n-smaller : goal.loop-n-smaller
-loop-n-smaller c = omega (arith, c.loop-n-test.true)
+    let p = goal.at.enter-requires c in
+    let w = within-bounds _ _ (belonging p.Else-not-belongs).inside in
+    (w.0, omega (arith, w.1, (sizes p.Start).pages))
 
 pub loop-n-preserved : goal.loop-n-preserved
 loop-n-preserved c =
-    let p = c.requires in
-    let e = c.fields-e in
-    let t = c.if-not-enter.false in (
-      omega (arith, c.loop-n.invariant.0),
-      omega (arith, c.loop-n-test.true),
-      λ m. next-is (start c.args.g (note_at 1)) c.args.g.notes c.loop-n.n c.loop-n.from _ _ _
-          (omega (arith, c.loop-n.invariant.0, p.guessed.some)) m
-          (here (goal.at.loop-n-preserved c).In-loop-n) refl (ap (λ (y : ℕ). y + 16 * c.args.g.notes) c.note_at-at.ensures)
-          (λ q. c.onward-from.ensures.0 q ∙ c.note_at-at.ensures, c.onward-from.ensures.1),
-      passed-more c.args.g c.args.volume.now p.sized.pages _ c.loop-n.n c.loop-n.invariant.0 _ _ _ c.loop-n.invariant.3 _ (read (goal.at.loop-n-preserved c).In-loop-n)
-          (sym c.note_holds.ensures ∙ c.if-not-note_holds.false) e.result e.ensures
-          (belonging (goal.at.loop-n-preserved c).Else-not-belongs) (c.enter.ensures.follows t) _ _ _
-          (c.enter.ensures.enters t),
-    )
-
-pub shape_of-written : goal.shape_of-written
-shape_of-written c = c.loop-n.invariant.3.long.written-long ∙ sym (entry-long (goal.at.shape_of-written c).At-loop-n).written-long
-
-pub shape_of-slots : goal.shape_of-slots
-shape_of-slots c = c.loop-n.invariant.3.long.slots-long ∙ sym (entry-long (goal.at.shape_of-slots c).At-loop-n).slots-long
-
-pub shape_of-backup : goal.shape_of-backup
-shape_of-backup c = c.loop-n.invariant.3.long.backup-long ∙ sym (entry-long (goal.at.shape_of-backup c).At-loop-n).backup-long
-
-pub returns : goal.returns
-returns c =
-    let l = c.loop-n.invariant in record {
-      passed = λ t. record {
-        order = l.0;
-        few = l.1;
-        held = l.3.held;
-        noted = l.3.same;
-        torn = λ h. absurd (omega (arith, c.loop-n-test.false));
-      };
-      wide = (c.loop-n.invariant.3.long.written-long, c.loop-n.invariant.3.long.slots-long, c.loop-n.invariant.3.long.backup-long);
+    let p = goal.at.loop-n-preserved c in
+    let g = c.args.v.now.geometry in
+    let t = c.if-not-enter.false in
+    record {
+      place = λ m. next-is (start g (note_at 1)) g.notes c.loop-n.n c.loop-n.from _ _ _ (omega (arith, c.requires.guessed.some)) m
+          (here p.In-loop-n) refl (ap (λ (y : ℕ). y + 16 * g.notes) c.note_at-at.ensures)
+          (λ q. c.onward-from.ensures.0 q ∙ c.note_at-at.ensures, c.onward-from.ensures.1);
+      entered = passed-more g c.args.v.now.bytes.now (sizes p.Start).pages _ c.loop-n.n (omega arith) _ c.loop-n.invariant.entered
+          _ (read p.After-array-r) (sym c.note_holds.ensures ∙ c.if-not-note_holds.false) c.fields-e.result c.fields-e.ensures
+          (belonging p.Else-not-belongs) (c.enter.ensures.follows t) _ (c.enter.ensures.enters t);
+      last = c.enter.ensures.last ∙ c.loop-n.invariant.last;
     }

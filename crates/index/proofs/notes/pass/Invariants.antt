@@ -8,8 +8,9 @@ use Rattle.index.proofs.notes.pass.Given as goal
 
 abbrev pub invariant-loop-n : goal.invariant-loop-n
 invariant-loop-n l =
-    (l.initial.n ≤ l.n) × (l.n ≤ l.past) × (1 ≤ l.g.notes → l.from ≡ start l.g (note_at 1) + 16 * ((l.n - 1) % l.g.notes))
-    × Entered l.g l.volume l.initial.n (l.n - l.initial.n) l.written l.slots l.backup
-
-abbrev pub decreases-loop-n : goal.decreases-loop-n
-decreases-loop-n l = l.past - l.n
+    let g = l.v.geometry in
+    record {
+      place : 1 ≤ g.notes → l.from ≡ start g (note_at 1) + 16 * ((l.n - 1) % g.notes);
+      entered : Entered g l.v.bytes.now l.fn.u.first (l.n - l.fn.u.first) l.c;
+      last : l.c.last ≡ l.fn.c.last;
+    }

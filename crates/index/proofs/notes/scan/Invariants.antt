@@ -6,7 +6,9 @@ use Rattle.index.proofs.notes.scan.Given as goal
 
 abbrev pub invariant-loop-i : goal.invariant-loop-i
 invariant-loop-i l =
-    (l.i ≤ l.span) × Entered l.g l.volume l.run.first l.i l.written l.slots l.backup × (1 ≤ l.g.notes → l.slot ≡ (l.run.first + l.i - 1) % l.g.notes)
-
-abbrev pub decreases-loop-i : goal.decreases-loop-i
-decreases-loop-i l = l.span - l.i
+    let g = l.v.geometry in
+    record {
+      entered : Entered g l.v.bytes.now l.run.first l.i l.c;
+      place : 1 ≤ g.notes → l.slot ≡ (l.run.first + l.i - 1) % g.notes;
+      last : l.c.last ≡ l.fn.c.last;
+    }

@@ -1,22 +1,12 @@
-use mathlib.Core.Path.{sym, ◌∙◌}
-use borrow.Author.Rules.{rules}
-use Rattle.index_rows.proofs.EntryLaws.{used-here, used-on, used-end}
+-- `index_rows::entries::used` meets its contract.
+use Rattle.std.proofs.Common.{rules, tests, eqb, ◌∙◌}
+use Rattle.std.proofs.lemmas.Iterator.{YieldsList-from_slice}
+use Rattle.std.proofs.lemmas.Iterator.Search.{any_from_yields_List}
+use Rattle.model.specs.declared.state.Entry.{Entry}
+use Rattle.index_rows.proofs.EntryLaws.{used-any}
 use Rattle.index_rows.proofs.entries.used.Goals as goal
-
-pub returns-then-e-slot : goal.returns-then-e-slot
-returns-then-e-slot c =
-    let l = c.loop-i in
-    let a = c.args in
-    sym (used-here a.slot a.index l.i (search rules) c.if-e-slot.true) ∙ l.invariant.1
-
-pub loop-i-preserved : goal.loop-i-preserved
-loop-i-preserved c =
-    let l = c.loop-i in
-    let a = c.args in
-    (search rules, sym (used-on a.slot a.index l.i (search rules) c.if-e-slot.false) ∙ l.invariant.1)
 
 pub returns : goal.returns
 returns c =
-    let l = c.loop-i in
-    let a = c.args in
-    sym (used-end a.slot a.index l.i (search rules)) ∙ l.invariant.1
+    any_from_yields_List (λ (e : Entry). eqb e.slot c.args.slot) _ _ _ c.any.ensures.ran (YieldsList-from_slice c.args.index cc) (λ x b q k. search (rules, tests))
+    ∙ used-any c.args.slot c.args.index

@@ -4,5 +4,5 @@ use Rattle.index.proofs.notes.entering.fields.Goals as goal
 
 pub returns : goal.returns
 returns c =
-    fields-are _ (λ i. (c.type_inv.r i).fits) _ c.four-v.ensures _ _
+    fields-are _ c.fits-r _ c.four-v.ensures _ _
     c.four.ensures c.four-2.ensures

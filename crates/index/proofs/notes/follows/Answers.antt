@@ -1,8 +1,0 @@
-use borrow.Author.Tests.{eq-eqb, ne_eqb}
-use Rattle.index.proofs.notes.follows.Goals as goal
-
-pub returns-then-n-eq1 : goal.returns-then-n-eq1
-returns-then-n-eq1 c = rw (eq-eqb _ _ c.if-n-eq1.true)
-
-pub returns : goal.returns
-returns c = rw (ne_eqb _ _ c.if-n-eq1.false)
