@@ -30,10 +30,6 @@ left : (t t' : State) (w w' : List ℕ) → t ≡ t' → w ≡ w'
     (record { answer = Done; state = t'; memory = w'; stored = nothing })
 left t t' w w' et ew = rw (et, ew)
 
--- the number that the code found is 0: no row holds
-pub no_row : (k n : ℕ) → k ≡ n → k ≡ 0 → n ≡ 0
-no_row k n e z = sym e ∙ z
-
 -- the clauses of a call's contract, from one equation
 pub clauses : {o p : Outcome} → o ≡ p → (reply_of o ≡ reply_of p) × (o.memory ≡ p.memory)
 clauses e = (ap reply_of e, ap (λ (x : Outcome). x.memory) e)

@@ -1,48 +1,53 @@
 // Begin: the first format of a blank page.
-ghost use Rattle.std.specs.Prelude.{◌≡◌, true, List, [], ℕ, ◌<◌, length, replicate};
+ghost use Rattle.std.specs.Prelude.{◌≡◌, List, [], ℕ, ◌<◌, length, replicate};
 ghost use Rattle.model.specs.Refused.{error_number};
 ghost use Rattle.model.specs.Tables.{first_of};
-ghost use Rattle.model.specs.Geometry.{geometry_of, valid_volume};
 ghost use Rattle.model.specs.Item.{frame_image};
 ghost use Rattle.model.specs.Refusals.{state_rows, begin_rows, begin_tail};
 ghost use Rattle.model.specs.Outcome.{reply_of};
 ghost use Rattle.model.specs.Calls.{begin_of};
 
 use crate::{limits, pending};
-use codec::part;
 use item::image;
-use model::answer::{Answer, Refusal, Reply};
+use model::answer::{Refusal, Reply};
 use model::change::Change;
-use model::geometry::Geometry;
 use model::state::State;
-use state::{entries, frames, next};
-use volume::{heading, memory, rows};
+use state::{entries, frames, next, reply};
+use volume::{Volume, memory};
 
-// The rows of Begin's own, for a memory of so many frames.
-fn own(s: State, volume: &[u8], g: Geometry, count: usize, page: u32, frame: u32) -> u32
-    requires { (valid_volume volume.now ≡ true) × (g ≡ geometry_of volume.now) }
-    ensures { result ≡ first_of (begin_tail g volume.now count s page frame) }
+// The refusal of Begin's own rows, for a memory of so many frames.
+fn own(s: State, v: &Volume<'_>, count: usize, page: u32, frame: u32) -> Result<(), Refusal>
+    ensures { error_number result ≡ first_of (begin_tail v.now.geometry v.now.bytes.now count s page frame) }
 {
-    let outside = !((1 <= page) & (page <= g.pages));
-    let no_frame = !((1 <= frame) & (frame as usize <= count));
-    let blank = entries::blank(s, page);
-    let blocked = frames::blocked(s, frame);
-    let log = limits::refusal(s, volume, g);
-    let table = rows::first(!blank, 9, rows::first(blocked, 10, log));
-    rows::first(outside, 3, rows::first(no_frame, 4, table))
+    if !((1 <= page) & (page <= v.geometry.pages)) {
+        return Err(Refusal::NoSuchPage);
+    }
+    if !((1 <= frame) & (frame as usize <= count)) {
+        return Err(Refusal::NoSuchFrame);
+    }
+    if !entries::blank(s, page) {
+        return Err(Refusal::PageInUse);
+    }
+    if frames::blocked(s, frame) {
+        return Err(Refusal::ChangePending);
+    }
+    limits::refusal(s, v)
 }
 
-// The refusal, the lowest that holds; no is that of the rows 1 and 2, size is the memory's.
-fn refusal(s: State, checked: Result<(), Refusal>, volume: &[u8], size: usize, page: u32, frame: u32) -> u32
+// The refusal, the lowest that holds; `checked` is that of the rows 1 and 2, size is the memory's.
+fn refusal(
+    s: State,
+    checked: Result<(), Refusal>,
+    volume: &[u8],
+    size: usize,
+    page: u32,
+    frame: u32,
+) -> Result<(), Refusal>
     requires { (m : List ℕ) → length m ≡ size → error_number checked ≡ first_of (state_rows volume.now m s []) }
-    ensures { (m : List ℕ) → length m ≡ size → result ≡ first_of (begin_rows volume.now m s page frame) }
+    ensures { (m : List ℕ) → length m ≡ size → error_number result ≡ first_of (begin_rows volume.now m s page frame) }
 {
-    if no != 0 {
-        return no;
-    }
-    let g = heading::geometry(volume);
-    let count = memory::frames(size);
-    own(s, volume, g, count, page, frame)
+    checked?;
+    own(s, &Volume::of(volume), memory::frames(size), page, frame)
 }
 
 // Makes a frame's bytes the image of a page of which every body byte is the fill.
@@ -50,7 +55,7 @@ fn format(x: &mut [u8], page: u32, lsn: u32, fill: u8)
     requires { (length x.old ≡ 256) × (page < 65536) }
     ensures { x.new ≡ frame_image page lsn (replicate 244 fill) }
 {
-    part::fill(x, fill);
+    x.fill(fill);
     image::build(x, page, lsn);
 }
 
@@ -70,19 +75,12 @@ pub fn begin(
     ensures reply { result ≡ reply_of (begin_of volume.now memory.old s page frame fill) }
     ensures memory { memory.new ≡ (begin_of volume.now memory.old s page frame fill).memory }
 {
-    let no = refusal(s, no, volume, memory.len(), page, frame);
-    if no != 0 {
-        return Reply {
-            answer: Answer::Refused(no),
-            state: s,
-        };
+    if let Err(no) = refusal(s, checked, volume, memory.len(), page, frame) {
+        return reply::refused(s, no);
     }
     let lsn = pending::pend(s, memory, page, Change::Format { fill }, [0; 44]);
     let at = memory::frame_at(frame);
     let end = at + 256;
     format(&mut memory[at..end], page, lsn, fill);
-    Reply {
-        answer: Answer::Done,
-        state: next::appended(s, page, frame),
-    }
+    reply::done(next::appended(s, page, frame))
 }

@@ -3,7 +3,6 @@ ghost use Rattle.std.specs.Prelude.{◌≡◌, true, List, [], ℕ, length};
 ghost use Rattle.model.specs.Refused.{error_number};
 ghost use Rattle.model.specs.Tables.{first_of};
 ghost use Rattle.model.specs.Change.{fits, apply_change};
-ghost use Rattle.model.specs.Geometry.{geometry_of, valid_volume};
 ghost use Rattle.model.specs.Item.{image_body};
 ghost use Rattle.model.specs.Refusals.{state_rows, change_rows, change_tail};
 ghost use Rattle.model.specs.Outcome.{reply_of};
@@ -12,39 +11,42 @@ ghost use Rattle.model.specs.Calls.{change_call};
 
 use crate::{limits, pending};
 use codec::field;
-use model::answer::{Answer, Refusal, Reply};
+use model::answer::{Refusal, Reply};
 use model::change::Change;
-use model::geometry::Geometry;
 use model::state::State;
-use state::{frames, next};
-use volume::{heading, memory, rows};
+use state::{frames, next, reply};
+use volume::{Volume, memory};
 
-// The rows of Change's own.
-fn own(s: State, volume: &[u8], g: Geometry, page: u32, c: Change) -> u32
-    requires { (valid_volume volume.now ≡ true) × (g ≡ geometry_of volume.now) }
-    ensures { result ≡ first_of (change_tail g volume.now s page c) }
+// The refusal of Change's own rows.
+fn own(s: State, v: &Volume<'_>, page: u32, c: Change) -> Result<(), Refusal>
+    ensures { error_number result ≡ first_of (change_tail v.now.geometry v.now.bytes.now s page c) }
 {
-    let outside = !((1 <= page) & (page <= g.pages));
-    let obeys = item::change::obeys(c);
-    let held = frames::held(s, page);
-    let log = limits::refusal(s, volume, g);
-    rows::first(
-        outside,
-        3,
-        rows::first(!obeys, 6, rows::first(!held, 8, log)),
-    )
+    if !((1 <= page) & (page <= v.geometry.pages)) {
+        return Err(Refusal::NoSuchPage);
+    }
+    if !item::change::obeys(c) {
+        return Err(Refusal::BadChange);
+    }
+    if !frames::held(s, page) {
+        return Err(Refusal::NoFrame);
+    }
+    limits::refusal(s, v)
 }
 
-// The refusal, the lowest that holds; no is that of the rows 1 and 2, size is the memory's.
-fn refusal(s: State, checked: Result<(), Refusal>, volume: &[u8], size: usize, page: u32, c: Change) -> u32
+// The refusal, the lowest that holds; `checked` is that of the rows 1 and 2, size is the memory's.
+fn refusal(
+    s: State,
+    checked: Result<(), Refusal>,
+    volume: &[u8],
+    size: usize,
+    page: u32,
+    c: Change,
+) -> Result<(), Refusal>
     requires { (m : List ℕ) → length m ≡ size → error_number checked ≡ first_of (state_rows volume.now m s []) }
-    ensures { (m : List ℕ) → length m ≡ size → result ≡ first_of (change_rows volume.now m s page c) }
+    ensures { (m : List ℕ) → length m ≡ size → error_number result ≡ first_of (change_rows volume.now m s page c) }
 {
-    if no != 0 {
-        return no;
-    }
-    let g = heading::geometry(volume);
-    own(s, volume, g, page, c)
+    checked?;
+    own(s, &Volume::of(volume), page, c)
 }
 
 // Makes a change in a frame's bytes: its number and the body. The page number, the zeros and the checksum's bytes stay.
@@ -71,20 +73,13 @@ pub fn change(
     ensures reply { result ≡ reply_of (change_call volume.now memory.old s page change payload) }
     ensures memory { memory.new ≡ (change_call volume.now memory.old s page change payload).memory }
 {
-    let no = refusal(s, no, volume, memory.len(), page, change);
-    if no != 0 {
-        return Reply {
-            answer: Answer::Refused(no),
-            state: s,
-        };
+    if let Err(no) = refusal(s, checked, volume, memory.len(), page, change) {
+        return reply::refused(s, no);
     }
     let lsn = pending::pend(s, memory, page, change, payload);
     let f = frames::holder(s, page);
     let at = memory::frame_at(f);
     let end = at + 256;
     alter(&mut memory[at..end], lsn, change, payload);
-    Reply {
-        answer: Answer::Done,
-        state: next::appended(s, page, f),
-    }
+    reply::done(next::appended(s, page, f))
 }

@@ -9,9 +9,9 @@ ghost use Rattle.model.specs.Outcome.{reply_of, volume_after};
 ghost use Rattle.model.specs.Calls.{force_of};
 
 use codec::{field, part};
-use model::answer::{Answer, Refusal, Reply};
+use model::answer::{Refusal, Reply};
 use model::state::State;
-use state::next;
+use state::{next, reply};
 use volume::{heading, memory, place};
 
 // Stores the oldest pending record and lowers the pending count; Nothing where none is pending.
@@ -23,27 +23,18 @@ pub fn force(s: State, checked: Result<(), Refusal>, volume: &mut [u8], memory: 
     ensures volume { volume.new
         ≡ volume_after volume.old (force_of volume.old memory.now s).stored }
 {
-    if no != 0 {
-        return Reply {
-            answer: Answer::Refused(no),
-            state: s,
-        };
+    if let Err(no) = checked {
+        return reply::refused(s, no);
     }
     if s.pending == 0 {
-        return Reply {
-            answer: Answer::Nothing,
-            state: s,
-        };
+        return reply::nothing(s);
     }
     let g = heading::geometry(volume);
     let n = s.durable + 1;
     let from = memory::pending_at(n);
     let end = from + 64;
     let record = &memory[from..end];
-    let page = field::u16_at(record, 8);
+    let page = u32::from(field::u16_at(record, 8));
     part::put(volume, place::log_slot(g, n), record);
-    Reply {
-        answer: Answer::Done,
-        state: next::forced(s, g.pages, page as u32),
-    }
+    reply::done(next::forced(s, g.pages, page))
 }

@@ -6,9 +6,9 @@ ghost use Rattle.model.specs.Refusals.{state_rows};
 ghost use Rattle.model.specs.Outcome.{reply_of, volume_after};
 ghost use Rattle.model.specs.Calls.{note_call};
 
-use model::answer::{Answer, Refusal, Reply};
+use model::answer::{Refusal, Reply};
 use model::state::State;
-use state::next;
+use state::{next, reply};
 use volume::{heading, place};
 
 // Stores the pending note in its number's slot and enters it in the index. Nothing where none is pending. Ruled out: a
@@ -19,18 +19,11 @@ pub fn note(s: State, checked: Result<(), Refusal>, volume: &mut [u8], memory: &
     ensures volume { volume.new
         ≡ volume_after volume.old (note_call volume.old memory.now s).stored }
 {
-    if no != 0 {
-        return Reply {
-            answer: Answer::Refused(no),
-            state: s,
-        };
+    if let Err(no) = checked {
+        return reply::refused(s, no);
     }
-    let p = s.note;
-    let Some(n) = p else {
-        return Reply {
-            answer: Answer::Nothing,
-            state: s,
-        };
+    let Some(n) = s.note else {
+        return reply::nothing(s);
     };
     let g = heading::geometry(volume);
     let number = s.notes + 1;
@@ -38,8 +31,5 @@ pub fn note(s: State, checked: Result<(), Refusal>, volume: &mut [u8], memory: &
     let end = at + 16;
     let slot = &mut volume[at..end];
     item::note::encode(slot, n);
-    Reply {
-        answer: Answer::Done,
-        state: next::noted(s, n),
-    }
+    reply::done(next::noted(s, n))
 }

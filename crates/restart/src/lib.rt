@@ -1,20 +1,31 @@
 // Restart: gives the state that a volume's log and notes hold, and zeroes the memory.
 #![tactic(auto)]
 
-ghost use Rattle.std.specs.Prelude.{◌≡◌, cond, not, eqb};
+ghost use Rattle.std.specs.Prelude.{◌≡◌, IfOk};
 ghost use Rattle.model.specs.Outcome.{reply_of};
+ghost use Rattle.model.specs.Refusals.{restart_rows};
+ghost use Rattle.model.specs.Refused.{error_number};
 ghost use Rattle.model.specs.Restart.{restart_of};
+ghost use Rattle.model.specs.Tables.{first_of};
+ghost use Rattle.index.specs.Scanned.{scanned_of};
 
-use codec::part;
-use model::answer::{Answer, Reply};
-use state::next;
-use volume::{memory, rows};
+use index::Scanned;
+use model::answer::{Refusal, Reply};
+use state::{next, reply};
+use volume::{heading, memory};
 
-// The refusal: row 1, then 2, then the scan's 17 or 18.
-fn refusal(scan: u32, memory: bool) -> u32
-    ensures { result ≡ cond (eqb scan 1) 1 (cond (not memory) 2 scan) }
+// What the volume's scan finds, or the refusal: row 1, then 2, then the scan's 17 or 18.
+fn scan(volume: &[u8], memory: &[u8]) -> Result<Scanned, Refusal>
+    ensures refusal { error_number result ≡ first_of (restart_rows volume.now memory.now) }
+    ensures clean { IfOk result (λ s. s ≡ scanned_of volume.now) }
 {
-    rows::first(scan == 1, 1, rows::first(!memory, 2, scan))
+    if !heading::valid(volume) {
+        return Err(Refusal::BadVolume);
+    }
+    if !memory::memory(memory.len()) {
+        return Err(Refusal::BadBuffer);
+    }
+    index::scan(volume)
 }
 
 // Restarts from a volume. Ruled out: records of before the restart left in the memory (tried); a durable count that is
@@ -23,17 +34,11 @@ pub fn restart(volume: &[u8], memory: &mut [u8]) -> Reply
     ensures reply { result ≡ reply_of (restart_of volume.now memory.old) }
     ensures memory { memory.new ≡ (restart_of volume.now memory.old).memory }
 {
-    let scanned = index::scan(volume);
-    let no = refusal(scanned.refusal, memory::memory(memory.len()));
-    if no != 0 {
-        return Reply {
-            answer: Answer::Refused(no),
-            state: next::zero(),
-        };
-    }
-    part::fill(memory, 0);
-    Reply {
-        answer: Answer::Done,
-        state: next::resumed(scanned),
+    match scan(volume, memory) {
+        Ok(scanned) => {
+            memory.fill(0);
+            reply::done(next::resumed(scanned))
+        }
+        Err(no) => reply::refused(next::zero(), no),
     }
 }

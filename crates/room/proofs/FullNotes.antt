@@ -17,14 +17,6 @@ use Rattle.model.specs.State.{note_whole, note_like, note_needed, notes_full}
 use Rattle.model.specs.declared.{geometry.Geometry.Geometry, item.Note.Note, state.State.State}
 
 module _ (g : Geometry) (v : List ℕ) where
-  pub whole_is : (n : ℕ) (r : List ℕ) (e : Note) (sum : Bool) → r ≡ item g v (note_slot g n) → e ≡ note_of r → sum ≡ sealed 12 r
-      → (sum && eqb e.number n) ≡ note_whole g v n
-  whole_is n r e sum er ee es = rw (es, ee, er)
-
-  pub like_is : (j i : ℕ) (a b : Note) → a ≡ note_record g v i → b ≡ note_record g v j
-      → (eqb a.page b.page && eqb a.kind b.kind) ≡ note_like g v j i
-  like_is j i a b ea eb = rw (ea, eb)
-
   -- the i-th note after note j does not spare it
   abbrev pub later_other : ℕ → ℕ → Bool
   later_other j i = not (note_whole g v (suc (j + i)) && note_like g v j (suc (j + i)))

@@ -16,10 +16,10 @@ pub fn needed(s: State, v: &Volume<'_>, j: u32) -> bool
 {
     let r = v.record(j);
     let e = record::read(r);
-    let page = e.page as u32;
+    let page = u32::from(e.page);
     let x = entries::entry(s, page);
     let whole = checksum::holds(r, 60);
-    let inside = (1 <= page) & (page <= g.pages);
+    let inside = (1 <= page) & (page <= v.geometry.pages);
     let spare = inside & ((x.slot != 0) & (j <= x.backup));
     (s.durable < j) | (whole & ((e.lsn == j) & !spare))
 }
@@ -28,12 +28,12 @@ pub fn needed(s: State, v: &Volume<'_>, j: u32) -> bool
 pub fn full(s: State, v: &Volume<'_>) -> bool
     ensures { result ≡ log_full v.now.geometry v.now.bytes.now s }
 {
-    let last = s.durable as u64 + s.pending as u64;
-    let slots = g.records as u64;
-    if ring::most(g) as u64 <= last {
+    let last = u64::from(s.durable) + u64::from(s.pending);
+    let slots = u64::from(v.geometry.records);
+    if u64::from(ring::most(v.geometry)) <= last {
         return true;
     }
-    if !ring::ring(g) | (last < slots) {
+    if !ring::ring(v.geometry) | (last < slots) {
         return false;
     }
     needed(s, v, (last + 1 - slots) as u32)

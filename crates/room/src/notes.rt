@@ -46,14 +46,11 @@ fn needed(v: &Volume<'_>, k: u32, j: u32) -> bool
     if !whole(v, j) {
         return false;
     }
-    let later = k - j;
-    let mut i: u32 = 0;
-    while i < later {
+    for i in 0..k - j {
         let n = j + i + 1;
         if whole(v, n) & like(v, j, n) {
             return false;
         }
-        i += 1;
     }
     true
 }
@@ -64,11 +61,11 @@ pub fn full(s: State, v: &Volume<'_>) -> bool
     ensures { result ≡ notes_full v.now.geometry v.now.bytes.now s }
 {
     let last = s.notes;
-    let slots = g.notes;
-    if (slots == 0) | (ring::most_notes(g) <= last) {
+    let slots = v.geometry.notes;
+    if (slots == 0) | (ring::most_notes(v.geometry) <= last) {
         return true;
     }
-    if !ring::ring(g) | (last < slots) {
+    if !ring::ring(v.geometry) | (last < slots) {
         return false;
     }
     needed(v, last, last + 1 - slots)

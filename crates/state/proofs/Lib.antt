@@ -1,5 +1,5 @@
 -- Laws that belong to no one function.
-pub mod Tables
+pub mod Lists
 pub mod Forced
 pub mod Fits
 pub mod Slots

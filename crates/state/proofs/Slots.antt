@@ -3,17 +3,12 @@ use mathlib.Core.Path.{◌≡◌, sym, ◌∙◌}
 use mathlib.Core.Bool.{true}
 use mathlib.Core.List.{List, []}
 pub use Rattle.volume.proofs.Slots.{records-some, records-few, notes-few, most-high, most-notes-high, record-fits, note-fits}
-use Prim.Native.Nat.{ℕ, ◌+◌, ◌-◌, ◌%◌, ◌≤◌, ◌<◌}
-use native.Mathlib.Nat.{mod-lt}
-use native.Mathlib.Omega.{arith}
+use Prim.Native.Nat.{ℕ}
 use lib.ListN.{length, replicate, length-replicate}
-use Rattle.laws.proofs.Tables.{by_cases}
-use Rattle.laws.proofs.Places.{total, valid-facts, place-fits}
 use Rattle.laws.proofs.WellFormed.{ready}
 use Rattle.model.specs.Tables.{first_of}
-use Rattle.model.specs.Geometry.{ring, most, most_notes, top_number, start, log_slot, note_slot, geometry_of, valid_volume}
+use Rattle.model.specs.Geometry.{valid_volume}
 use Rattle.model.specs.Refusals.{state_rows}
-use Rattle.model.specs.declared.geometry.Geometry.{Geometry}
 use Rattle.model.specs.declared.state.State.{State}
 
 -- where the rows 1 and 2 refuse nothing the volume is valid

@@ -1,2 +1,3 @@
 pub mod Clauses
 pub mod Resumed
+pub mod Reply

@@ -4,44 +4,39 @@ ghost use Rattle.model.specs.State.{frame_of, holder_from, holder, held};
 ghost use Rattle.model.specs.Refusals.{frame_blocked};
 
 use crate::entries;
-use codec::number::u16_u32;
-use model::state::State;
+use model::state::{Frame, State};
 
 // The row of frame f, counted from 1; past the table an empty one.
-pub fn frame(s: State, f: u32) -> model::state::Frame
+pub fn frame(s: State, f: u32) -> Frame
     ensures { result ≡ frame_of s f }
 {
     let i = crate::row(f);
     if i < 16 {
         s.frames[i]
     } else {
-        model::state::Frame {
+        Frame {
             page: 0,
             dirty: false,
         }
     }
 }
 
-// The row of a frame table that holds the page, counted from 1; 0 if none does.
-pub fn search(table: [model::state::Frame; 16], page: u32) -> u32
-    ensures { result ≡ holder_from 0 page table }
+// The row of a frame table that holds the page, counted from 1; 0 if none does, as in the definitions, whose tails of
+// refusal rows take it so.
+pub(crate) fn search(table: &[Frame; 16], page: u32) -> u32
+    ensures { result ≡ holder_from 0 page table.now }
 {
-    let mut i = 0;
-    while i < 16 {
-        if u16_u32(table[i].page) == page {
-            return i as u32 + 1;
-        }
-        i += 1;
+    match table.iter().position(|f| u32::from(f.page) == page) {
+        Some(i) => i as u32 + 1,
+        None => 0,
     }
-    0
 }
 
 // The frame that holds the page, counted from 1; 0 if none does.
 pub fn holder(s: State, page: u32) -> u32
     ensures { result ≡ holder s page }
 {
-    let table = s.frames;
-    search(table, page)
+    search(&s.frames, page)
 }
 
 // Whether some frame holds the page.
@@ -56,7 +51,7 @@ pub fn blocked(s: State, f: u32) -> bool
     ensures { result ≡ frame_blocked s f }
 {
     let row = frame(s, f);
-    let page = u16_u32(row.page);
+    let page = u32::from(row.page);
     let e = entries::entry(s, page);
     (page != 0) & (e.durable < e.last)
 }

@@ -5,6 +5,7 @@ pub mod entries;
 pub mod frames;
 pub mod next;
 pub mod refusal;
+pub mod reply;
 pub mod well_formed;
 
 ghost use Rattle.std.specs.Prelude.{◌≡◌, ◌-◌};

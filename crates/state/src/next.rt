@@ -32,18 +32,12 @@ pub fn zero() -> State
 pub fn resumed(scan: Scanned) -> State
     ensures { result ≡ resumed_state scan }
 {
-    let frames = [Frame {
-        page: 0,
-        dirty: false,
-    }; 16];
     let index = scan.index;
     State {
         durable: scan.durable,
-        pending: 0,
         notes: scan.notes,
-        note: None,
-        frames,
         index,
+        ..zero()
     }
 }
 
@@ -54,7 +48,7 @@ pub fn appended(mut s: State, page: u32, f: u32) -> State
     ensures { result ≡ appended_state s page f }
 {
     let n = s.durable + s.pending + 1;
-    s.pending = s.pending + 1;
+    s.pending += 1;
     let k = (f - 1) as usize;
     s.frames[k] = Frame {
         page: page as u16,
@@ -85,7 +79,7 @@ pub fn forced(mut s: State, pages: u32, page: u32) -> State
 {
     let n = s.durable + 1;
     s.durable = n;
-    s.pending = s.pending - 1;
+    s.pending -= 1;
     if (1 <= page) & (page <= pages) {
         let i = (page - 1) as usize;
         s.index[i].durable = n;
@@ -93,73 +87,45 @@ pub fn forced(mut s: State, pages: u32, page: u32) -> State
     s
 }
 
+// The note that is to be stored next, of the page's image.
+fn next_note(s: &State, page: u32, kind: u8, slot: u8, lsn: u32) -> Option<Note>
+    requires { (page ≤ 64) × (s.now.notes < 4294967295) }
+    ensures { result ≡ next_note s.now page kind slot lsn }
+{
+    Some(Note {
+        number: s.notes + 1,
+        page: page as u16,
+        kind,
+        slot,
+        lsn,
+    })
+}
+
 // The page is written from frame f: the frame is clean, the note is to be stored.
-pub fn written(s: State, page: u32, f: u32, lsn: u32) -> State
+pub fn written(mut s: State, page: u32, f: u32, lsn: u32) -> State
     requires { (page ≤ 64) × (1 ≤ f) × (f ≤ 16) × (s.notes < 4294967295) }
     ensures { result ≡ with_frames s (with_frame s f page false) (next_note s page 1 0 lsn) }
 {
-    let k = (f - 1) as usize;
-    let mut frames = s.frames;
-    frames[k] = Frame {
-        page: page as u16,
-        dirty: false,
-    };
-    let index = s.index;
-    let note = Note {
-        number: s.notes + 1,
-        page: page as u16,
-        kind: 1,
-        slot: 0,
-        lsn,
-    };
-    State {
-        durable: s.durable,
-        pending: s.pending,
-        notes: s.notes,
-        note: Some(note),
-        frames,
-        index,
-    }
+    s.note = next_note(&s, page, 1, 0, lsn);
+    loaded(s, page, f, false)
 }
 
 // The page is backed up into the slot: the note is to be stored.
-pub fn backed_up(s: State, page: u32, slot: u32, lsn: u32) -> State
+pub fn backed_up(mut s: State, page: u32, slot: u32, lsn: u32) -> State
     requires { (page ≤ 64) × (slot ≤ 255) × (s.notes < 4294967295) }
     ensures { result ≡ with_frames s s.frames (next_note s page 2 slot lsn) }
 {
-    let frames = s.frames;
-    let index = s.index;
-    let note = Note {
-        number: s.notes + 1,
-        page: page as u16,
-        kind: 2,
-        slot: slot as u8,
-        lsn,
-    };
-    State {
-        durable: s.durable,
-        pending: s.pending,
-        notes: s.notes,
-        note: Some(note),
-        frames,
-        index,
-    }
+    s.note = next_note(&s, page, 2, slot as u8, lsn);
+    s
 }
 
 // The note is stored, and entered in the index.
-pub fn noted(s: State, n: Note) -> State
+pub fn noted(mut s: State, n: Note) -> State
     requires { (1 ≤ n.page) × (n.page ≤ 64) × (s.notes < 4294967295) }
     ensures { result ≡ noted_state s n }
 {
-    let frames = s.frames;
-    let before = s.index;
-    let index = entries::enter(before, n);
-    State {
-        durable: s.durable,
-        pending: s.pending,
-        notes: s.notes + 1,
-        note: None,
-        frames,
-        index,
-    }
+    s.notes += 1;
+    s.note = None;
+    s.index = entries::enter(s.index, n);
+    s
 }

@@ -1,23 +1,21 @@
 -- What a call does not touch: Begin, Load, Change and Release leave the volume as it was, Force, Write, Backup, Release, Note and the
 -- three that carry a volume over the memory.
 use Prim.Native.Nat.{ℕ}
-use mathlib.Core.Path.{◌≡◌, refl, ◌∙◌}
+use mathlib.Core.Path.{◌≡◌, refl}
 use mathlib.Core.Bool.{Bool, cond}
 use mathlib.Core.List.{List}
 use lib.Dec.{eqb, ltb}
 use Rattle.laws.proofs.Tables.{by_cases}
 use Rattle.model.specs.Tables.{Row, first_of}
-use Rattle.model.specs.Outcome.{nothing, Outcome, reply_of, volume_after, decided}
+use Rattle.model.specs.Outcome.{nothing, Outcome, volume_after, decided}
 use Rattle.model.specs.Effects.{note_stored, backup_done, begin_done, change_done, force_done, load_done, release_done, restamp_done, write_outcome}
-use Rattle.model.specs.Calls.{outcome_of, begin_of, load_of, change_call, force_of, write_of, backup_of, release_of, note_call}
+use Rattle.model.specs.Calls.{begin_of, load_of, change_call, force_of, write_of, backup_of, release_of, note_call}
 use Rattle.model.specs.Calls.{start_carry_of, restamp_of, finish_carry_of}
 use Rattle.model.specs.Refusals.{begin_rows, load_rows, change_rows, force_rows, write_rows, backup_rows, release_rows}
 use Rattle.model.specs.Refusals.{note_rows, start_carry_rows, restamp_rows, finish_carry_rows, page_dirty}
 use Rattle.model.specs.Geometry.{geometry_of}
 use Rattle.model.specs.Passes.{image_count, first_old}
 use Rattle.model.specs.declared.change.Change.{Change}
-use Rattle.model.specs.declared.answer.Reply.{Reply}
-use Rattle.model.specs.declared.command.Command.{Command}
 use Rattle.model.specs.declared.state.State.{State}
 use Rattle.model.specs.Types.{PendingNote, None, Some}
 
@@ -88,19 +86,3 @@ module _ (v m : List ℕ) (s : State) where
   pub finish-carry-memory : m ≡ (finish_carry_of v m s).memory
   unfolding decided
   finish-carry-memory = same_memory (finish_carry_rows v m s) _ refl
-
--- what a command's call gives back and leaves: the reply, the memory and the volume
-module _ (v m : List ℕ) (s : State) (payload : List ℕ) (c : Command) (r : Reply) (w x : List ℕ) where
-  abbrev pub Made : Type 0
-  Made =
-      (r ≡ reply_of (outcome_of (c, payload) v m s)) × (w ≡ (outcome_of (c, payload) v m s).memory)
-      × (x ≡ volume_after v (outcome_of (c, payload) v m s).stored)
-
-  module _ (d : Command) (ec : c ≡ d) (er : r ≡ reply_of (outcome_of (d, payload) v m s)) where
-    -- by a call that leaves the volume
-    pub volume-left : w ≡ (outcome_of (d, payload) v m s).memory → x ≡ v → v ≡ volume_after v (outcome_of (d, payload) v m s).stored → Made
-    volume-left ew ex l = rw ec (er, ew, ex ∙ l)
-
-    -- by one that leaves the memory
-    pub memory-left : w ≡ m → m ≡ (outcome_of (d, payload) v m s).memory → x ≡ volume_after v (outcome_of (d, payload) v m s).stored → Made
-    memory-left ew l ex = rw ec (er, ew ∙ l, ex)

@@ -7,7 +7,10 @@
 // of the table's order, and a refused call that changes a byte or the state. What else it rules out stands beside it.
 #![tactic(auto)]
 
-ghost use Rattle.std.specs.Prelude.{◌≡◌};
+ghost use Rattle.std.specs.Prelude.{◌≡◌, []};
+ghost use Rattle.model.specs.Refused.{error_number};
+ghost use Rattle.model.specs.Refusals.{state_rows};
+ghost use Rattle.model.specs.Tables.{first_of};
 ghost use Rattle.store.specs.Store.{wrapped, performed};
 ghost use Rattle.model.specs.declared.geometry.Heading.TheVariants.{First, Second};
 ghost use Rattle.model.specs.Outcome.{reply_of, volume_after};
@@ -15,7 +18,7 @@ ghost use Rattle.model.specs.Calls.{begin_of, load_of, change_call, force_of, wr
 ghost use Rattle.model.specs.Calls.{start_carry_of, restamp_of, finish_carry_of};
 ghost use Rattle.model.specs.Restart.{make_of, restart_of, inspect_of};
 
-use model::answer::{Answer, Reply};
+use model::answer::{Answer, Refusal, Reply};
 use model::change::Change;
 use model::command::Command;
 use model::state::State;
@@ -33,16 +36,25 @@ pub struct Returned {
     pub store: Store,
 }
 
-fn wrap(r: Reply) -> Returned
-    ensures { result ≡ wrapped r }
-{
-    let state = r.state;
-    let answer = r.answer;
-    let store = Store { state };
-    Returned { answer, store }
+impl From<Reply> for Returned {
+    ghost from_gives = { λ r x. x ≡ wrapped r };
+
+    fn from(r: Reply) -> Returned {
+        Returned {
+            answer: r.answer,
+            store: Store { state: r.state },
+        }
+    }
 }
 
 impl Store {
+    // The refusal of a call on the state that its own rows do not give.
+    fn checked(&self, volume: &[u8], memory: &[u8]) -> Result<(), Refusal>
+        ensures { error_number result ≡ first_of (state_rows volume.now memory.now self.now.state []) }
+    {
+        state::refusal::refusal(self.state, volume, memory.len())
+    }
+
     // Writes headings and zeros, the second heading first. Ruled out: a byte of the old volume left; counts taken with
     // another length than theirs; the first heading.
     pub fn make(volume: &mut [u8], pages: u32, slots: u32, records: u32, notes: u32) -> Answer
@@ -69,7 +81,7 @@ impl Store {
         ensures outcome { result ≡ wrapped (reply_of (restart_of volume.now memory.old)) }
         ensures memory { memory.new ≡ (restart_of volume.now memory.old).memory }
     {
-        wrap(restart::restart(volume, memory))
+        Returned::from(restart::restart(volume, memory))
     }
 
     // Makes the call that the command names. Ruled out: a call that is not the command's; its payload exchanged for
@@ -88,26 +100,19 @@ impl Store {
             ≡ volume_after volume.old (performed self volume.old
             memory.old command payload).stored }
     {
-        let s = self.state;
-        let no = state::refusal::refusal(s, volume, memory.len());
-        let r = match command {
-            Command::Begin { page, frame, fill } => {
-                append::begin::begin(s, no, volume, memory, page, frame, fill)
-            }
-            Command::Load { page, frame } => load::load(s, no, volume, memory, page, frame),
-            Command::Change { page, change } => {
-                append::change::change(s, no, volume, memory, page, change, payload)
-            }
-            Command::Force => force::force(s, no, volume, memory),
-            Command::Write { page } => persist::write::write(s, no, volume, memory, page),
-            Command::Backup { page, slot } => backup::backup(s, no, volume, memory, page, slot),
-            Command::Release { page } => load::release::release(s, no, volume, memory, page),
-            Command::Note => persist::note::note(s, no, volume, memory),
-            Command::StartCarry => convert::start::start(s, no, volume, memory),
-            Command::Restamp => convert::restamp::restamp(s, no, volume, memory),
-            Command::FinishCarry => convert::finish::finish(s, no, volume, memory),
-        };
-        wrap(r)
+        match command {
+            Command::Begin { page, frame, fill } => self.begin(volume, memory, page, frame, fill),
+            Command::Load { page, frame } => self.load(volume, memory, page, frame),
+            Command::Change { page, change } => self.change(volume, memory, page, change, payload),
+            Command::Force => self.force(volume, memory),
+            Command::Write { page } => self.write(volume, memory, page),
+            Command::Backup { page, slot } => self.backup(volume, memory, page, slot),
+            Command::Release { page } => self.release(volume, memory, page),
+            Command::Note => self.note(volume, memory),
+            Command::StartCarry => self.start_carry(volume, memory),
+            Command::Restamp => self.restamp(volume, memory),
+            Command::FinishCarry => self.finish_carry(volume, memory),
+        }
     }
 
     // Begins a blank page in a frame. Ruled out: 12 on an empty log; a record given that will displace one that is
@@ -125,9 +130,8 @@ impl Store {
         ensures memory { memory.new
             ≡ (begin_of volume.now memory.old self.state page frame fill).memory }
     {
-        let s = self.state;
-        let no = state::refusal::refusal(s, volume, memory.len());
-        wrap(append::begin::begin(s, no, volume, memory, page, frame, fill))
+        let checked = self.checked(volume, memory);
+        Returned::from(append::begin::begin(self.state, checked, volume, memory, page, frame, fill))
     }
 
     // Brings a page into a frame, repaired. Ruled out: the disk's image handed over unrepaired; a slide replayed on an
@@ -137,9 +141,8 @@ impl Store {
         ensures memory { memory.new
             ≡ (load_of volume.now memory.old self.state page frame).memory }
     {
-        let s = self.state;
-        let no = state::refusal::refusal(s, volume, memory.len());
-        wrap(load::load(s, no, volume, memory, page, frame))
+        let checked = self.checked(volume, memory);
+        Returned::from(load::load(self.state, checked, volume, memory, page, frame))
     }
 
     // Changes a page that a frame holds. Ruled out: a record that names the page's last durable record and skips its
@@ -158,9 +161,10 @@ impl Store {
         ensures memory { memory.new
             ≡ (change_call volume.now memory.old self.state page change payload).memory }
     {
-        let s = self.state;
-        let no = state::refusal::refusal(s, volume, memory.len());
-        wrap(append::change::change(s, no, volume, memory, page, change, payload))
+        let checked = self.checked(volume, memory);
+        Returned::from(append::change::change(
+            self.state, checked, volume, memory, page, change, payload,
+        ))
     }
 
     // Stores the oldest pending record. Ruled out: Nothing with records pending; the count lowered and no record
@@ -171,9 +175,8 @@ impl Store {
             ≡ volume_after volume.old (force_of volume.old memory.now
             self.state).stored }
     {
-        let s = self.state;
-        let no = state::refusal::refusal(s, volume, memory.len());
-        wrap(force::force(s, no, volume, memory))
+        let checked = self.checked(volume, memory);
+        Returned::from(force::force(self.state, checked, volume, memory))
     }
 
     // Stores a dirty page's image and leaves a note of it pending. Ruled out: an image stored ahead of its record; a
@@ -184,9 +187,8 @@ impl Store {
             ≡ volume_after volume.old (write_of volume.old memory.now
             self.state page).stored }
     {
-        let s = self.state;
-        let no = state::refusal::refusal(s, volume, memory.len());
-        wrap(persist::write::write(s, no, volume, memory, page))
+        let checked = self.checked(volume, memory);
+        Returned::from(persist::write::write(self.state, checked, volume, memory, page))
     }
 
     // Stores a page's image in a slot and leaves a note of it pending. Ruled out: a slot that the index names
@@ -197,9 +199,8 @@ impl Store {
             ≡ volume_after volume.old (backup_of volume.old memory.now
             self.state page slot).stored }
     {
-        let s = self.state;
-        let no = state::refusal::refusal(s, volume, memory.len());
-        wrap(backup::backup(s, no, volume, memory, page, slot))
+        let checked = self.checked(volume, memory);
+        Returned::from(backup::backup(self.state, checked, volume, memory, page, slot))
     }
 
     // Lets go of a page: its frame is empty, nothing is stored. Ruled out: a page with a pending change let go; a dirty
@@ -207,9 +208,8 @@ impl Store {
     pub fn release(self, volume: &[u8], memory: &[u8], page: u32) -> Returned
         ensures outcome { result ≡ wrapped (reply_of (release_of volume.now memory.now self.state page)) }
     {
-        let s = self.state;
-        let no = state::refusal::refusal(s, volume, memory.len());
-        wrap(load::release::release(s, no, volume, memory, page))
+        let checked = self.checked(volume, memory);
+        Returned::from(load::release::release(self.state, checked, volume, memory, page))
     }
 
     // Stores the pending note and enters it in the index. Ruled out: Nothing with a note pending; a note stored in
@@ -220,9 +220,8 @@ impl Store {
             ≡ volume_after volume.old (note_call volume.old memory.now
             self.state).stored }
     {
-        let s = self.state;
-        let no = state::refusal::refusal(s, volume, memory.len());
-        wrap(persist::note::note(s, no, volume, memory))
+        let checked = self.checked(volume, memory);
+        Returned::from(persist::note::note(self.state, checked, volume, memory))
     }
 
     // Begins to carry a volume over: the first heading becomes the third. Ruled out: the second heading stored at once;
@@ -233,9 +232,8 @@ impl Store {
             ≡ volume_after volume.old (start_carry_of volume.old memory.now
             self.state).stored }
     {
-        let s = self.state;
-        let no = state::refusal::refusal(s, volume, memory.len());
-        wrap(convert::start::start(s, no, volume, memory))
+        let checked = self.checked(volume, memory);
+        Returned::from(convert::start::start(self.state, checked, volume, memory))
     }
 
     // Gives the first image that passes only the old sum the byte sum. Ruled out: a failing image sealed; Nothing with
@@ -246,9 +244,8 @@ impl Store {
             ≡ volume_after volume.old (restamp_of volume.old memory.now
             self.state).stored }
     {
-        let s = self.state;
-        let no = state::refusal::refusal(s, volume, memory.len());
-        wrap(convert::restamp::restamp(s, no, volume, memory))
+        let checked = self.checked(volume, memory);
+        Returned::from(convert::restamp::restamp(self.state, checked, volume, memory))
     }
 
     // Ends it: the second heading. Ruled out: done while an image passes only the old sum; 20 on a volume that has
@@ -259,9 +256,8 @@ impl Store {
             ≡ volume_after volume.old (finish_carry_of volume.old memory.now
             self.state).stored }
     {
-        let s = self.state;
-        let no = state::refusal::refusal(s, volume, memory.len());
-        wrap(convert::finish::finish(s, no, volume, memory))
+        let checked = self.checked(volume, memory);
+        Returned::from(convert::finish::finish(self.state, checked, volume, memory))
     }
 
     // Rebuilds a page from the durable records into a buffer of 256 bytes. Ruled out: the disk's image handed over

@@ -4,24 +4,25 @@ use mathlib.Core.List.{[]}
 use native.Mathlib.Omega.{arith}
 use Rattle.model.specs.Tables.{first_of}
 use Rattle.model.specs.Refusals.{state_rows}
+use Rattle.state.proofs.Fits.{number-some}
 use Rattle.force.proofs.Outcomes.{force-refused, force-idle, Room, room, lent_fits, finish}
 use Rattle.force.proofs.force.Goals.{After-geometry-g}
 use Rattle.force.proofs.force.Goals as goal
 
-pub returns-then-no-ne0 : goal.returns-then-no-ne0
-returns-then-no-ne0 c =
-    let k = force-refused _ _ _ _ c.requires c.if-no-ne0.true in
-    record { reply = k.0; volume = k.1 }
+pub returns-in-Err : goal.returns-in-Err
+returns-in-Err c =
+    let k = force-refused _ _ _ _ (rw c.in-Err.is at c.requires) (number-some _) in
+    record { reply = c.refused.ensures ∙ k.0; volume = k.1 }
 
 pub returns-then-s-eq0 : goal.returns-then-s-eq0
 returns-then-s-eq0 c =
-    let k = force-idle _ _ _ (sym c.requires ∙ c.if-no-ne0.false) c.if-s-eq0.true in
-    record { reply = k.0; volume = k.1 }
+    let k = force-idle _ _ _ (sym (rw c.in_default.is at c.requires)) c.if-s-eq0.true in
+    record { reply = c.nothing.ensures ∙ k.0; volume = k.1 }
 
 -- past the tests: the call is not refused, a record is pending
 calm : (c : After-geometry-g) → first_of
     (state_rows c.args.volume.now c.args.memory.now c.args.s []) ≡ 0
-calm c = sym c.requires ∙ c.if-no-ne0.false
+calm c = sym (rw c.in_default.is at c.requires)
 
 -- and the parts are within the volume and the memory
 bounds : (c : After-geometry-g) → Room c.args.volume.now c.args.memory.now c.args.s
@@ -49,5 +50,5 @@ forced-requires c =
 pub returns : goal.returns
 returns c =
     let k = finish _ _ _ _ _ _ _ _ _ c.geometry-g.ensures (calm (goal.at.returns c).After-geometry-g) c.if-s-eq0.false c.pending_at-from.ensures
-    c.log_slot.ensures c.u16_at-page.ensures c.forced.ensures c.put.ensures in
-    record { reply = k.0; volume = k.1 }
+    c.log_slot.ensures (c.from-page.ensures ∙ c.u16_at.ensures) c.forced.ensures c.put.ensures in
+    record { reply = c.done.ensures ∙ k.0; volume = k.1 }

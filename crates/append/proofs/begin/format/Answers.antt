@@ -4,7 +4,4 @@ use Rattle.append.proofs.begin.format.Goals as goal
 
 pub returns : goal.returns
 returns c =
-    let b = c in
-    let f = b in
-    let s = f in
-    format-is s.args.x.now _ _ s.args.page s.args.lsn s.args.fill s.requires.0 f.fill.ensures b.build.ensures
+    format-is c.args.x.now _ _ c.args.page c.args.lsn c.args.fill c.requires.0 (c.fill.ensures.after (λ y h. h)) c.build.ensures

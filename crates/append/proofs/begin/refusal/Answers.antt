@@ -1,19 +1,21 @@
 -- `append::begin::refusal` meets its contract.
+use mathlib.Core.Path.{◌≡◌, ◌∙◌}
+use borrow.Author.Rules.{rules}
+use Rattle.model.specs.Refused.{error_number, refusal_number}
 use Rattle.state.proofs.Slots.{valid-volume}
+use Rattle.state.proofs.Fits.{number-some}
 use Rattle.append.proofs.Rows.{begin-first, begin-rows}
 use Rattle.append.proofs.begin.refusal.Goals as goal
 
-pub returns-then-no-ne0 : goal.returns-then-no-ne0
-returns-then-no-ne0 c = λ m e. begin-first _ m _ _ (c.requires m e) _ _ c.if-no-ne0.true
+pub returns-in_err-checked : goal.returns-in_err-checked
+returns-in_err-checked c = λ m e.
+    let r = c.in_err-checked.field-0.0 in
+    let k : error_number c.from_residual.result ≡ refusal_number r = search rules in
+    k ∙ begin-first _ m _ _ (rw c.in_err-checked.was at (c.requires m e)) _ _ (number-some r)
 
-pub own-requires : goal.own-requires
-own-requires c =
-    let i = c in
-    (valid-volume _ _ _ _ i.requires i.if-no-ne0.false, c.geometry-g.ensures)
+pub of-requires : goal.of-requires
+of-requires c = valid-volume _ _ _ _ c.requires (rw c.in_ok-checked.was)
 
 pub returns : goal.returns
 returns c = λ m e.
-    let g = c in
-    let i = g in
-    begin-rows _ m _ _ (i.requires m e) _ _ _ _ _ _ i.if-no-ne0.false g.geometry-g.ensures c.frames-count.ensures
-    c.own.ensures e
+    begin-rows _ m _ _ (c.requires m e) _ _ _ _ _ _ (rw c.in_ok-checked.was) (rw c.of.ensures at c.of.result.read) c.frames.ensures (rw c.of.ensures at c.own.ensures) e

@@ -10,24 +10,19 @@ use Rattle.append.proofs.change.alter.Goals as goal
 
 pub apply-requires : goal.apply-requires
 apply-requires c =
-    let p = c in
-    let s = p in
-    let l : length s.args.payload ≡ 44 = search rules in (
-      s.requires.1,
+    let l : length c.args.payload ≡ 44 = search rules in (
+      c.requires.1,
       omega (
         arith,
         l,
-        (fits-facts (kind_of s.args.c) (length_of s.args.c) (offset_of s.args.c) (fill_of s.args.c)
-            s.requires.1).length,
+        (fits-facts (kind_of c.args.c) (length_of c.args.c) (offset_of c.args.c) (fill_of c.args.c)
+            c.requires.1).length,
       ),
-      simp (length-take, length-drop) (omega (arith, s.requires.0, p.put_u32.auto)),
+      simp (length-take, length-drop) (omega (arith, c.requires.0, c.put_u32.auto)),
     )
 
 pub returns : goal.returns
 returns c =
-    let a = c in
-    let p = a in
-    let s = p in
-    let l : length s.args.payload ≡ 44 = search rules in
-    changed-is s.args.x.now _ _ s.args.payload s.args.c s.args.lsn s.requires.0 s.requires.1 l p.put_u32.ensures
-    a.apply.ensures
+    let l : length c.args.payload ≡ 44 = search rules in
+    changed-is c.args.x.now _ _ c.args.payload c.args.c c.args.lsn c.requires.0 c.requires.1 l c.put_u32.ensures
+    c.apply.ensures

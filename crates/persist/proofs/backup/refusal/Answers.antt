@@ -1,21 +1,20 @@
 -- `persist::backup::refusal` meets its contract.
-use Rattle.state.proofs.Slots.{valid-with}
+use mathlib.Core.Path.{◌≡◌, ◌∙◌}
+use borrow.Author.Rules.{rules}
+use Rattle.model.specs.Refused.{error_number, refusal_number}
+use Rattle.state.proofs.Fits.{number-some}
 use Rattle.persist.proofs.Rows.{backup-first, backup-rows}
 use Rattle.persist.proofs.backup.refusal.Goals as goal
 
-pub returns-then-no-ne0 : goal.returns-then-no-ne0
-returns-then-no-ne0 c =
+pub returns-in_err-checked : goal.returns-in_err-checked
+returns-in_err-checked c =
     let a = c.args in
-    backup-first a.volume.now a.memory.now a.s _ a.page c.requires
-    a.slot c.if-no-ne0.true
-
-pub own-requires : goal.own-requires
-own-requires c =
-    (valid-with _ c.args.memory.now _ _ c.requires c.if-no-ne0.false, c.geometry-g.ensures)
+    let r = c.in_err-checked.field-0.0 in
+    let k : error_number c.from_residual.result ≡ refusal_number r = search rules in
+    k ∙ backup-first a.volume.now a.memory.now a.s _ a.page (rw c.in_err-checked.was at c.requires) a.slot (number-some r)
 
 pub returns : goal.returns
 returns c =
     let a = c.args in
-    backup-rows a.volume.now a.memory.now a.s _ a.page
-    c.requires _ _ _ _ c.if-no-ne0.false
-    c.geometry-g.ensures c.holder-f.ensures c.lsn-lsn.ensures a.slot c.own.ensures
+    backup-rows a.volume.now a.memory.now a.s _ a.page c.requires _ _ _ _ (rw c.in_ok-checked.was)
+    (rw c.of.ensures at c.of.result.read) c.holder-f.ensures c.lsn.ensures a.slot (rw c.of.ensures at c.own.ensures)

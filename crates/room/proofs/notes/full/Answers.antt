@@ -8,21 +8,18 @@ use Rattle.room.proofs.notes.full.Goals as goal
 
 -- past both tests: what they tell
 known : (c : goal.Else-ring-last)
-    → let a = c.args in (1 ≤ a.g.notes) × (a.g.notes ≤ a.s.notes) × (a.s.notes < top_number)
+    → let g = c.args.v.now.geometry in let n = c.args.s.notes in (1 ≤ g.notes) × (g.notes ≤ n) × (n < top_number)
 known c =
-    let m = c in
-    let a = m.args in
-    let p = m.requires in
-    past-turn c.ring.result a.s.notes a.g.notes m.most_notes.result c.if-slots-most_notes.false c.if-ring-last.false
-    (omega (arith, m.most_notes.ensures, most-notes-high a.volume.now a.g p.0 p.1))
+    let v = c.args.v.now in
+    past-turn c.ring.result c.args.s.notes v.geometry.notes c.most_notes.result c.if-slots-most_notes.false c.if-ring-last.false
+    (omega (arith, c.most_notes.ensures, most-notes-high v.bytes.now v.geometry v.valid v.read))
 
 pub returns-then-slots-most_notes : goal.returns-then-slots-most_notes
 returns-then-slots-most_notes c = full-given _ _ _ _ c.most_notes.ensures c.if-slots-most_notes.true
 
 pub returns-then-ring-last : goal.returns-then-ring-last
 returns-then-ring-last c =
-    let i = c in
-    full-new _ _ _ _ i.most_notes.ensures _ c.ring.ensures i.if-slots-most_notes.false c.if-ring-last.true
+    full-new _ _ _ _ c.most_notes.ensures _ c.ring.ensures c.if-slots-most_notes.false c.if-ring-last.true
 
 pub overflow_add-last : goal.overflow_add-last
 overflow_add-last c = omega (arith, (known c).2)
@@ -32,12 +29,10 @@ overflow_sub-last c = omega (arith, (known c).1)
 
 pub needed-requires : goal.needed-requires
 needed-requires c =
-    let p = c.requires in
     let k = known c in
-    (p.0, p.1, k.0, omega (arith, k.0, k.1))
+    (k.0, omega (arith, k.0, k.1))
 
 pub returns : goal.returns
 returns c =
-    let i = c in
-    full-turned _ _ _ _ i.most_notes.ensures _ c.ring.ensures i.if-slots-most_notes.false _ c.if-ring-last.false
+    full-turned _ _ _ _ c.most_notes.ensures _ c.ring.ensures c.if-slots-most_notes.false _ c.if-ring-last.false
     c.needed.ensures

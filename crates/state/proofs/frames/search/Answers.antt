@@ -1,34 +1,33 @@
 -- `state::frames::search` meets its contract.
-use Prim.Native.Nat.{◌≤◌, ◌<◌}
-use mathlib.Core.Path.{◌≡◌, refl, sym, ◌∙◌}
-use lib.ListN.{length}
 use native.Mathlib.Omega.{arith}
 use borrow.Author.Rules.{rules}
-use Rattle.laws.proofs.Tabulated.{length-mapped}
-use Rattle.state.proofs.Tables.{holder-here, holder-later, holder-end}
-use Rattle.state.proofs.frames.search.Goals.{Start}
+use Rattle.std.proofs.Common.{tests}
+use Rattle.std.proofs.option.Match.{if_some}
+use Rattle.std.proofs.lemmas.Iterator.{IsFirst-from_position, YieldsList-from_slice}
+use mathlib.Core.Path.{◌≡◌, ◌∙◌}
+use Prim.Native.Nat.{◌+◌, ◌<◌}
+use lib.ListN.{length}
+use Rattle.std.specs.Option.{MatchOption}
+use Rattle.std.specs.List.{AllWithin, HoldsAt}
+use Rattle.state.proofs.frames.search.Goals.{After-position}
+use mathlib.Core.Bool.{true, false}
+use lib.Dec.{eqb}
+use Rattle.state.proofs.Lists.{holder-none, holder-some}
 use Rattle.state.proofs.frames.search.Goals as goal
 
--- the table's length
-long : (c : goal.Start) → length c.args.table ≡ 16
-long c = search (rules, length-mapped)
+-- what the search found, in the model's test
+found : (c : After-position) → MatchOption c.position.result (AllWithin (λ f. eqb f.page c.args.page ≡ false) c.args.table.now 0 (length c.args.table.now))
+    (λ i. (i < length c.args.table.now) × HoldsAt (λ f. eqb f.page c.args.page ≡ true) c.args.table.now i × AllWithin (λ f. eqb f.page c.args.page ≡ false) c.args.table.now 0 i)
+found c =
+    IsFirst-from_position _ _ c.position.result (λ f. eqb f.page c.args.page ≡ true) (λ f. eqb f.page c.args.page ≡ false) c.position.ensures.ran
+    (YieldsList-from_slice c.args.table.now c.iter.ensures.rest) (λ x q k. search (rules, tests)) (λ x q k. search (rules, tests))
 
-pub loop-i-init : goal.loop-i-init
-loop-i-init c = (search rules, refl)
+pub returns-in-Some : goal.returns-in-Some
+returns-in-Some c =
+    let first = if_some _ _ _ c.in-Some.is (found (goal.at.returns-in-Some c).After-position) in
+    let e : c.in-Some.i + 1 ≡ 0 + c.in-Some.i + 1 = omega arith in
+    e ∙ holder-some 0 c.args.page c.in-Some.i c.args.table.now first.0 first.1 first.2
 
-pub returns-then-u16_u32-page : goal.returns-then-u16_u32-page
-returns-then-u16_u32-page c =
-    let k = c in
-    let l : k.loop-i.i < length k.args.table = omega (arith, long (goal.at.returns-then-u16_u32-page c).Start) in
-    sym (holder-here _ _ _ l (sym c.u16_u32.ensures.0 ∙ c.if-u16_u32-page.true)) ∙ k.loop-i.invariant.1
-
-pub loop-i-preserved : goal.loop-i-preserved
-loop-i-preserved c =
-    let k = c in
-    let l : k.loop-i.i < length k.args.table = omega (arith, long (goal.at.loop-i-preserved c).Start) in
-    (search rules, sym (holder-later _ _ _ l (λ e. c.if-u16_u32-page.false (c.u16_u32.ensures.0 ∙ e))) ∙ k.loop-i.invariant.1)
-
-pub returns : goal.returns
-returns c =
-    let l : length c.args.table ≤ c.loop-i.i = omega (arith, long (goal.at.returns c).Start) in
-    sym (holder-end _ _ _ l) ∙ c.loop-i.invariant.1
+pub returns-in-None : goal.returns-in-None
+returns-in-None c =
+    holder-none 0 c.args.page c.args.table.now (rw c.in-None.is at (found (goal.at.returns-in-None c).After-position))
