@@ -13,10 +13,10 @@ use Rattle.laws.proofs.Fields.{Bytes, bytes-part, field-part}
 use Rattle.laws.proofs.Tables.{by_cases}
 use Rattle.model.specs.Bytes.{field, part}
 use Rattle.model.specs.Checksum.{checksum}
-use Rattle.sums.specs.Products.{Product, weights, low, high, place_of, above_of, quarter, lows, highs}
-use Rattle.sums.proofs.Judged.{record-weights, pair_of, low-all, high-all, high_fits}
-use Rattle.sums.proofs.Pairs.{Pair}
-use Rattle.sums.proofs.Weighed.{weighed-most, weighed-split, low-most, words-sum}
+use Rattle.sums.specs.Products.{Minus, weights, low, high, place_of, above_of, quarter, lows, highs}
+use Rattle.sums.proofs.Judged.{low-all, high-all, high_fits}
+use Rattle.sums.proofs.Pairs.{Raised}
+use Rattle.sums.proofs.Weighed.{weighed-most, weighed-split, low-most, high-most, words-sum}
 
 -- ---- a part
 
@@ -25,19 +25,44 @@ pub piece : (at : ℕ) (s : List ℕ) → take (at + 64 - at) (drop at s) ≡ pa
 unfolding part
 piece at s = let e : at + 64 - at ≡ 64 = omega arith in rw e
 
+-- twice what its two products make, where no checksum is stored
+abbrev pub double : List ℕ → ℕ
+double s = 2 * high s 30 + 131070 - 2 * field 2 62 s
+
+-- the two sums, z, and what is added to them, i
+abbrev pub Twice : List ℕ → ℤ → ℤ → Type 0
+Twice s z i =
+    Raised z i (2 * high s 32 + 133 * (32768 * 32)) (32768 * (weights (65 + 32) 32 + weights (64 + 32) 32) + 4 * low s 32) 30539774 0 (double s)
+
+abbrev pub All : List ℕ → ℤ → ℤ → Type 0
+All s z i = Raised z i (low s 32) (32768 * 32) 1048576 0 (low s 32)
+
 module _ (s : List ℕ) (b : Bytes s) where
-  -- twice what its two products make, where no checksum is stored
-  abbrev pub double : ℕ
-  double = 2 * high s 30 + 131070 - 2 * field 2 62 s
+  module _ (z i : ℤ) where
+    pub twice-raised : Minus z (2 * high s 32 + 133 * (32768 * 32)) (32768 * (weights (65 + 32) 32 + weights (64 + 32) 32) + 4 * low s 32)
+        → Minus i 30539774 0
+        → Twice s z i
+    unfolding weights
+    twice-raised f g =
+        record {
+          sum = f;
+          added = g;
+          gives = omega (arith, low-all 30 s, high-all 30 s, high_fits 30 s b);
+          inside = (omega (arith, high-most s 32 (omega arith) b), omega (arith, low-most s 32 b));
+          little = omega (arith, high-most s 30 (omega arith) b);
+        }
 
-  pub part_pair : (p q : ℤ) → Product 97 s 32 p → Product 96 s 32 q
-      → Pair (low s 32) (high s 32) 32 (weights 97 32) (weights 96 32) 30539774 1048576 double (low s 32) p q
-  unfolding weights
-  part_pair p q e f =
-      pair_of 30 s b 30539774 1048576 double (low s 32) p q record-weights (omega arith, omega arith)
-      (omega (arith, low-all 30 s, high-all 30 s, high_fits 30 s b)) (omega arith) e f
+    pub words-raised : Minus z (low s 32) (32768 * 32) → Minus i 1048576 0 → All s z i
+    words-raised f g =
+        record {
+          sum = f;
+          added = g;
+          gives = omega arith;
+          inside = (omega (arith, low-most s 32 b), omega arith);
+          little = omega (arith, low-most s 32 b);
+        }
 
-  pub half : double / 2 + 2 * low s 32 ≡ high s 32 + 65535
+  pub half : double s / 2 + 2 * low s 32 ≡ high s 32 + 65535
   half = omega (arith, low-all 30 s, high-all 30 s, high_fits 30 s b)
 
   pub part-low-most : low s 32 ≤ 2097120

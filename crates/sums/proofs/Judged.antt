@@ -5,28 +5,16 @@ use mathlib.Core.List.{List}
 use Prim.Native.Nat.{ℕ, suc, ◌+◌, ◌*◌, ◌-◌, ◌/◌, ◌%◌, ◌≤◌}
 use native.Mathlib.Omega.{arith}
 use lib.Dec.{eqb}
-use lib.IntN.{ℤ}
+use lib.IntN.{ℤ, pos}
 use lib.ListN.{length}
 use Rattle.laws.proofs.Fields.{Bytes, field-add}
 use Rattle.model.specs.Bytes.{field}
 use Rattle.model.specs.Checksum.{sealed}
-use Rattle.sums.specs.Products.{Minus, Product, weights, low, high}
+use Rattle.sums.specs.Products.{Minus, Product, Constants, weights, low, high}
 use Rattle.sums.proofs.Multiples.{wrong-high, wrong-low, right-words}
-use Rattle.sums.proofs.Pairs.{Pair}
-use Rattle.sums.proofs.Weighed.{word-most, weights-most, weighed-most, low-most, weighed-split, sealed-words}
-
--- the weights of two products of n words and two
-pub record Weights (n : ℕ) : Type 0 where
-  pub few : n ≤ 30
-  pub apart : weights (65 + suc (suc n)) (suc (suc n)) ≡ weights (64 + suc (suc n)) (suc (suc n)) + suc (suc n)
-
--- and what is added to the sums that are made of them
-pub record Constants (n i j : ℕ) : Type 0 where
-  pub weighing : Weights n
-  pub little : (i ≤ 67108864) × (j ≤ 67108864)
-  pub first : 32768 * (weights (65 + suc (suc n)) (suc (suc n)) + weights (64 + suc (suc n)) (suc (suc n))) + 2 * n + 131070
-      ≡ 133 * (32768 * suc (suc n)) + i
-  pub second : j ≡ 32768 * suc (suc n) + 196606
+use Rattle.sums.proofs.Pairs.{Pair, Raised}
+use Rattle.sums.proofs.Weighed.{word-most, weights-most, weighed-most, low-most, high-most, weights-apart}
+use Rattle.sums.proofs.Weighed.{weighed-split, sealed-words}
 
 -- a test of multiples that failed, and one that was passed
 pub failed : {t : Bool} {z x : ℕ} → t ≡ false → t ≡ eqb (z % 65535) 0 → z ≡ x → eqb (x % 65535) 0 ≡ false
@@ -44,6 +32,15 @@ y_of n s = 1 + low s n + field 2 (2 * n) s + field 2 (2 * n + 2) s + 196605
 
 abbrev pub y-rest : ℕ → ℕ → ℕ
 y-rest c y = y - 2 * (c % 65536) - c / 65536
+
+-- the two sums of m words' products, z, and what is added to them, i
+abbrev pub First : ℕ → List ℕ → ℕ → ℤ → ℤ → Type 0
+First n s m z i =
+    Raised z i (2 * high s m + 133 * (32768 * m)) (32768 * (weights (65 + m) m + weights (64 + m) m) + 4 * low s m)
+    (32768 * (weights (65 + m) m + weights (64 + m) m) + 2 * m + 131066) (133 * (32768 * m)) (x-of n s)
+
+abbrev pub Second : ℕ → List ℕ → ℕ → ℤ → ℤ → Type 0
+Second n s m z i = Raised z i (low s m) (32768 * m) (32768 * m + 196606) 0 (y_of n s)
 
 -- both sums with two words more
 pub low-all : (n : ℕ) (s : List ℕ) → low s (suc (suc n)) ≡ low s n + field 2 (2 * n) s + field 2 (2 * n + 2) s
@@ -74,36 +71,39 @@ module _ (n : ℕ) (s : List ℕ) (b : Bytes s) where
   pub high_fits : word-high ≤ 65535
   high_fits = word-most (2 * n + 2) s b
 
-  pub pair_of : (i j x y : ℕ) (p q : ℤ) → Weights n → (i ≤ 67108864) × (j ≤ 67108864)
-      → 2 * high s (suc (suc n)) + 133 * (32768 * suc (suc n)) + i
-      ≡ x + (32768 * (weights (65 + suc (suc n)) (suc (suc n)) + weights (64 + suc (suc n)) (suc (suc n))) + 4 * low s (suc (suc n)))
-      → low s (suc (suc n)) + j ≡ y + 32768 * suc (suc n)
-      → Product (65 + suc (suc n)) s (suc (suc n)) p → Product (64 + suc (suc n)) s (suc (suc n)) q
-      → Pair (low s (suc (suc n))) (high s (suc (suc n))) (suc (suc n)) (weights (65 + suc (suc n)) (suc (suc n)))
-      (weights (64 + suc (suc n)) (suc (suc n))) i j x y p q
-  pair_of i j x y p q c little first second e f =
-      let m = suc (suc n) in
-      let g = weighed-split 65 s m in
-      let g' = weighed-split 64 s m in
-      record {
-        upper = subst (λ (k : ℕ). Minus p k (32768 * weights (65 + m) m)) g e;
-        lower = subst (λ (k : ℕ). Minus q k (32768 * weights (64 + m) m)) g' f;
-        apart = c.apart;
-        few = omega arith;
-        light = weights-most (65 + m) m (omega arith);
-        most = omega (arith, g, weighed-most (65 + m) s m b);
-        low-most = low-most s m b;
-        little = little;
-        first = first;
-        second = second;
-      }
+  -- what is added to the two sums of m words' products, and what they are then
+  module _ (m : ℕ) (e : m ≡ suc (suc n)) (few : m ≤ 32) (z i : ℤ) where
+    low-of : low s m ≡ low s n + word_low + word-high
+    low-of = ap (low s) e ∙ low-all n s
 
-  pub pair : (i j : ℕ) (p q : ℤ) → Constants n i j
-      → Product (65 + suc (suc n)) s (suc (suc n)) p → Product (64 + suc (suc n)) s (suc (suc n)) q
-      → Pair (low s (suc (suc n))) (high s (suc (suc n))) (suc (suc n)) (weights (65 + suc (suc n)) (suc (suc n)))
-      (weights (64 + suc (suc n)) (suc (suc n))) i j x y p q
-  pair i j p q c e f =
-      pair_of i j x y p q c.weighing c.little (omega (arith, low-all n s, high-all n s, high_fits)) (omega (arith, low-all n s)) e f
+    high-of : high s m ≡ high s n + 2 * low s n + 2 * word_low + word-high
+    high-of = ap (high s) e ∙ high-all n s
+
+    pub first-raised : Minus z (2 * high s m + 133 * (32768 * m)) (32768 * (weights (65 + m) m + weights (64 + m) m) + 4 * low s m)
+        → Minus i (32768 * (weights (65 + m) m + weights (64 + m) m) + 2 * m + 131066) (133 * (32768 * m))
+        → First n s m z i
+    first-raised f g =
+        record {
+          sum = f;
+          added = g;
+          gives = omega (arith, e, low-of, high-of, high_fits);
+          inside = (
+            omega (arith, few, high-most s m (omega (arith, few)) b),
+            omega (arith, few, low-most s m b, weights-most (65 + m) m (omega (arith, few)), weights-most (64 + m) m (omega (arith, few))),
+          );
+          little = omega (arith, e, few, high-most s n (omega (arith, e, few)) b);
+        }
+
+    pub second-raised : Minus z (low s m) (32768 * m) → Minus i (32768 * m + 196606) 0
+        → Second n s m z i
+    second-raised f g =
+        record {
+          sum = f;
+          added = g;
+          gives = omega (arith, low-of);
+          inside = (omega (arith, few, low-most s m b), omega (arith, few));
+          little = omega (arith, e, few, low-of, low-most s m b);
+        }
 
   module _ (long : 2 * n ≤ length s) where
     is-sealed : sealed (2 * n) s ≡ eqb ((n + high s n) % 65535 * 65536 + (1 + low s n) % 65535) (word_low + 65536 * word-high)
@@ -152,18 +152,27 @@ module _ (n : ℕ) (s : List ℕ) (b : Bytes s) where
           ∙ right-words (1 + low s n) (n + high s n) word_low word-high x rest low_fits high_fits (omega (arith, high_fits)) rest-is t v
           ∙ sym is-sealed
 
-pub record-weights : Weights 30
-unfolding weights
-record-weights = record { few = omega arith; apart = refl }
+-- the two products of m words
+pub pair_of : (m : ℕ) (s : List ℕ) (p q : ℤ) → m ≤ 32 → Bytes s → Product (65 + m) s m p → Product (64 + m) s m q
+    → Pair (low s m) (high s m) m (weights (65 + m) m) (weights (64 + m) m) p q
+pair_of m s p q few b e f =
+    let g = weighed-split 65 s m in
+    let h = weighed-split 64 s m in
+    record {
+      upper = subst (λ (k : ℕ). Minus p k (32768 * weights (65 + m) m)) g e;
+      lower = subst (λ (k : ℕ). Minus q k (32768 * weights (64 + m) m)) h f;
+      apart = weights-apart (65 + m) (64 + m) m (omega arith) (omega arith);
+      few = few;
+      light = weights-most (65 + m) m (omega arith);
+      most = omega (arith, g, weighed-most (65 + m) s m b);
+      low-most = low-most s m b;
+    }
 
-pub note-weights : Weights 6
+-- what is added for a record's words, and for a note's
+pub record-constants : Constants 32 (pos 30539834) (pos 1245182)
 unfolding weights
-note-weights = record { few = omega arith; apart = refl }
+record-constants = record { few = (omega arith, omega arith); first = record { difference = refl }; second = record { difference = refl } }
 
-pub record-constants : Constants 30 30539834 1245182
+pub note-constants : Constants 8 (pos 1441802) (pos 458750)
 unfolding weights
-record-constants = record { weighing = record-weights; little = (omega arith, omega arith); first = refl; second = refl }
-
-pub note-constants : Constants 6 1441802 458750
-unfolding weights
-note-constants = record { weighing = note-weights; little = (omega arith, omega arith); first = refl; second = refl }
+note-constants = record { few = (omega arith, omega arith); first = record { difference = refl }; second = record { difference = refl } }

@@ -3,6 +3,7 @@ pub mod Differences
 pub mod Images
 pub mod Judged
 pub mod Lanes
+pub mod Late
 pub mod Multiples
 pub mod Pairs
 pub mod Past

@@ -1,7 +1,7 @@
 -- What the machine makes of the two products of an item: the two numbers that are tested, and every value on the way
 -- there.
 use mathlib.Core.Path.{◌≡◌, subst}
-use Prim.Native.Nat.{ℕ, ◌+◌, ◌*◌, ◌-◌, ◌≤◌}
+use Prim.Native.Nat.{ℕ, ◌+◌, ◌*◌, ◌-◌, ◌≤◌, ◌<◌}
 use native.Mathlib.Omega.{arith}
 use lib.Dec.{T}
 use lib.IntN.{ℤ, pos, nat_abs, ◌+ℤ◌, ◌-ℤ◌, ◌*ℤ◌, *ℤ_comm}
@@ -13,9 +13,8 @@ use Rattle.sums.proofs.Differences.{minus_pos, minus-fits, minus-back, minus-oth
 use Rattle.sums.proofs.Differences.{minus-abs, add-minus, sub-minus, mul-minus}
 use Rattle.sums.proofs.Turns.{read}
 
--- p and q are the products of m words, whose sums are l and h; k and k' are their weights added up. With i and j added to
--- the two sums that are made of p and q, these are x and y
-pub record Pair (l h m k k' i j x y : ℕ) (p q : ℤ) : Type 0 where
+-- p and q are the products of m words, whose sums are l and h; k and k' are their weights added up
+pub record Pair (l h m k k' : ℕ) (p q : ℤ) : Type 0 where
   pub upper : Minus p (h + 65 * l) (32768 * k)
   pub lower : Minus q (h + 64 * l) (32768 * k')
   pub apart : k ≡ k' + m
@@ -23,11 +22,8 @@ pub record Pair (l h m k k' i j x y : ℕ) (p q : ℤ) : Type 0 where
   pub light : k ≤ 97 * m
   pub most : h + 65 * l ≤ 65535 * k
   pub low-most : l ≤ 65535 * m
-  pub little : (i ≤ 67108864) × (j ≤ 67108864)
-  pub first : 2 * h + 133 * (32768 * m) + i ≡ x + (32768 * (k + k') + 4 * l)
-  pub second : l + j ≡ y + 32768 * m
 
-module _ {l h m k k' i j x y : ℕ} {p q : ℤ} (u : Pair l h m k k' i j x y p q) where
+module _ {l h m k k' : ℕ} {p q : ℤ} (u : Pair l h m k k' p q) where
   p_back : Minus (read p) (h + 65 * l) (32768 * k)
   p_back = minus-back u.upper w32 (omega arith) (omega arith)
 
@@ -44,7 +40,7 @@ module _ {l h m k k' i j x y : ℕ} {p q : ℤ} (u : Pair l h m k k' i j x y p q
   pub all-fits : SFits w32 all
   all-fits = minus-fits is_all w32 (omega arith) (omega arith)
 
-  all_back : Minus (read all) l (32768 * m)
+  pub all_back : Minus (read all) l (32768 * m)
   all_back = minus-back is_all w32 (omega arith) (omega arith)
 
   abbrev pub both : ℤ
@@ -81,40 +77,34 @@ module _ {l h m k k' i j x y : ℕ} {p q : ℤ} (u : Pair l h m k k' i j x y p q
   pub twice-fits : SFits w32 twice
   twice-fits = minus-fits is-twice w32 (omega arith) (omega arith)
 
-  -- what is tested of it
-  abbrev pub twice-more : ℤ
-  twice-more = read twice +ℤ pos i
+  pub twice_back : Minus (read twice) (2 * h + 133 * (32768 * m)) (32768 * (k + k') + 4 * l)
+  twice_back = minus-back is-twice w32 (omega arith) (omega arith)
 
-  is_x : Minus twice-more x 0
-  is_x = minus-other (add-minus (minus-back is-twice w32 (omega arith) (omega arith)) (minus_pos i)) x 0 (omega arith)
+-- a number is added to such a sum, z, and the sum is then x, which is not below 0
+pub record Raised (z i : ℤ) (p n q o x : ℕ) : Type 0 where
+  pub sum : Minus z p n
+  pub added : Minus i q o
+  pub gives : p + q ≡ x + (n + o)
+  pub inside : (p < n + 2147483648) × (n ≤ p + 2147483648)
+  pub little : x < 2147483648
 
-  pub twice-more-fits : SFits w32 twice-more
-  twice-more-fits = minus-fits is_x w32 (omega arith) (omega arith)
+module _ {z i : ℤ} {p n q o x : ℕ} (u : Raised z i p n q o x) where
+  abbrev pub raised : ℤ
+  raised = read z +ℤ i
 
-  x-back : Minus (read twice-more) x 0
-  x-back = minus-back is_x w32 (omega arith) (omega arith)
+  is_x : Minus raised x 0
+  is_x =
+      minus-other (add-minus (minus-back u.sum w32 (omega (arith, u.inside.0)) (omega (arith, u.inside.1))) u.added) x 0
+      (omega (arith, u.gives))
 
-  pub x-cast : T (non_neg (read twice-more)) × Fits w32 (nat_abs (read twice-more))
-  x-cast = minus-cast x-back w32 (omega arith)
+  pub raised-fits : SFits w32 raised
+  raised-fits = minus-fits is_x w32 (omega (arith, u.little)) (omega arith)
 
-  pub x-abs : nat_abs (read twice-more) ≡ x
-  x-abs = minus-abs x-back
+  x-back : Minus (read raised) x 0
+  x-back = minus-back is_x w32 (omega (arith, u.little)) (omega arith)
 
-  -- and of the words
-  abbrev pub all_more : ℤ
-  all_more = read all +ℤ pos j
+  pub raised-cast : T (non_neg (read raised)) × Fits w32 (nat_abs (read raised))
+  raised-cast = minus-cast x-back w32 (omega (arith, u.little))
 
-  is_y : Minus all_more y 0
-  is_y = minus-other (add-minus all_back (minus_pos j)) y 0 (omega arith)
-
-  pub all-more-fits : SFits w32 all_more
-  all-more-fits = minus-fits is_y w32 (omega arith) (omega arith)
-
-  y-back : Minus (read all_more) y 0
-  y-back = minus-back is_y w32 (omega arith) (omega arith)
-
-  pub y-cast : T (non_neg (read all_more)) × Fits w32 (nat_abs (read all_more))
-  y-cast = minus-cast y-back w32 (omega arith)
-
-  pub y-abs : nat_abs (read all_more) ≡ y
-  y-abs = minus-abs y-back
+  pub raised-abs : nat_abs (read raised) ≡ x
+  raised-abs = minus-abs x-back

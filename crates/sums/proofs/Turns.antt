@@ -2,16 +2,16 @@
 -- read back from its bits, and is a difference of two numbers.
 use mathlib.Core.List.{List}
 use Prim.Native.Nat.{ℕ, suc, ◌+◌, ◌*◌, ◌-◌, ◌≤◌, ◌<◌}
-use native.Mathlib.Nat.{mul-le-mul_right}
+use native.Mathlib.Nat.{mul-le-mul_right, sub-zero}
 use native.Mathlib.Numerals.{add-one}
 use native.Mathlib.Omega.{arith}
-use lib.IntN.{ℤ, pos, ◌+ℤ◌, ◌-ℤ◌, ◌*ℤ◌}
+use lib.IntN.{ℤ, ◌+ℤ◌, ◌*ℤ◌}
 use mir.Syntax.{w16, w32}
 use mir.Val.{SFits, to_z, of_z}
 use Rattle.laws.proofs.Fields.{Bytes}
 use Rattle.model.specs.Bytes.{field}
 use Rattle.sums.specs.Products.{Minus, Product, weights, weighed}
-use Rattle.sums.proofs.Differences.{minus_pos, minus-fits, minus-back, minus-other, add-minus, sub-minus, mul-minus}
+use Rattle.sums.proofs.Differences.{minus_pos, minus-fits, minus-back, minus-other, add-minus, mul-minus}
 use Rattle.sums.proofs.Weighed.{word-most, weights-most, weighed-most}
 
 -- a value in a local of 32 bits, read
@@ -41,25 +41,18 @@ module _ {top : ℕ} {s : List ℕ} {n t : ℕ} {x : ℤ} (u : Turn top s n t x)
   word_fits : field 2 (2 * n) s ≤ 65535
   word_fits = word-most (2 * n) s u.bytes
 
-  pub place-fits : SFits w32 (pos n)
-  place-fits = minus-fits (minus_pos n) w32 (omega arith) (omega arith)
-
   abbrev pub weight : ℤ
-  weight = pos top -ℤ to_z w32 n
+  weight = to_z w32 (top - n)
 
-  is-weight : Minus weight top n
-  is-weight = minus-other (sub-minus (minus_pos top) (minus-back (minus_pos n) w32 (omega arith) (omega arith))) top n (omega arith)
-
-  pub weight-fits : SFits w32 weight
-  weight-fits = minus-fits is-weight w32 (omega arith) (omega arith)
+  is-weight : Minus weight (top - n) 0
+  is-weight = minus-back (minus_pos (top - n)) w32 (omega arith) (omega arith)
 
   abbrev pub term : ℤ
-  term = read x *ℤ read weight
+  term = read x *ℤ weight
 
   is-term : Minus term (field 2 (2 * n) s * (top - n)) (32768 * (top - n))
   is-term =
-      mul-minus (minus-back u.word w32 (omega (arith, word_fits)) (omega arith))
-      (minus-back is-weight w32 (omega arith) (omega arith)) (omega arith)
+      rw sub-zero at (mul-minus (minus-back u.word w32 (omega (arith, word_fits)) (omega arith)) is-weight (omega arith))
 
   term-most : field 2 (2 * n) s * (top - n) ≤ 65535 * (top - n)
   term-most = mul-le-mul_right (top - n) word_fits

@@ -49,6 +49,16 @@ weighed-split k s (suc n) =
     let h : weighed (k + suc n) s n ≡ high s n + suc k * low s n = ap (λ (x : ℕ). weighed x s n) e ∙ weighed-split (suc k) s n in
     rw f (omega (arith, h))
 
+pub weights-apart : (more top n : ℕ) → more ≡ suc top → n ≤ top → weights more n ≡ weights top n + n
+unfolding weights
+weights-apart more top zero e h = omega arith
+weights-apart more top (suc n) e h = omega (arith, weights-apart more top n e (omega arith))
+
+pub high-most : (s : List ℕ) (n : ℕ) → n ≤ 97 → Bytes s → high s n ≤ 65535 * (97 * n)
+high-most s n h b =
+    let e : 0 + n ≡ n = omega arith in
+    omega (arith, rw e at (weighed-split 0 s n), weighed-most n s n b, weights-most n n h)
+
 -- ---- the checksum
 
 module _ (m : ℕ) (s : List ℕ) (fits : m ≤ length s) where

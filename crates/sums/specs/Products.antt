@@ -1,5 +1,5 @@
 -- Sums of words with weights, and integers as differences of numbers.
-use Rattle.std.specs.Prelude.{◌≡◌, cond, List, ℕ, zero, suc, ◌+◌, ◌*◌, ◌-◌, ltb, ℤ, pos, negsuc}
+use Rattle.std.specs.Prelude.{◌≡◌, cond, List, ℕ, zero, suc, ◌+◌, ◌*◌, ◌-◌, ◌≤◌, ltb, ℤ, pos, negsuc}
 use Rattle.model.specs.Bytes.{field, part}
 
 -- an integer is p - n
@@ -32,6 +32,13 @@ low s (suc n) = low s n + field 2 (2 * n) s
 unfoldable pub high : List ℕ → ℕ → ℕ
 high s zero = 0
 high s (suc n) = high s n + low s (suc n)
+
+-- what is added to the two sums that are made of m words' products, i and j, before these are tested: the last two of
+-- the words are the item's checksum
+pub record Constants (m : ℕ) (i j : ℤ) : Type 0 where
+  pub few : (2 ≤ m) × (m ≤ 32)
+  pub first : Minus i (32768 * (weights (65 + m) m + weights (64 + m) m) + 2 * m + 131066) (133 * (32768 * m))
+  pub second : Minus j (32768 * m + 196606) 0
 
 -- ---- an image's 126 words, in four parts of 32: the last starts two words early
 

@@ -6,7 +6,6 @@ ghost use Rattle.sums.specs.Sums.{Summed};
 ghost use Rattle.sums.specs.Quads as quads;
 
 use crate::partial::Sums;
-use codec::number::{u8_u16, u16_u64};
 
 #[derive(Clone, Copy)]
 pub struct Quad {
@@ -40,10 +39,10 @@ fn step(l: Quad, s: &[u8], at: usize, k: usize) -> Quad
 {
     let i = at + k;
     Quad {
-        x0: l.x0 + u8_u16(s[i]),
-        x1: l.x1 + u8_u16(s[i + 1]),
-        x2: l.x2 + u8_u16(s[i + 2]),
-        x3: l.x3 + u8_u16(s[i + 3]),
+        x0: l.x0 + u16::from(s[i]),
+        x1: l.x1 + u16::from(s[i + 1]),
+        x2: l.x2 + u16::from(s[i + 2]),
+        x3: l.x3 + u16::from(s[i + 3]),
         z0: l.z0 + l.x0,
         z1: l.z1 + l.x1,
         z2: l.z2 + l.x2,
@@ -55,15 +54,15 @@ fn step(l: Quad, s: &[u8], at: usize, k: usize) -> Quad
 fn low(l: Quad) -> u64
     ensures { (result ≡ quads.low l) × (result ≤ 262140) }
 {
-    u16_u64(l.x0) + u16_u64(l.x1) + u16_u64(l.x2) + u16_u64(l.x3)
+    u64::from(l.x0) + u64::from(l.x1) + u64::from(l.x2) + u64::from(l.x3)
 }
 
 // And to the second.
 fn high(l: Quad) -> u64
     ensures { (result ≡ quads.high l) × (result ≤ 2752470) }
 {
-    let z = u16_u64(l.z0) + u16_u64(l.z1) + u16_u64(l.z2) + u16_u64(l.z3);
-    8 * z + (4 * u16_u64(l.x0) + 3 * u16_u64(l.x1) + 2 * u16_u64(l.x2) + u16_u64(l.x3))
+    let z = u64::from(l.z0) + u64::from(l.z1) + u64::from(l.z2) + u64::from(l.z3);
+    8 * z + (4 * u64::from(l.x0) + 3 * u64::from(l.x1) + 2 * u64::from(l.x2) + u64::from(l.x3))
 }
 
 // A block of 120 bytes.

@@ -1,12 +1,16 @@
 // The checksum of an item, over words: computed, set and compared.
 ghost use Rattle.std.specs.Prelude.{◌≡◌, ◌+◌, ◌≤◌, length};
+ghost use Rattle.model.specs.Bytes.{field};
 ghost use Rattle.model.specs.Checksum.{checksum, checksum_from, seal, sealed};
+ghost use Rattle.std.proofs.Common.{rules};
 ghost use Rattle.sums.specs.Sums.{Summed, Headed};
+ghost use Rattle.sums.specs.Terms.{word-next, word-end};
 
+use crate::check::Check;
 use crate::partial::Sums;
-use crate::{partial, products, word_lanes};
+use crate::terms::Terms;
+use crate::{partial, products, terms, word_lanes};
 use codec::field;
-use codec::number::u8_u64;
 
 // The sums of the first 12 bytes: all that a note has.
 fn head(s: &[u8]) -> Sums
@@ -16,30 +20,11 @@ fn head(s: &[u8]) -> Sums
 {
     let mut a: u64 = 1;
     let mut b: u64 = 0;
-    let mut i: usize = 0;
-    while i < 12 {
-        a = a + (u8_u64(s[i]) + 256 * u8_u64(s[i + 1]));
-        b = b + a;
-        i += 2;
+    for k in 0..6usize {
+        a += u64::from(field::two(s, 2 * k));
+        b += a;
     }
     Sums { a, b, at: 12 }
-}
-
-// The checksum with its remainders taken once, at the end, from sums on.
-fn late(s: &[u8], t: Sums) -> u32
-    requires s_len_bound { length s.now ≤ 65536 }
-    requires summed { Summed checksum_from s.now t }
-    ensures { result ≡ checksum s.now }
-{
-    let mut a = t.a;
-    let mut b = t.b;
-    let mut i = t.at;
-    while i + 1 < s.len() {
-        a = a + (u8_u64(s[i]) + 256 * u8_u64(s[i + 1]));
-        b = b + a;
-        i += 2;
-    }
-    partial::value(Sums { a, b, at: i })
 }
 
 // The checksum of an item: 12 or 60 bytes, which are 12 and blocks of 48, and whatever else is as short.
@@ -51,22 +36,30 @@ fn short(s: &[u8]) -> u32
     if s.len() < 14 {
         return partial::value(t);
     }
-    late(s, word_lanes::blocks(s, t))
+    terms::late::<WordSum>(s, word_lanes::blocks(s, t))
 }
 
-// The checksum with its remainders taken word by word, for any length.
-fn stepwise(v: &[u8]) -> u32
-    ensures { result ≡ checksum v.now }
-{
-    let mut a: u64 = 1;
-    let mut b: u64 = 0;
-    let mut i: usize = 0;
-    while i + 1 < v.len() {
-        a = (a + (u8_u64(v[i]) + 256 * u8_u64(v[i + 1]))) % 65535;
-        b = (b + a) % 65535;
-        i += 2;
+// The sum over words.
+pub struct WordSum;
+
+impl Terms for WordSum {
+    ghost WIDTH = { 2 };
+
+    ghost term = { field 2 };
+
+    ghost from = { checksum_from };
+
+    const WIDTH: usize = 2;
+
+    fn term(s: &[u8], at: usize) -> u64 {
+        u64::from(field::two(s, at))
     }
-    (b * 65536 + a) as u32
+
+    ghost some = { Prim.search rules };
+
+    ghost next = { word-next };
+
+    ghost end = { word-end };
 }
 
 // The checksum of bytes; an odd last byte does not count.
@@ -74,7 +67,7 @@ pub fn sum(s: &[u8]) -> u32
     ensures { result ≡ checksum s.now }
 {
     if s.len() < 12 {
-        return stepwise(s);
+        return terms::stepwise::<WordSum>(s);
     }
     if s.len() == 252 {
         return products::image_sum(s);
@@ -83,28 +76,30 @@ pub fn sum(s: &[u8]) -> u32
         return short(s);
     }
     if s.len() <= 65536 {
-        late(s, partial::START)
+        terms::late::<WordSum>(s, partial::START)
     } else {
-        stepwise(s)
+        terms::stepwise::<WordSum>(s)
     }
 }
 
-// Sets the checksum of an item's first n bytes in the four behind them.
+impl Check for WordSum {
+    ghost of = { checksum };
+
+    fn sum(s: &[u8]) -> u32 {
+        sum(s)
+    }
+}
+
+// As `Check` has it.
 pub fn set(item: &mut [u8], n: usize)
     requires { n + 4 ≡ length item.old }
     ensures { item.new ≡ seal n item.old }
 {
-    let c = sum(&item[0..n]);
-    field::put_u32(item, n, c);
+    WordSum::set(item, n)
 }
 
-// The four bytes behind an item's first n hold their checksum. Where n is past the end, these are all bytes, and 0.
 pub fn holds(item: &[u8], n: usize) -> bool
     ensures { result ≡ sealed n item.now }
 {
-    if n <= item.len() {
-        sum(&item[0..n]) == field::u32_at(item, n)
-    } else {
-        sum(item) == 0
-    }
+    WordSum::holds(item, n)
 }

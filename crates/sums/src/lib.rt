@@ -3,7 +3,9 @@
 
 mod byte_lanes;
 pub mod byte_sum;
+pub mod check;
 pub mod checksum;
 mod partial;
 pub mod products;
+mod terms;
 mod word_lanes;

@@ -2,13 +2,12 @@
 // that of an image computed by such products. The products are of signed words, so that each word goes in as w - 32768.
 // No weight is 0 or a power of two: the compiler then makes `pmaddwd` of the products, where of others it makes shifts
 // and sums, which are slower.
-ghost use Rattle.std.specs.Prelude.{◌≡◌, ◌+◌, ◌*◌, ◌%◌, ◌≤◌, eqb, length};
+ghost use Rattle.std.specs.Prelude.{◌≡◌, ◌+◌, ◌*◌, ◌-◌, ◌%◌, ◌≤◌, eqb, length};
 ghost use Rattle.model.specs.Bytes.{field, part};
 ghost use Rattle.model.specs.Checksum.{checksum, sealed};
-ghost use Rattle.sums.specs.Products.{Minus, Product, low, high, place_of, above_of};
+ghost use Rattle.sums.specs.Products.{Minus, Product, Constants, weights, low, high, place_of, above_of};
 
 use codec::field;
-use codec::number::{i16_i32, u16_u32};
 
 // The word at a place, less 32768.
 fn flipped(s: &[u8], at: usize) -> i16
@@ -18,58 +17,16 @@ fn flipped(s: &[u8], at: usize) -> i16
     (field::two(s, at) as i32 - 32768) as i16
 }
 
-// 32 words with the weights 97 to 66.
-fn upper(r: &[u8]) -> i32
-    requires { length r.now ≡ 64 }
-    ensures { Product 97 r.now 32 result }
+// WORDS words with the weights top, top - 1, ..: expanded where it is called, so that the compiler knows both.
+#[inline(always)]
+fn product<const WORDS: usize>(r: &[u8], top: usize) -> i32
+    requires sized { length r.now ≡ 2 * WORDS }
+    requires weighed { (WORDS ≤ 32) × (WORDS ≤ top) × (top ≤ 97) }
+    ensures { Product top r.now WORDS result }
 {
     let mut t: i32 = 0;
-    let mut i: usize = 0;
-    while i < 32 {
-        t = t + i16_i32(flipped(r, 2 * i)) * (97 - i as i32);
-        i += 1;
-    }
-    t
-}
-
-// And with 96 to 65.
-fn lower(r: &[u8]) -> i32
-    requires { length r.now ≡ 64 }
-    ensures { Product 96 r.now 32 result }
-{
-    let mut t: i32 = 0;
-    let mut i: usize = 0;
-    while i < 32 {
-        t = t + i16_i32(flipped(r, 2 * i)) * (96 - i as i32);
-        i += 1;
-    }
-    t
-}
-
-// 8 words with the weights 73 to 66.
-fn upper_note(r: &[u8]) -> i32
-    requires { length r.now ≡ 16 }
-    ensures { Product 73 r.now 8 result }
-{
-    let mut t: i32 = 0;
-    let mut i: usize = 0;
-    while i < 8 {
-        t = t + i16_i32(flipped(r, 2 * i)) * (73 - i as i32);
-        i += 1;
-    }
-    t
-}
-
-// And with 72 to 65.
-fn lower_note(r: &[u8]) -> i32
-    requires { length r.now ≡ 16 }
-    ensures { Product 72 r.now 8 result }
-{
-    let mut t: i32 = 0;
-    let mut i: usize = 0;
-    while i < 8 {
-        t = t + i16_i32(flipped(r, 2 * i)) * (72 - i as i32);
-        i += 1;
+    for i in 0..WORDS {
+        t += i32::from(flipped(r, 2 * i)) * (top - i) as i32;
     }
     t
 }
@@ -81,80 +38,68 @@ fn multiple_of_modulus(x: u32) -> bool
     x % 65535 == 0
 }
 
-// A record of 64 bytes has a right checksum. With w0 to w31 its words, a = 1 + w0 + .. + w29 and b = 30 + 30 w0 + .. +
-// w29, it is right where a - w30 and b - w31 are multiples of 65535, and neither w30 nor w31 is 65535. What is tested
-// first is 2 (b - w31 + 65535), and then a - w30 + 3 * 65535: neither is below 0. Of both products their sum and their
-// difference are taken: neither may be added up into another sum, or the compiler takes the products apart.
+// Of words their sum, and twice the sum of what it was after each of them, both less a number that is known. Each is the
+// two products' difference or made of their sum: neither product may be added up into another sum, or the compiler takes
+// the products apart.
+#[derive(Clone, Copy)]
+struct Pair {
+    all: i32,
+    twice: i32,
+}
+
+#[inline(always)]
+fn weigh<const WORDS: usize>(r: &[u8]) -> Pair
+    requires sized { (length r.now ≡ 2 * WORDS) × (WORDS ≤ 32) }
+    ensures all { Minus result.all (low r.now WORDS) (32768 * WORDS) }
+    ensures twice { Minus result.twice (2 * high r.now WORDS + 133 * (32768 * WORDS))
+        (32768 * (weights (65 + WORDS) WORDS + weights (64 + WORDS) WORDS) + 4 * low r.now WORDS) }
+{
+    let p = product::<WORDS>(r, 65 + WORDS);
+    let q = product::<WORDS>(r, 64 + WORDS);
+    let all = p - q;
+    let twice = p + q - 133 * all;
+    Pair { all, twice }
+}
+
+// An item of WORDS words, the last two its checksum, has a right one. With w0 to w31 the words of a record, a = 1 + w0 +
+// .. + w29 and b = 30 + 30 w0 + .. + w29, it is right where a - w30 and b - w31 are multiples of 65535, and neither w30
+// nor w31 is 65535. What is tested first is 2 (b - w31 + 65535), and then a - w30 + 3 * 65535: neither is below 0.
+#[inline(always)]
+fn holds<const WORDS: usize, const HIGH: i32, const LOW: i32>(r: &[u8]) -> bool
+    requires sized { length r.now ≡ 2 * WORDS }
+    requires constants { Constants WORDS HIGH LOW }
+    ensures { result ≡ sealed (2 * WORDS - 4) r.now }
+{
+    let s = weigh::<WORDS>(r);
+    if !multiple_of_modulus((s.twice + HIGH) as u32) {
+        return false;
+    }
+    let c = field::four(r, 2 * WORDS - 4);
+    let low = c % 65536;
+    let high = c / 65536;
+    if !multiple_of_modulus((s.all + LOW) as u32 - 2 * low - high) {
+        return false;
+    }
+    (low != 65535) & (high != 65535)
+}
+
+// A record of 64 bytes has a right checksum.
 pub fn record_holds(r: &[u8]) -> bool
     requires { length r.now ≡ 64 }
     ensures { result ≡ sealed 60 r.now }
 {
-    let p = upper(r);
-    let q = lower(r);
-    let all = p - q;
-    let twice = p + q - 133 * all;
-    if !multiple_of_modulus((twice + 30539834) as u32) {
-        return false;
-    }
-    let c = field::four(r, 60);
-    let low = c % 65536;
-    let high = c / 65536;
-    if !multiple_of_modulus((all + 1245182) as u32 - 2 * low - high) {
-        return false;
-    }
-    (low != 65535) & (high != 65535)
+    holds::<32, 30539834, 1245182>(r)
 }
 
-// A note of 16 bytes, as a record: 6 words.
+// A note of 16 bytes, as a record.
 pub fn note_holds(r: &[u8]) -> bool
     requires { length r.now ≡ 16 }
     ensures { result ≡ sealed 12 r.now }
 {
-    let p = upper_note(r);
-    let q = lower_note(r);
-    let all = p - q;
-    let twice = p + q - 133 * all;
-    if !multiple_of_modulus((twice + 1441802) as u32) {
-        return false;
-    }
-    let c = field::four(r, 12);
-    let low = c % 65536;
-    let high = c / 65536;
-    if !multiple_of_modulus((all + 458750) as u32 - 2 * low - high) {
-        return false;
-    }
-    (low != 65535) & (high != 65535)
+    holds::<8, 1441802, 458750>(r)
 }
 
-// 32 words of an image with the weights 97 to 66, and with 96 to 65: as of a record, and apart from it, so that each is
-// called once and the compiler expands it there.
-fn upper_part(r: &[u8]) -> i32
-    requires { length r.now ≡ 64 }
-    ensures { Product 97 r.now 32 result }
-{
-    let mut t: i32 = 0;
-    let mut i: usize = 0;
-    while i < 32 {
-        t = t + i16_i32(flipped(r, 2 * i)) * (97 - i as i32);
-        i += 1;
-    }
-    t
-}
-
-fn lower_part(r: &[u8]) -> i32
-    requires { length r.now ≡ 64 }
-    ensures { Product 96 r.now 32 result }
-{
-    let mut t: i32 = 0;
-    let mut i: usize = 0;
-    while i < 32 {
-        t = t + i16_i32(flipped(r, 2 * i)) * (96 - i as i32);
-        i += 1;
-    }
-    t
-}
-
-// The two sums of 32 words.
+// The two sums of 32 words of an image.
 #[derive(Clone, Copy)]
 pub struct Words {
     pub a: u32,
@@ -168,12 +113,9 @@ fn sums_at(s: &[u8], at: usize) -> Words
 {
     let end = at + 64;
     let r = &s[at..end];
-    let p = upper_part(r);
-    let q = lower_part(r);
-    let all = p - q;
-    let twice = p + q - 133 * all;
-    let a = (all + 1048576) as u32;
-    let b = (twice + 30539774) as u32 / 2 + 2 * a - 65535;
+    let p = weigh::<32>(r);
+    let a = (p.all + 1048576) as u32;
+    let b = (p.twice + 30539774) as u32 / 2 + 2 * a - 65535;
     Words { a, b }
 }
 
@@ -205,16 +147,14 @@ pub fn image_sum(s: &[u8]) -> u32
     requires { length s.now ≡ 252 }
     ensures { result ≡ checksum s.now }
 {
-    let v = u16_u32(field::two(s, 188));
-    let w = u16_u32(field::two(s, 190));
+    let v = u32::from(field::two(s, 188));
+    let w = u32::from(field::two(s, 190));
     let mut a: u32 = 1;
     let mut b: u32 = 126;
-    let mut k: usize = 0;
-    while k < 4 {
+    for k in 0..4usize {
         let t = sums_at(s, place(k));
-        a = a + t.a;
-        b = b + (t.b + above(k) * t.a);
-        k += 1;
+        a += t.a;
+        b += t.b + above(k) * t.a;
     }
     folded(b - 32 * v - 31 * w) * 65536 + folded(a - v - w)
 }

@@ -8,7 +8,6 @@ ghost use Rattle.sums.specs.Words.{Bounded, Stepped, Passed, low, high};
 
 use crate::partial::Sums;
 use codec::field;
-use codec::number::{u16_u32, u32_u64};
 
 #[derive(Clone, Copy)]
 pub struct Lanes {
@@ -38,7 +37,7 @@ fn word(s: &[u8], at: usize) -> u32
     requires { at + 2 ≤ length s.now }
     ensures { (result ≡ field 2 at s.now) × (result ≤ 65535) }
 {
-    u16_u32(field::two(s, at))
+    u32::from(field::two(s, at))
 }
 
 // Four words.
@@ -80,13 +79,13 @@ fn total(a: u64, b: u64, at: usize, l: Lanes) -> Sums
     requires { (a ≤ 1048576) × (b ≤ 1073741824) }
     ensures { (result.a ≡ a + low l) × (result.b ≡ b + high l) × (result.at ≡ at) }
 {
-    let p = u32_u64(l.x0) + u32_u64(l.x1);
-    let q = p + u32_u64(l.x2);
-    let r = q + u32_u64(l.x3);
-    let z = u32_u64(l.z0) + u32_u64(l.z1) + u32_u64(l.z2) + u32_u64(l.z3);
+    let p = u64::from(l.x0) + u64::from(l.x1);
+    let q = p + u64::from(l.x2);
+    let r = q + u64::from(l.x3);
+    let z = u64::from(l.z0) + u64::from(l.z1) + u64::from(l.z2) + u64::from(l.z3);
     Sums {
         a: a + r,
-        b: b + 4 * z + (u32_u64(l.x0) + p + q + r),
+        b: b + 4 * z + (u64::from(l.x0) + p + q + r),
         at,
     }
 }

@@ -6,11 +6,4 @@ use Rattle.codec.proofs.field.eight.Goals as goal
 pub returns : goal.returns
 returns c =
     let a = c.args in
-    omega (
-      arith,
-      field-add 4 4 a.at a.s.now,
-      c.u32_u64-2.ensures.0,
-      c.four-2.ensures,
-      c.u32_u64.ensures.0,
-      c.four.ensures,
-    )
+    omega (arith, field-add 4 4 a.at a.s.now, c.from-2.ensures, c.four-2.ensures, c.from.ensures, c.four.ensures)

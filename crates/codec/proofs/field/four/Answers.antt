@@ -1,7 +1,8 @@
 -- `codec::field::four` meets its contract.
 use mathlib.Core.Path.{◌≡◌}
-use Prim.Native.Nat.{◌+◌}
+use Prim.Native.Nat.{◌+◌, ◌*◌}
 use native.Mathlib.Omega.{arith}
+use lib.ListN.{get_or}
 use Rattle.laws.proofs.Fields.{field-add}
 use Rattle.codec.proofs.Stores.{field-two}
 use Rattle.codec.proofs.field.four.Goals as goal
@@ -9,15 +10,9 @@ use Rattle.codec.proofs.field.four.Goals as goal
 pub returns : goal.returns
 returns c =
     let a = c.args in
-    let xs = a.s.now in
+    let s = a.s.now in
+    let r : c.from_le_bytes.result
+    ≡ get_or s a.at 0 + get_or s (a.at + 1) 0 * 256 + get_or s (a.at + 2) 0 * 65536 + get_or s (a.at + 3) 0 * 16777216 =
+    c.from_le_bytes.ensures in
     let e : a.at + 2 + 1 ≡ a.at + 3 = omega arith in
-    omega (
-      arith,
-      field-add 2 2 a.at xs,
-      field-two a.at xs,
-      rw e at (field-two (a.at + 2) xs),
-      c.u8_u32-4.ensures.0,
-      c.u8_u32-3.ensures.0,
-      c.u8_u32-2.ensures.0,
-      c.u8_u32.ensures.0,
-    )
+    omega (arith, r, field-add 2 2 a.at s, field-two a.at s, rw e at (field-two (a.at + 2) s))

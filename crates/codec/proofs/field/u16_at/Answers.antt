@@ -13,4 +13,4 @@ pub returns-else-s-at-ge2 : goal.returns-else-s-at-ge2
 returns-else-s-at-ge2 c =
     let a = c.args in
     let past : get_or a.s.now (a.at + 1) 0 ≡ 0 = get_or-eq_default a.s.now 0 (omega arith) in
-    omega (arith, field-two a.at a.s.now, c.u8_u16.ensures.0, past)
+    omega (arith, field-two a.at a.s.now, c.from.ensures, past)

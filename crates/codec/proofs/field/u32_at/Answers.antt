@@ -14,8 +14,8 @@ returns-else-s-at-ge4 c =
     omega (
       arith,
       field-add 2 2 a.at a.s.now,
-      c.u16_u32-else-s-at-ge4.ensures.0,
+      c.from-else-s-at-ge4.ensures,
       c.u16_at-else-s-at-ge4.ensures,
-      c.u16_u32.ensures.0,
+      c.from.ensures,
       c.u16_at.ensures,
     )

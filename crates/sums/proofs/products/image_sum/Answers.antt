@@ -14,7 +14,7 @@ use Rattle.sums.proofs.products.image_sum.Goals as goal
 pub loop-k-init : goal.loop-k-init
 loop-k-init c =
     let s = c.args.s.now in
-    (omega arith, no-parts s, no-parts-high s)
+    (no-parts s, no-parts-high s)
 
 pub sums_at-t-requires : goal.sums_at-t-requires
 sums_at-t-requires c = omega (arith, c.place.ensures.1)
@@ -80,9 +80,8 @@ loop-k-preserved c =
     let u = c.above in
     let l = c.loop-k in
     let r = c.sums_at-t.result in (
-      omega arith,
-      lows-next (bytes_of w) (k-of w) l.a l.b r.a r.b u.result (is-low w) l.invariant.1,
-      highs-next (bytes_of w) (k-of w) l.a l.b r.a r.b u.result (is-low w) (is-high w) u.ensures.0 l.invariant.2,
+      lows-next (bytes_of w) (k-of w) l.a l.b r.a r.b u.result (is-low w) l.invariant.0,
+      highs-next (bytes_of w) (k-of w) l.a l.b r.a r.b u.result (is-low w) (is-high w) u.ensures.0 l.invariant.1,
     )
 
 -- after the last part
@@ -93,17 +92,17 @@ module _ (c : goal.After-loop-k) where
   last : c.loop-k.k ≡ 4
   last = omega arith
 
-  first_word : c.u16_u32-v.result ≡ field 2 188 image
-  first_word = c.u16_u32-v.ensures.0 ∙ c.two.ensures
+  first_word : c.from-v.result ≡ field 2 188 image
+  first_word = c.from-v.ensures ∙ c.two.ensures
 
-  second_word : c.u16_u32-w.result ≡ field 2 190 image
-  second_word = c.u16_u32-w.ensures.0 ∙ c.two-2.ensures
+  second_word : c.from-w.result ≡ field 2 190 image
+  second_word = c.from-w.ensures ∙ c.two-2.ensures
 
   sum_low : c.loop-k.a ≡ 1 + low image 126 + field 2 188 image + field 2 190 image
-  sum_low = let e = rw last at c.loop-k.invariant.1 in omega (arith, e, lows-all image)
+  sum_low = let e = rw last at c.loop-k.invariant.0 in omega (arith, e, lows-all image)
 
   sum-high : c.loop-k.b ≡ 126 + high image 126 + 32 * field 2 188 image + 31 * field 2 190 image
-  sum-high = let e = rw last at c.loop-k.invariant.2 in omega (arith, e, highs-all image)
+  sum-high = let e = rw last at c.loop-k.invariant.1 in omega (arith, e, highs-all image)
 
   few : c.loop-k.b ≤ 1073741824
   few =
@@ -145,8 +144,8 @@ pub returns : goal.returns
 returns c =
     let k = (goal.at.returns c).After-loop-k in
     let l = c.loop-k in
-    let v = c.u16_u32-v.result in
-    let w = c.u16_u32-w.result in
+    let v = c.from-v.result in
+    let w = c.from-w.result in
     let e : l.a - v - w ≡ 1 + low (image k) 126 = omega (arith, first_word k, second_word k, sum_low k) in
     let f : l.b - 32 * v - 31 * w ≡ 126 + high (image k) 126 = omega (arith, first_word k, second_word k, sum-high k) in
     rw (c.folded.ensures.0, c.folded-2.ensures.0, e, f)

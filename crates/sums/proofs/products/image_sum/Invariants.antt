@@ -5,7 +5,4 @@ use Rattle.sums.specs.Products.{lows, highs}
 use Rattle.sums.proofs.products.image_sum.Given as goal
 
 abbrev pub invariant-loop-k : goal.invariant-loop-k
-invariant-loop-k l = (l.k ≤ 4) × (l.a ≡ 1 + lows l.s l.k) × (l.b ≡ 126 + highs l.s l.k)
-
-abbrev pub decreases-loop-k : goal.decreases-loop-k
-decreases-loop-k l = 4 - l.k
+invariant-loop-k l = (l.a ≡ 1 + lows l.s l.k) × (l.b ≡ 126 + highs l.s l.k)
