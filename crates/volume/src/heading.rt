@@ -1,9 +1,11 @@
 // What a volume's heading says, and whether heading, counts and length are right. Reads of any bytes are safe.
-ghost use Rattle.std.specs.Prelude.{◌≡◌, true};
+ghost use Rattle.std.specs.Prelude.{◌≡◌, true, cond, not};
+ghost use Rattle.model.specs.Refused.{refusal_number};
 ghost use Rattle.model.specs.Bytes.{starts_with};
 ghost use Rattle.model.specs.Geometry.{magic, known_magic, length_for, geometry_of, valid_counts, valid_volume};
 
 use codec::{field, part};
+use model::answer::Refusal;
 use model::geometry::{Geometry, Heading};
 
 // The four bytes that a volume starts with: the first heading, the second, and that of a volume that is being carried
@@ -90,4 +92,15 @@ pub fn valid(v: &[u8]) -> bool
         return false;
     }
     sound(v, geometry(v))
+}
+
+// The refusal of a call that is lent a buffer of another length: the volume is judged first.
+pub fn bad_buffer(volume: &[u8]) -> Refusal
+    ensures { refusal_number result ≡ cond (not (valid_volume volume.now)) 1 2 }
+{
+    if valid(volume) {
+        Refusal::BadBuffer
+    } else {
+        Refusal::BadVolume
+    }
 }
