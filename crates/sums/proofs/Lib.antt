@@ -2,7 +2,7 @@
 pub mod Differences
 pub mod Images
 pub mod Judged
-pub mod Lanes
+pub mod LaneSums
 pub mod Late
 pub mod Multiples
 pub mod Pairs

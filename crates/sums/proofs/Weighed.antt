@@ -13,7 +13,7 @@ use Rattle.laws.proofs.Fields.{Bytes, field-add, field-take, field_below}
 use Rattle.model.specs.Bytes.{field}
 use Rattle.model.specs.Checksum.{checksum_from, checksum, sum_holds, sealed}
 use Rattle.sums.specs.Products.{weights, weighed, low, high}
-use Rattle.sums.proofs.Lanes.{led}
+use Rattle.sums.proofs.LaneSums.{led}
 
 -- ---- bounds
 

@@ -1,4 +1,5 @@
 pub mod Sums
+pub mod Lanes
 pub mod Words
 pub mod Quads
 pub mod Products

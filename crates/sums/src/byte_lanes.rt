@@ -5,40 +5,18 @@ ghost use Rattle.model.specs.Checksum.{byte_sum_from};
 ghost use Rattle.sums.specs.Sums.{Summed};
 ghost use Rattle.sums.specs.Quads as quads;
 
+use crate::lanes::{self, Lanes};
 use crate::partial::Sums;
 
-#[derive(Clone, Copy)]
-pub struct Quad {
-    pub x0: u16,
-    pub x1: u16,
-    pub x2: u16,
-    pub x3: u16,
-    pub z0: u16,
-    pub z1: u16,
-    pub z2: u16,
-    pub z3: u16,
-}
-
-const NONE: Quad = Quad {
-    x0: 0,
-    x1: 0,
-    x2: 0,
-    x3: 0,
-    z0: 0,
-    z1: 0,
-    z2: 0,
-    z3: 0,
-};
-
 // Four bytes, k behind a place.
-fn step(l: Quad, s: &[u8], at: usize, k: usize) -> Quad
+fn step(l: Lanes<u16>, s: &[u8], at: usize, k: usize) -> Lanes<u16>
     requires k_in_bounds { (at + k + 4 ≤ length s.now) × (k ≤ 112) }
     requires bounded { quads.Bounded k l }
     ensures bounded_2 { quads.Bounded (k + 8) result }
     ensures stepped { quads.Stepped s.now (at + k) l result }
 {
     let i = at + k;
-    Quad {
+    Lanes {
         x0: l.x0 + u16::from(s[i]),
         x1: l.x1 + u16::from(s[i + 1]),
         x2: l.x2 + u16::from(s[i + 2]),
@@ -51,14 +29,14 @@ fn step(l: Quad, s: &[u8], at: usize, k: usize) -> Quad
 }
 
 // What four lanes add to the first sum.
-fn low(l: Quad) -> u64
+fn low(l: Lanes<u16>) -> u64
     ensures { (result ≡ quads.low l) × (result ≤ 262140) }
 {
     u64::from(l.x0) + u64::from(l.x1) + u64::from(l.x2) + u64::from(l.x3)
 }
 
 // And to the second.
-fn high(l: Quad) -> u64
+fn high(l: Lanes<u16>) -> u64
     ensures { (result ≡ quads.high l) × (result ≤ 2752470) }
 {
     let z = u64::from(l.z0) + u64::from(l.z1) + u64::from(l.z2) + u64::from(l.z3);
@@ -72,8 +50,8 @@ fn block(s: &[u8], t: Sums) -> Sums
     ensures summed_2 { Summed byte_sum_from s.now result }
     ensures at_lt_at { t.at < result.at }
 {
-    let mut l = NONE;
-    let mut m = NONE;
+    let mut l = lanes::none(0);
+    let mut m = lanes::none(0);
     let mut b = t.b;
     let mut k: usize = 0;
     while k <= 112 {

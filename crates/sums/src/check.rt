@@ -4,6 +4,7 @@ ghost use Rattle.model.specs.Checksum.{with_sum, sum_holds};
 
 use codec::field;
 
+// What a sum has to give so that items can be checked by it: `WordSum` and `ByteSum` are two.
 pub trait Check {
     // The sum.
     ghost of: { List ℕ → ℕ };

@@ -38,9 +38,9 @@ fn multiple_of_modulus(x: u32) -> bool
     x % 65535 == 0
 }
 
-// Of words their sum, and twice the sum of what it was after each of them, both less a number that is known. Each is the
-// two products' difference or made of their sum: neither product may be added up into another sum, or the compiler takes
-// the products apart.
+// Of words their sum, and twice the sum of what it was after each of them, both less a number that is known. Each is
+// the two products' difference or made of their sum: neither product may be added up into another sum, or the compiler
+// takes the products apart.
 #[derive(Clone, Copy)]
 struct Pair {
     all: i32,
@@ -61,9 +61,10 @@ fn weigh<const WORDS: usize>(r: &[u8]) -> Pair
     Pair { all, twice }
 }
 
-// An item of WORDS words, the last two its checksum, has a right one. With w0 to w31 the words of a record, a = 1 + w0 +
-// .. + w29 and b = 30 + 30 w0 + .. + w29, it is right where a - w30 and b - w31 are multiples of 65535, and neither w30
-// nor w31 is 65535. What is tested first is 2 (b - w31 + 65535), and then a - w30 + 3 * 65535: neither is below 0.
+// An item of WORDS words, the last two its checksum, has a right one. With w0 to w31 the words of a record, a = 1 + w0
+// + .. + w29 and b = 30 + 30 w0 + .. + w29, it is right where a - w30 and b - w31 are multiples of 65535, and neither
+// w30 nor w31 is 65535. What is tested first is 2 (b - w31 + 65535), and then a - w30 + 3 * 65535: neither is below 0.
+// HIGH and LOW make up for the 32768 that was taken from each word (`Constants`).
 #[inline(always)]
 fn holds<const WORDS: usize, const HIGH: i32, const LOW: i32>(r: &[u8]) -> bool
     requires sized { length r.now ≡ 2 * WORDS }

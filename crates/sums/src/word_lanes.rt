@@ -1,36 +1,13 @@
-// The word sum in four lanes: word k goes to lane k % 4, and the compiler keeps the lanes in a vector. In a lane x is
-// the sum of its words, and z the sum of what x was before each of them.
+// The word sum in four lanes of 32 bits.
 ghost use Rattle.std.specs.Prelude.{◌≡◌, ◌+◌, ◌≤◌, length};
 ghost use Rattle.model.specs.Bytes.{field};
 ghost use Rattle.model.specs.Checksum.{checksum_from};
 ghost use Rattle.sums.specs.Sums.{Summed, Headed};
 ghost use Rattle.sums.specs.Words.{Bounded, Stepped, Passed, low, high};
 
+use crate::lanes::{self, Lanes};
 use crate::partial::Sums;
 use codec::field;
-
-#[derive(Clone, Copy)]
-pub struct Lanes {
-    pub x0: u32,
-    pub x1: u32,
-    pub x2: u32,
-    pub x3: u32,
-    pub z0: u32,
-    pub z1: u32,
-    pub z2: u32,
-    pub z3: u32,
-}
-
-const NONE: Lanes = Lanes {
-    x0: 0,
-    x1: 0,
-    x2: 0,
-    x3: 0,
-    z0: 0,
-    z1: 0,
-    z2: 0,
-    z3: 0,
-};
 
 // The word at a place.
 fn word(s: &[u8], at: usize) -> u32
@@ -41,7 +18,7 @@ fn word(s: &[u8], at: usize) -> u32
 }
 
 // Four words.
-fn step(l: Lanes, s: &[u8], at: usize) -> Lanes
+fn step(l: Lanes<u32>, s: &[u8], at: usize) -> Lanes<u32>
     requires at_in_bounds { (at + 8 ≤ length s.now) × (length s.now ≤ 256) }
     requires bounded { Bounded at l }
     ensures bounded_2 { Bounded (at + 8) result }
@@ -60,7 +37,7 @@ fn step(l: Lanes, s: &[u8], at: usize) -> Lanes
 }
 
 // A block of 48 bytes: what a record has behind its first 12.
-fn block(l: Lanes, s: &[u8], at: usize) -> Lanes
+fn block(l: Lanes<u32>, s: &[u8], at: usize) -> Lanes<u32>
     requires at_in_bounds { (at + 48 ≤ length s.now) × (length s.now ≤ 256) }
     requires bounded { Bounded at l }
     ensures bounded_2 { Bounded (at + 48) result }
@@ -75,7 +52,7 @@ fn block(l: Lanes, s: &[u8], at: usize) -> Lanes
 }
 
 // The sums with those of the lanes.
-fn total(a: u64, b: u64, at: usize, l: Lanes) -> Sums
+fn total(a: u64, b: u64, at: usize, l: Lanes<u32>) -> Sums
     requires { (a ≤ 1048576) × (b ≤ 1073741824) }
     ensures { (result.a ≡ a + low l) × (result.b ≡ b + high l) × (result.at ≡ at) }
 {
@@ -96,7 +73,7 @@ pub fn blocks(s: &[u8], t: Sums) -> Sums
     requires summed { Summed checksum_from s.now t }
     ensures { Summed checksum_from s.now result }
 {
-    let mut l = NONE;
+    let mut l = lanes::none(0);
     let mut b = t.b;
     let mut i = t.at;
     while 48 <= s.len() - i {

@@ -7,7 +7,7 @@ use borrow.Author.Rules.{rules}
 use lib.ListN.{length, drop}
 use Rattle.model.specs.Checksum.{byte_sum_from}
 use Rattle.sums.specs.Quads.{Bounded}
-use Rattle.sums.proofs.Lanes.{led, eight-bytes}
+use Rattle.sums.proofs.LaneSums.{led, eight-bytes}
 use Rattle.sums.proofs.byte_lanes.block.Goals as goal
 
 -- empty lanes
@@ -22,12 +22,12 @@ loop-k-init c =
     let p₂ : t.b + 0 + 0 + 0 ≡ t.b = omega arith in
     let p₃ : t.at + 0 ≡ t.at = add-zero t.at in (
       omega arith,
-      bounded-none,
-      bounded-none,
+      rw c.none-l.ensures bounded-none,
+      rw c.none-m.ensures bounded-none,
       omega arith,
-      led byte_sum_from (drop (t.at + 0) xs) p₁ p₂
+      rw (c.none-l.ensures, c.none-m.ensures) (led byte_sum_from (drop (t.at + 0) xs) p₁ p₂
           ∙ ap (λ (n : ℕ). byte_sum_from (t.a % 65535) (t.b % 65535) (drop n xs)) p₃
-          ∙ c.requires.summed.leads,
+          ∙ c.requires.summed.leads),
     )
 
 pub step-m-requires : goal.step-m-requires

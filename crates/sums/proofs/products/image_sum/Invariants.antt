@@ -1,6 +1,6 @@
 -- `products::image_sum`: the loop keeps the sums of the parts so far.
 use mathlib.Core.Path.{◌≡◌}
-use Prim.Native.Nat.{◌+◌, ◌-◌, ◌≤◌}
+use Prim.Native.Nat.{◌+◌}
 use Rattle.sums.specs.Products.{lows, highs}
 use Rattle.sums.proofs.products.image_sum.Given as goal
 

@@ -3,7 +3,7 @@ use mathlib.Core.Path.{◌≡◌}
 use Prim.Native.Nat.{◌+◌, ◌≤◌}
 use native.Mathlib.Omega.{arith}
 use lib.ListN.{length}
-use Rattle.sums.proofs.Lanes.{six-steps}
+use Rattle.sums.proofs.LaneSums.{six-steps}
 use Rattle.sums.proofs.word_lanes.block.Goals as goal
 
 pub overflow_add-at-5 : goal.overflow_add-at-5

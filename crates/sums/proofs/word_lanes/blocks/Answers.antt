@@ -1,12 +1,28 @@
 -- `word_lanes::blocks`: the sums with those of the lanes lead to the checksum.
 use mathlib.Core.Path.{◌≡◌, sym, ◌∙◌}
-use Prim.Native.Nat.{◌+◌}
+use Prim.Native.Nat.{ℕ, ◌+◌}
 use native.Mathlib.Omega.{arith}
 use native.Mathlib.Nat.{add-zero}
 use lib.ListN.{drop}
 use Rattle.model.specs.Checksum.{checksum_from}
-use Rattle.sums.proofs.Lanes.{led}
+use Rattle.sums.specs.Lanes.{all_lanes}
+use Rattle.sums.specs.Words.{Bounded}
+use Rattle.sums.proofs.LaneSums.{led}
 use Rattle.sums.proofs.word_lanes.blocks.Goals as goal
+
+-- empty lanes
+bounded-none : (i : ℕ) → Bounded i (all_lanes 0)
+bounded-none i =
+    record {
+      bx0 = omega arith;
+      bx1 = omega arith;
+      bx2 = omega arith;
+      bx3 = omega arith;
+      bz0 = omega arith;
+      bz1 = omega arith;
+      bz2 = omega arith;
+      bz3 = omega arith;
+    }
 
 pub loop-i-init : goal.loop-i-init
 loop-i-init c =
@@ -15,18 +31,9 @@ loop-i-init c =
     let p₁ : t.a + 0 ≡ t.a = add-zero t.a in
     let p₂ : t.b + 0 ≡ t.b = add-zero t.b in (
       q.summed.inside,
-      record {
-        bx0 = omega arith;
-        bx1 = omega arith;
-        bx2 = omega arith;
-        bx3 = omega arith;
-        bz0 = omega arith;
-        bz1 = omega arith;
-        bz2 = omega arith;
-        bz3 = omega arith;
-      },
+      rw c.none-l.ensures (bounded-none t.at),
       omega (arith, q.s_len_bound.1.many),
-      led checksum_from (drop t.at c.args.s.now) p₁ p₂ ∙ q.summed.leads,
+      rw c.none-l.ensures (led checksum_from (drop t.at c.args.s.now) p₁ p₂ ∙ q.summed.leads),
     )
 
 pub loop-i-preserved : goal.loop-i-preserved

@@ -10,8 +10,7 @@ use Rattle.model.specs.Bytes.{field}
 use Rattle.model.specs.Checksum.{checksum_from, byte_sum_from}
 use Rattle.sums.specs.Words as words
 use Rattle.sums.specs.Quads as quads
-use Rattle.sums.specs.declared.word_lanes.Lanes as word_lanes
-use Rattle.sums.specs.declared.byte_lanes.Quad as byte-lanes
+use Rattle.sums.specs.declared.lanes.Lanes.{Lanes}
 
 -- ---- n terms from place i on, from o bytes behind it
 
@@ -48,7 +47,7 @@ led from l p q = cc
 
 -- ---- words
 
-module _ (s : List ℕ) (i : ℕ) (l r : word_lanes.Lanes) (h : i + 8 ≤ length s) (e : words.Stepped s i l r) where
+module _ (s : List ℕ) (i : ℕ) (l r : Lanes ℕ) (h : i + 8 ≤ length s) (e : words.Stepped s i l r) where
   four-words : (a b : ℕ)
       → checksum_from ((a + words.low l) % 65535) ((b + words.high l) % 65535) (drop i s)
       ≡ checksum_from ((a + words.low r) % 65535) ((b + 4 * a + words.high r) % 65535) (drop (i + 8) s)
@@ -69,7 +68,7 @@ module _ (s : List ℕ) (i : ℕ) (l r : word_lanes.Lanes) (h : i + 8 ≤ length
   word-step = record { same = four-words }
 
 -- two stretches, one behind the other
-pub passed_on : {s : List ℕ} {i j j' n n' k k' k'' : ℕ} {l m r : word_lanes.Lanes} → words.Passed s i l j m k → words.Passed s j' m n r k'
+pub passed_on : {s : List ℕ} {i j j' n n' k k' k'' : ℕ} {l m r : Lanes ℕ} → words.Passed s i l j m k → words.Passed s j' m n r k'
     → j ≡ j' → n ≡ n' → ((a : ℕ) → k * a + k' * a ≡ k'' * a) → words.Passed s i l n' r k''
 passed_on {s} {i} {j} {j'} {n} {n'} {k} {k'} {k''} {l} {m} {r} p q e f g =
     record {
@@ -83,7 +82,7 @@ passed_on {s} {i} {j} {j'} {n} {n'} {k} {k'} {k''} {l} {m} {r} p q e f g =
     }
 
 -- six steps
-module _ (s : List ℕ) (i : ℕ) (l₀ l₁ l₂ l₃ l₄ l₅ l₆ : word_lanes.Lanes) (h : i + 48 ≤ length s) where
+module _ (s : List ℕ) (i : ℕ) (l₀ l₁ l₂ l₃ l₄ l₅ l₆ : Lanes ℕ) (h : i + 48 ≤ length s) where
   pub six-steps : words.Stepped s i l₀ l₁ → words.Stepped s (i + 8) l₁ l₂ → words.Stepped s (i + 16) l₂ l₃ → words.Stepped s (i + 24) l₃ l₄
       → words.Stepped s (i + 32) l₄ l₅ → words.Stepped s (i + 40) l₅ l₆ → words.Passed s i l₀ (i + 48) l₆ 24
   six-steps e₁ e₂ e₃ e₄ e₅ e₆ =
@@ -102,7 +101,7 @@ module _ (s : List ℕ) (i : ℕ) (l₀ l₁ l₂ l₃ l₄ l₅ l₆ : word_lan
 -- ---- bytes
 
 -- eight bytes from place i on: four for the lanes l, four for the lanes m
-module _ (s : List ℕ) (i j : ℕ) (l l' m m' : byte-lanes.Quad) (k : j ≡ i + 4) (h : i + 8 ≤ length s) (e : quads.Stepped s i l l')
+module _ (s : List ℕ) (i j : ℕ) (l l' m m' : Lanes ℕ) (k : j ≡ i + 4) (h : i + 8 ≤ length s) (e : quads.Stepped s i l l')
     (f : quads.Stepped s j m m') where
   pub eight-bytes : (a b : ℕ)
       → byte_sum_from ((a + quads.low l + quads.low m) % 65535) ((b + quads.high l + quads.high m + 4 * quads.low l) % 65535) (drop i s)
