@@ -1,9 +1,9 @@
 -- Laws of a guess where a section's run starts, and of the test that a run is all that the section holds.
-use mathlib.Core.Path.{◌≡◌, refl, sym, ap, ◌∙◌}
+use mathlib.Core.Path.{◌≡◌, sym, ap, ◌∙◌}
 use mathlib.Core.Bool.{Bool, true, false, not, ◌&&◌, ◌||◌, or-false}
 use mathlib.Core.List.{List}
 use Prim.Native.Nat.{ℕ, suc, ◌+◌, ◌-◌, ◌%◌, ◌≤◌, ◌<◌}
-use native.Mathlib.Nat.{mod-lt, mod-eq_of_lt, mod-add-mod, mod-eq-sub-mod}
+use native.Mathlib.Nat.{mod-lt, mod-add-mod, mod-eq-sub-mod}
 use native.Mathlib.Omega.{arith}
 use lib.Dec.{eqb, leb, ltb}
 use borrow.Author.Tests.{eq-eqb, ne_eqb, eqb-false, leb-false, le-ltb, not-false}
@@ -14,18 +14,6 @@ use Rattle.section.specs.declared.guess.Guess.{Guess}
 use Rattle.section.specs.Sweep.{Guessed, closed_of}
 
 -- ---- the guess
-
--- slot 0 and number 1
-pub guess-none : (s : Extent) → Guessed s (record { slot = 0; first = 1 })
-guess-none s =
-    record {
-      some = omega arith;
-      low = omega arith;
-      inside = λ h. h;
-      place = λ h. sym (mod-eq_of_lt h);
-      plain = λ t. refl;
-      none = λ t. refl;
-    }
 
 -- a ring with slots, and what the tests on them tell
 pub record Rings (s : Extent) : Type 0 where

@@ -127,9 +127,6 @@ module _ (c : ℕ) (v : List ℕ) (at most : ℕ) where
     pub front-most : f.slots ≤ most
     front-most = omega (arith, front-slots, run-most c v most at)
 
-    pub front-top : f.top ≡ highest_at c v at f.slots
-    front-top = ap (λ (x : Front). x.top) e ∙ ap (highest_at c v at) (sym front-slots)
-
 -- ---- the slots past a run
 
 module _ (size count n : ℕ) (h : n < count) where

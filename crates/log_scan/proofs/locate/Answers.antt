@@ -5,6 +5,3 @@ use Rattle.log_scan.proofs.locate.Goals as goal
 pub invariant_of-result : goal.invariant_of-result
 invariant_of-result c =
     record { placed = rw (c.ring.ensures, c.record_at.ensures) (log-placed _ _ (sized _ _ c.args.v.now.valid c.args.v.now.read)) }
-
-pub returns-clause-extent : goal.returns-clause-extent
-returns-clause-extent c = rw (c.ring.ensures, c.record_at.ensures)

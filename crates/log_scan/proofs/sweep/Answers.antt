@@ -4,9 +4,6 @@ use Rattle.log_scan.proofs.Located.{sized}
 use Rattle.log_scan.proofs.LogSwept.{log-swept}
 use Rattle.log_scan.proofs.sweep.Goals as goal
 
-pub pass-requires : goal.pass-requires
-pass-requires c = record { guessed = rw c.locate-log.ensures.extent at c.guess_start-u.ensures; last_value = c.requires }
-
 pub returns : goal.returns
 returns c =
     log-swept _ _ (sized _ _ c.args.v.now.valid c.args.v.now.read) c.guess_start-u.result

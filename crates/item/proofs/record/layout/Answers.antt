@@ -1,11 +1,6 @@
 -- `record::layout` makes the three tests of `record_layout`.
-use native.Mathlib.Omega.{arith}
 use Rattle.item.proofs.Records.{layout_is}
 use Rattle.item.proofs.record.layout.Goals as goal
-
--- no caller comes here: the test tells the compiler that every field is inside
-pub returns-then-r-lt60 : goal.returns-then-r-lt60
-returns-then-r-lt60 c = absurd (omega arith)
 
 pub returns : goal.returns
 returns c =

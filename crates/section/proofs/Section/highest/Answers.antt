@@ -7,11 +7,8 @@ use native.Mathlib.Omega.{arith}
 use Rattle.model.specs.Bytes.{field}
 use Rattle.model.specs.Checksum.{sealed}
 use Rattle.section.specs.Section.{highest_at}
-use Rattle.section.proofs.SectionLaws.{one_more, front-top, front-most}
+use Rattle.section.proofs.SectionLaws.{one_more, front-most}
 use Rattle.section.proofs.Section.highest.Goals as goal
-
-pub loop-slot-init : goal.loop-slot-init
-loop-slot-init c = front-top _ _ _ _ _ c.requires
 
 pub loop-slot-preserved : goal.loop-slot-preserved
 loop-slot-preserved c =

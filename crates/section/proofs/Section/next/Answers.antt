@@ -1,10 +1,8 @@
 -- `section::Section::next` meets its contract.
 use mathlib.Core.Path.{ap, ◌∙◌}
-use Prim.Native.Nat.{ℕ}
 use native.Mathlib.Omega.{arith}
 use Rattle.laws.proofs.Checksums.{run-sealed}
 use Rattle.model.specs.Checksum.{sealed}
-use Rattle.section.specs.Section.{slot_bytes}
 use Rattle.section.proofs.SectionLaws.{none-whole}
 use Rattle.section.proofs.Section.next.Goals as goal
 
@@ -16,10 +14,3 @@ whole-requires c h =
     let s = c.args.self.now.extent in
     ap (sealed s.size) c.item.ensures
     ∙ run-sealed s.size c.args.self.now.bytes.now s.slots s.at c.turned-place.result (omega (arith, h, c.requires))
-
-pub returns : goal.returns
-returns c =
-    let s = c.args.self.now.extent in
-    c.whole.ensures
-    ∙ ap (sealed s.size) c.item.ensures
-    ∙ ap (λ (k : ℕ). sealed s.size (slot_bytes c.args.self.now.bytes.now s k)) c.turned-place.ensures.0

@@ -2,12 +2,6 @@
 use Rattle.section.proofs.GuessLaws.{guess-later}
 use Rattle.section.proofs.Section.past_torn.Goals as goal
 
-pub item-requires : goal.item-requires
-item-requires c = c.requires.guessed.0.inside c.requires.ring_value.1
-
-pub after-requires : goal.after-requires
-after-requires c = c.requires.guessed.0.inside c.requires.ring_value.1
-
 pub returns : goal.returns
 returns c =
     let p = c.requires in
