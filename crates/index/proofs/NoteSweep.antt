@@ -7,10 +7,9 @@ use native.Mathlib.Nat.{mod-lt, mod-eq_of_lt, mod-add-mod, mod-eq-sub-mod}
 use native.Mathlib.Omega.{arith}
 use native.Mathlib.Decide.{dec_lt}
 use lib.Dec.{eqb, leb, ltb}
-use lib.ListN.{get_or, set}
-use lib.Seq.{set-get_or}
-use borrow.Author.Tests.{eqb-true, eqb-false, ltb-false, lt-ltb, le-leb, eq-eqb, ne_eqb}
-use Rattle.laws.proofs.Tables.{by_cases, and_right, or_left, or_right, or-neither, all-holds, when_false, within-bounds, within-holds}
+use lib.ListN.{get_or}
+use borrow.Author.Tests.{eqb-true, lt-ltb, le-leb, eq-eqb, ne_eqb}
+use Rattle.laws.proofs.Tables.{by_cases, and_right, or_left, or_right, all-holds, when_false, within-bounds, within-holds}
 use Rattle.laws.proofs.Fields.{field-add, field-one, field_below, field-part}
 use Rattle.model.specs.Tables.{within}
 use Rattle.model.specs.Bytes.{field, part}
@@ -129,24 +128,6 @@ module _ (g : Geometry) (v : List ℕ) (f next : ℕ) (h : LogCounts g v f next)
 
 -- ---- a note, entered
 
--- a number that is neither 0 nor above
-pub inside_is : (most n : ℕ) → (eqb n 0 || ltb most n) ≡ false → within most n ≡ true
-inside_is most n h =
-    let o = or-neither (eqb n 0) (ltb most n) h in
-    within-holds most n (omega (arith, eqb-false n 0 o.0)) (ltb-false most n o.1)
-
-pub backed-up : (most j slot lsn : ℕ) (c : Columns) (used : Bool)
-    → (ltb lsn (get_or c.backup j 0) || (eqb slot 0 || ltb most slot)) ≡ false → used ≡ (leb 1 slot && slot_in slot c.slots) → used ≡ false
-    → BackedUp most j slot lsn c (record { last = c.last; written = c.written; slots = set c.slots j slot; backup = set c.backup j lsn })
-backed-up most j slot lsn c used h eu free =
-    let o = or-neither (ltb lsn (get_or c.backup j 0)) (eqb slot 0 || ltb most slot) h in
-    record {
-      order = le-leb _ _ (ltb-false lsn (get_or c.backup j 0) o.0);
-      inside = inside_is most slot o.1;
-      free = sym eu ∙ free;
-      columns = refl;
-    }
-
 module _ (e : Note) (most : ℕ) (c : Columns) where
   abbrev j : ℕ
   j = e.page - 1
@@ -158,14 +139,6 @@ module _ (e : Note) (most : ℕ) (c : Columns) where
     pub write-follows : e.slot ≡ 0 → get_or c.written j 0 ≤ e.lsn → Follows e most c
     unfolding note_layout
     write-follows z l = record { laid = rw (is-written, eq-eqb _ _ z); after = rw is-written (le-leb _ _ l) }
-
-    pub write-enters : record { last = c.last; written = set c.written j e.lsn; slots = c.slots; backup = c.backup } ≡ with_entered c e
-    write-enters = rw is-written (λ i. record {
-      last = c.last;
-      written = set c.written j e.lsn;
-      slots = sym (set-get_or c.slots j 0) i;
-      backup = sym (set-get_or c.backup j 0) i;
-    })
 
   module _ (k : e.kind ≡ 2) (d : Columns) (b : BackedUp most j e.slot e.lsn c d) where
     not_written : eqb e.kind 1 ≡ false
@@ -180,14 +153,6 @@ module _ (e : Note) (most : ℕ) (c : Columns) where
               (leb (get_or c.backup j 0) e.lsn ∷ within most e.slot ∷ not (leb 1 e.slot && slot_in e.slot c.slots) ∷ [])
               (b.order, (b.inside, (ap not b.free, tt))));
         }
-
-    pub backup-enters : d ≡ with_entered c e
-    backup-enters = b.columns ∙ rw not_written (λ i. record {
-      last = c.last;
-      written = sym (set-get_or c.written j 0) i;
-      slots = set c.slots j e.slot;
-      backup = set c.backup j e.lsn;
-    })
 
 -- one note more
 module _ (g : Geometry) (v : List ℕ) (few : g.pages ≤ 64) (f n : ℕ) (low : f ≤ n) (c : Columns)

@@ -1,4 +1,5 @@
-// The notes: judged one by one, and what they say of each page.
+// The notes: judged one by one, and what they say of each page. A note's kind is a byte of the volume, and any byte is
+// judged: it is no enum.
 ghost use Rattle.std.specs.Prelude.{◌≡◌, true, ◌||◌, eqb, ltb, IfSome};
 ghost use Rattle.model.specs.Scan.{log_record};
 ghost use Rattle.index_rows.specs.Columns.{Blank, Noted};
@@ -59,7 +60,7 @@ fn page(v: &Volume<'_>, n: u32) -> u16
 fn follows(e: Entry, n: Note, slots: u32, used: bool) -> bool
     ensures { result ≡ note_after e n slots used }
 {
-    if n.kind == 1 {
+    if n.kind == note::WRITTEN {
         return e.written <= n.lsn;
     }
     let slot = u32::from(n.slot);
@@ -119,7 +120,7 @@ pub fn scan(v: &Volume<'_>, log: Run, run: Run, c: &mut Columns) -> bool
 }
 
 // Passes over the notes from a guessed start on, after a log that a sweep found, into the columns, as far as they are
-// whole: the number behind the last; none where one does not fit.
+// whole: the number behind the last; none where one does not fit. It goes by place: a step takes no division.
 fn pass(v: &Volume<'_>, log: Swept, u: Guess, c: &mut Columns) -> Option<u32>
     requires log_counts { LogCounts v.now.geometry v.now.bytes.now log.first log.next }
     requires guessed { Guessed (note_section v.now.geometry) u }

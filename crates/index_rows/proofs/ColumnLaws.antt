@@ -9,7 +9,7 @@ use lib.Dec.{eqb, leb}
 use mir.Val.{bool_byte}
 use lib.ListN.{length, drop, get_or, set, take, replicate, length-map, drop_of_length-le}
 use lib.ListN.{get_or-map}
-use lib.Seq.{drop-cons, map-set_same, take-suc-set, take-suc, take_all}
+use lib.Seq.{drop-cons, map-set_same, take-suc-set, take-suc}
 use borrow.Author.Tests.{ne_eqb, le-leb}
 use Rattle.laws.proofs.Tables.{by_cases, every-same, or_right}
 use Rattle.model.specs.Tables.{every}
@@ -116,11 +116,6 @@ module _ (index : List Entry) (c : Columns) (h : ColumnsOf index c) where
   gathered-more made i x b k e ex =
       let l : i < length (map settled index) = omega (arith, length-map index settled) in
       rw (add-one, take-suc-set made i x b, e, ex, settled-row i, take-suc (map settled index) i empty_entry l)
-
-  pub gathered-all : length c.last ≡ 64 → (made : List Entry) (i : ℕ) → i ≡ 64 → length made ≡ 64 → take i made ≡ take i (map settled index)
-      → made ≡ map settled index
-  gathered-all k made i e l q =
-      sym (take_all i made (omega arith)) ∙ q ∙ take_all i (map settled index) (omega (arith, index-length, length-map index settled))
 
 and-unit : (x : Bool) → (x && true) ≡ x
 and-unit true = refl

@@ -3,7 +3,8 @@
 ghost use Rattle.std.specs.Prelude.{◌≡◌, cond, ◌&&◌, List, map, ◌-◌, ◌≤◌, ◌<◌, eqb, leb};
 ghost use Rattle.model.specs.Index.{settled};
 ghost use Rattle.model.specs.declared.state.Entry as entries;
-ghost use Rattle.index_rows.specs.Columns.{ColumnsOf, Unwritten, column_row, columns_ordered, earlier_row, entered, slot_in};
+ghost use Rattle.index_rows.specs.Columns.{ColumnsOf, Unwritten, column_row, columns_ordered, earlier_row, entered};
+ghost use Rattle.index_rows.specs.Columns.{slot_in};
 
 use crate::entries;
 use model::state::Entry;
@@ -106,6 +107,7 @@ impl Columns {
         requires { pages ≤ 64 }
         ensures { Unwritten pages self.now.written → result ≡ columns_ordered self.now }
     {
+        // a loop: `all` would branch at each row
         let mut sound = true;
         for i in 0..pages {
             let e = self.row(i);
@@ -118,6 +120,7 @@ impl Columns {
     pub fn gather(&self) -> [Entry; 64]
         ensures { (x : List entries.Entry) → ColumnsOf x self.now → result ≡ map settled x }
     {
+        // a loop: what `array::from_fn` ensures does not name the columns that its closure reads
         let mut index = [entries::EMPTY; 64];
         for i in 0..64 {
             index[i] = self.row(i);

@@ -32,7 +32,7 @@ pub fn used(index: [Entry; 64], slot: u32) -> bool
     index.iter().any(|e| u32::from(e.slot) == slot)
 }
 
-// An entry with a note entered.
+// An entry with a note entered. A kind is a byte of the volume, and any byte is taken: it is no enum.
 pub fn noted(e: Entry, n: Note) -> Entry
     ensures { result ≡ with_note e n }
 {

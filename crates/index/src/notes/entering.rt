@@ -1,5 +1,5 @@
-// One note of a pass: its fields, the record that it names, and its entry in the columns. A leaf of its own for each, so
-// that the compiler expands them in the loop. A note's kind is a byte of the volume: any byte is judged, as in document 01.
+// One note of a pass: its fields, the record that it names, and its entry in the columns. A leaf of its own for each,
+// so that the compiler expands them in the loop.
 ghost use Rattle.std.specs.Prelude.{◌≡◌, true, ◌+◌, ◌-◌, ◌*◌, ◌%◌, ◌≤◌, ◌<◌, length, get_or, set};
 ghost use Rattle.model.specs.Geometry.{record_at, log_slot, start};
 ghost use Rattle.model.specs.Item.{note_of};
@@ -8,6 +8,7 @@ ghost use Rattle.log_scan.specs.LogSwept.{LogCounts};
 
 use codec::field;
 use index_rows::columns::Columns;
+use item::note;
 use log_scan::Swept;
 use model::item::Note;
 use volume::{Volume, place};
@@ -143,10 +144,10 @@ pub fn enter(c: &mut Columns, most: u32, e: Note) -> bool
     ensures last { c.new.last ≡ c.old.last }
 {
     let j = usize::from(e.page) - 1;
-    if e.kind == 1 {
+    if e.kind == note::WRITTEN {
         return write(c, j, e);
     }
-    if e.kind != 2 {
+    if e.kind != note::BACKED_UP {
         return false;
     }
     back_up(c, most, j, e)

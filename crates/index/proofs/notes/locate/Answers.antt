@@ -6,6 +6,3 @@ use Rattle.index.proofs.notes.locate.Goals as goal
 pub invariant_of-result : goal.invariant_of-result
 invariant_of-result c =
     record { placed = rw (c.ring.ensures, c.note_at.ensures) (note-placed _ _ (sized _ _ c.args.v.now.valid c.args.v.now.read)) }
-
-pub returns-clause-extent : goal.returns-clause-extent
-returns-clause-extent c = rw (c.ring.ensures, c.note_at.ensures)

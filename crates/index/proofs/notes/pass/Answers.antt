@@ -36,17 +36,9 @@ read c = c.array-r.ensures ∙ note-read _ _ _ _ (c.loop-n.invariant.place (omeg
 belonging : (c : Else-not-belongs) → Belongs c.args.v.now.geometry c.args.v.now.bytes.now c.fields-e.result c.loop-n.n
 belonging c = rw c.of-l.ensures at (c.belongs.ensures c.if-not-belongs.false)
 
-pub overflow_add-stop : goal.overflow_add-stop
-overflow_add-stop c =
-    let z = sizes (goal.at.overflow_add-stop c).Start in omega (arith, c.note_at-at.ensures, z.pages, z.slots, z.records, z.notes)
-
 pub overflow_add-past : goal.overflow_add-past
 overflow_add-past c =
     let z = sizes (goal.at.overflow_add-past c).Start in omega (arith, c.requires.guessed.low, z.notes)
-
-pub overflow_add-from : goal.overflow_add-from
-overflow_add-from c =
-    let z = sizes (goal.at.overflow_add-from c).Start in omega (arith, c.note_at-at.ensures, z.pages, z.slots, z.records)
 
 pub loop-n-init : goal.loop-n-init
 loop-n-init c =

@@ -49,10 +49,6 @@ judged c h =
 row_at : (c : After-row-j) → c.row-j.result < 64
 row_at c = omega (arith, c.row-j.ensures, row_below c.from.result)
 
--- the run's last number is one
-counted : (c : At-loop-i) → c.args.run.count ≤ 4294967295
-counted c = omega arith
-
 pub span-i-end-requires : goal.span-i-end-requires
 span-i-end-requires c = run-low _ _ _ c.requires.run_value
 
@@ -66,10 +62,6 @@ loop-i-init c =
       place = slot-starts _ _ _ refl _ c.start-slot.ensures;
       last = refl;
     }
-
-pub nth-k-requires : goal.nth-k-requires
-nth-k-requires c =
-    omega (arith, c.loop-i-test.true, c.span-i-end.ensures, run-low _ _ _ c.requires.run_value, counted (goal.at.nth-k-requires c).At-loop-i)
 
 pub item-r-requires : goal.item-r-requires
 item-r-requires c = rw c.locate-s.ensures.extent (low (goal.at.item-r-requires c).In-loop-i)
