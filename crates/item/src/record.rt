@@ -3,7 +3,8 @@ ghost use Rattle.std.specs.Prelude.{◌≡◌, true, ◌&&◌, ◌+◌, ◌-◌,
 ghost use Rattle.item.specs.Record.{head_of};
 ghost use Rattle.model.specs.Bytes.{part, all_zero, splice};
 ghost use Rattle.model.specs.Change.{fits, change_fits};
-ghost use Rattle.model.specs.Item.{record_of, record_layout, change_in, apply_record, record_for, padded, encode_change};
+ghost use Rattle.model.specs.Item.{record_of, record_layout, record_for, padded};
+ghost use Rattle.model.specs.Item.{change_in, apply_record, encode_change};
 
 use crate::change::{self, FORMAT, PUT, SLIDE};
 use codec::{field, part};

@@ -208,8 +208,8 @@ impl<'a> Section<'a> {
         part::zero(&self.bytes[from..end])
     }
 
-    // What follows a run: past the turn nothing is asked; before it the next slot is not whole, the run starts at 1, and
-    // the rest is zero.
+    // What follows a run: past the turn nothing is asked; before it the next slot is not whole, the run starts at 1,
+    // and the rest is zero.
     pub fn ends(&self, r: Run) -> bool
         ensures { result
             ≡ scans.ends_in self.now.bytes.now (slots_in self.now.bytes.now self.now.extent) r.first r.count }
