@@ -3,6 +3,7 @@ ghost use Rattle.model.specs.Refused.{refusal_number};
 ghost use Rattle.model.specs.declared.answer.Answer.TheVariants.{Refused};
 
 use crate::state::State;
+use std::fmt;
 
 // What a page's own image is worth.
 #[derive(Clone, Copy, Debug, PartialEq, Eq)]
@@ -14,12 +15,34 @@ pub enum Class {
     Ahead,
 }
 
+impl fmt::Display for Class {
+    fn fmt<W: fmt::Write>(&self, f: &mut fmt::Formatter<W>) -> fmt::Result {
+        f.write_str(match self {
+            Class::Good => "GOOD",
+            Class::Behind => "BEHIND",
+            Class::Stale => "STALE",
+            Class::Failed => "FAILED",
+            Class::Ahead => "AHEAD",
+        })
+    }
+}
+
 // Where a replay starts.
 #[derive(Clone, Copy, Debug, PartialEq, Eq)]
 pub enum Start {
     Own,
     Backup,
     Format,
+}
+
+impl fmt::Display for Start {
+    fn fmt<W: fmt::Write>(&self, f: &mut fmt::Formatter<W>) -> fmt::Result {
+        f.write_str(match self {
+            Start::Own => "OWN",
+            Start::Backup => "BACKUP",
+            Start::Format => "FORMAT",
+        })
+    }
 }
 
 // Where the chain walk stops: at a start, at a record that breaks the chain, or below the run.
@@ -38,6 +61,12 @@ pub struct Repair {
     pub class: Class,
     pub start: Start,
     pub count: u32,
+}
+
+impl fmt::Display for Repair {
+    fn fmt<W: fmt::Write>(&self, f: &mut fmt::Formatter<W>) -> fmt::Result {
+        write!(f, "{} {} {}", self.class, self.start, self.count)
+    }
 }
 
 // The answer of a call.
