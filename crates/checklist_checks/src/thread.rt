@@ -1,29 +1,32 @@
 // Check 4: the oldest thread reread in full after its page came back old, beside a reader who looks only at the newest
 // line.
-use checklist_steps::disk::{Image, Memory, Volume};
-use checklist_steps::{disk, steps, text, verdict};
-use print::{phrase, say};
+use checklist_steps::disk::{Image, Volume};
+use checklist_steps::steps::Live;
+use checklist_steps::verdict::Seen;
+use checklist_steps::{disk, text};
 use std::io;
 use store::Store;
 
 // The oldest thread: three lines, written.
-fn oldest(rt: &impl Print, v: &mut Volume, m: &mut Memory) -> io::Result<Store> {
-    let a = steps::opened(rt, v, m).done()?;
-    let b = steps::put(rt, a, v, m, 1, 44, b"06:18 bed 4 is free").done()?;
-    let c = steps::put(rt, b, v, m, 1, 88, b"06:40 bed 4 is made up").done()?;
-    steps::write(rt, c, v, m, 1).done()
+fn oldest(rt: &impl Print) -> io::Result<Live> {
+    let mut live = Live::opened(rt, [0; disk::SIZE], [0; 1536]).done()?;
+    live.put(rt, 1, 44, b"06:18 bed 4 is free")?;
+    live.put(rt, 1, 88, b"06:40 bed 4 is made up")?;
+    live.write(rt, 1)?;
+    Ok(live)
 }
 
-// A newer thread, and a late line between two of the oldest, written; `old` gets the volume as it was before the late
-// line.
-fn late(rt: &impl Print, v: &mut Volume, m: &mut Memory, old: &mut Volume) -> io::Result<()> {
-    let a = oldest(rt, v, m)?;
-    let b = steps::begin(rt, a, v, m, 2).done()?;
-    let c = steps::put(rt, b, v, m, 2, 0, b"06:42 bed 9 asks for water").done()?;
-    let d = steps::write(rt, c, v, m, 2).done()?;
-    disk::give_back(old, v, 0, disk::SIZE);
-    let e = steps::slide(rt, d, v, m, 1, 88, b"06:31 bed 4: clean it before use").done()?;
-    steps::write(rt, e, v, m, 1).said
+// A newer thread, written.
+fn newer(rt: &impl Print, live: &mut Live) -> io::Result<()> {
+    live.begin(rt, 2)?;
+    live.put(rt, 2, 0, b"06:42 bed 9 asks for water")?;
+    live.write(rt, 2)
+}
+
+// A late line between two of the oldest, written.
+fn late(rt: &impl Print, live: &mut Live) -> io::Result<()> {
+    live.slide(rt, 1, 88, b"06:31 bed 4: clean it before use")?;
+    live.write(rt, 1)
 }
 
 // The newest line of a page as the disk holds it; whether the repaired page has the same.
@@ -31,94 +34,58 @@ fn glance(rt: &impl Print, v: &Volume, page: u32, at: usize) -> io::Result<bool>
     let mut buffer = [0u8; 256];
     Store::inspect(v, page, &mut buffer);
     let held = text::newest(&disk::image(v, at));
-    let repaired = text::newest(&buffer);
     text::line(rt, &held)?;
-    Ok(text::same(&held, &repaired, 0, 44))
+    Ok(held == text::newest(&buffer))
 }
 
 // A reader of the newest lines only.
 fn newest(rt: &impl Print, v: &Volume) -> io::Result<()> {
-    say(
-        rt,
-        b"  A reader who looks only at the newest line of each thread sees on the disk:\n",
-    )?;
+    println!(rt; "  A reader who looks only at the newest line of each thread sees on the disk:")?;
     let a = glance(rt, v, 1, disk::PAGE)?;
     let b = glance(rt, v, 2, disk::PAGE + 256)?;
     if a & b {
-        say(
-            rt,
-            b"  Both are the newest lines of the repaired pages too: this reader notices nothing.\n",
+        println!(rt;
+            "  Both are the newest lines of the repaired pages too: this reader notices nothing."
         )
     } else {
-        say(
-            rt,
-            b"  The repaired pages have others: this reader notices the damage.\n",
-        )
+        println!(rt; "  The repaired pages have others: this reader notices the damage.")
     }
 }
 
 // A reader of the whole thread.
 fn reread(rt: &impl Print, v: &Volume, after: &Image) -> io::Result<()> {
     let held = text::lines(&disk::image(v, disk::PAGE));
-    phrase(
-        rt,
-        b"  A reader who rereads the oldest thread in full counts ",
-        held,
-        b" lines on the disk and ",
-    )?;
-    phrase(rt, b"", text::lines(after), b" in the repaired page.\n")
+    let whole = text::lines(after);
+    print!(rt; "  A reader who rereads the oldest thread in full counts {held} lines on the disk")?;
+    println!(rt; " and {whole} in the repaired page.")
 }
 
-fn aged(
-    rt: &impl Print,
-    v: &mut Volume,
-    old: &Volume,
-    before: &Image,
-    after: &mut Image,
-) -> io::Result<bool> {
-    say(
-        rt,
-        b"  Damage: the disk gives back the older image of page 1. A line is missing, and no gap shows it. The disk holds:\n",
+fn aged(rt: &impl Print, live: &mut Live, old: &Volume, seen: &mut Seen) -> io::Result<bool> {
+    println!(rt;
+        "  Damage: the disk gives back the older image of page 1. A line is missing, and no gap shows it. The disk holds:"
     )?;
-    disk::give_back(v, old, disk::PAGE, disk::PAGE + 256);
-    text::held(rt, &disk::image(v, disk::PAGE))?;
-    newest(rt, v)?;
+    disk::give_back(&mut live.volume, old, disk::PAGE, disk::PAGE + 256);
+    text::held(rt, &disk::image(&live.volume, disk::PAGE))?;
+    newest(rt, &live.volume)?;
     let why =
-        b"  The number is below the last written one in the page recovery index: the store replays what is missing.\n";
-    let whole = verdict::after(rt, v, why, before, after).done()?;
-    reread(rt, v, after)?;
+        "  The number is below the last written one in the page recovery index: the store replays what is missing.\n";
+    let whole = seen.after(rt, &live.volume, why).done()?;
+    reread(rt, &live.volume, &seen.after)?;
     Ok(whole)
 }
 
-fn play(
-    rt: &impl Print,
-    v: &mut Volume,
-    m: &mut Memory,
-    old: &mut Volume,
-    before: &mut Image,
-    after: &mut Image,
-) -> io::Result<bool> {
-    late(rt, v, m, old)?;
-    verdict::before(rt, v, before)?;
-    aged(rt, v, old, before, after)
-}
-
 pub fn check(rt: &impl Print) -> io::Result<bool> {
-    let mut volume = [0u8; disk::SIZE];
-    let mut memory = [0u8; 1536];
-    let mut old = [0u8; disk::SIZE];
-    let mut before = [0u8; 256];
-    let mut after = [0u8; 256];
-    say(
-        rt,
-        b"\nCHECK 4. The oldest thread reread in full, beside a reader who looks only at the newest line\n",
+    println!(rt;
+        "\nCHECK 4. The oldest thread reread in full, beside a reader who looks only at the newest line"
     )?;
-    play(
-        rt,
-        &mut volume,
-        &mut memory,
-        &mut old,
-        &mut before,
-        &mut after,
-    )
+    let mut live = oldest(rt)?;
+    newer(rt, &mut live)?;
+    let old = live.volume;
+    late(rt, &mut live)?;
+    let mut seen = Seen {
+        before: [0; 256],
+        after: [0; 256],
+    };
+    seen.before(rt, &live.volume)?;
+    aged(rt, &mut live, &old, &mut seen)
 }

@@ -2,171 +2,111 @@
 // but that it is safe and ends.
 #![tactic(auto)]
 
-ghost use Rattle.std.specs.Prelude.{◌≤◌};
-
 use checklist_steps::disk::{Image, Memory, Volume};
-use checklist_steps::{disk, steps, text, verdict};
-use codec::number::one32;
+use checklist_steps::steps::Live;
+use checklist_steps::verdict::Seen;
+use checklist_steps::{disk, verdict};
 use model::answer::Answer;
-use print::{phrase, say};
 use std::io;
 use store::Store;
 
-// A line, written; a second, forced. `old` gets the volume as it was before the Force, which stores nothing else.
-fn done(rt: &impl Print, v: &mut Volume, m: &mut Memory, old: &mut Volume) -> io::Result<()> {
-    let a = steps::opened(rt, v, m).done()?;
-    let b = steps::write(rt, a, v, m, 1).done()?;
-    disk::give_back(old, v, 0, disk::SIZE);
-    steps::put(rt, b, v, m, 1, 44, b"06:18 bed 4 is free").said
+// A line, written.
+fn first(rt: &impl Print) -> io::Result<Live> {
+    let mut live = Live::opened(rt, [0; disk::SIZE], [0; 1536]).done()?;
+    live.write(rt, 1)?;
+    Ok(live)
 }
 
-fn accepted(a: Answer) -> bool {
-    match a {
-        Answer::Refused(_) => false,
-        Answer::Nothing => true,
-        Answer::Done => true,
-        Answer::Repaired(_) => true,
-    }
+// What a restart and an Inspect show: the page without the line or with it, a refusal, or anything else.
+#[derive(Clone, Copy, Debug, PartialEq, Eq)]
+enum Outcome {
+    Without,
+    With,
+    Refused,
+    Other,
 }
 
-// What a restart and an Inspect show: 0 the page without the line, 1 with it, 2 a refusal, 3 anything else.
-fn shown(v: &Volume, m: &mut Memory, without: &Image, with: &Image) -> u8 {
+// The page as Inspect gives it, where it is not refused.
+fn inspected(v: &Volume) -> Option<Image> {
     let mut buffer = [0u8; 256];
-    let a = Store::restart(v, m).answer;
-    let b = Store::inspect(v, 1, &mut buffer);
-    if !(accepted(a) & accepted(b)) {
-        return 2;
+    match Store::inspect(v, 1, &mut buffer) {
+        Answer::Refused(_) => None,
+        _ => Some(buffer),
     }
-    if text::same(&buffer, with, 0, 256) {
-        return 1;
+}
+
+fn shown(v: &Volume, without: &Image, with: &Image) -> Outcome {
+    let mut memory: Memory = [0; 1536];
+    let restarted = Store::restart(v, &mut memory).answer;
+    if matches!(restarted, Answer::Refused(_)) {
+        return Outcome::Refused;
     }
-    if text::same(&buffer, without, 0, 256) {
-        0
-    } else {
-        3
+    match inspected(v) {
+        None => Outcome::Refused,
+        Some(page) if page == *with => Outcome::With,
+        Some(page) if page == *without => Outcome::Without,
+        Some(_) => Outcome::Other,
     }
 }
 
 // The volume as a cut leaves it when so many bytes of the record are stored.
-fn cut(trial: &mut Volume, old: &Volume, new: &Volume, stored: usize)
-    requires { stored ≤ 64 }
-{
-    disk::give_back(trial, old, 0, disk::SIZE);
-    disk::give_back(trial, new, disk::RECORD, disk::RECORD + stored);
-}
-
-// After how many of the 65 cuts this was shown.
-fn count(
-    old: &Volume,
-    new: &Volume,
-    m: &mut Memory,
-    without: &Image,
-    with: &Image,
-    trial: &mut Volume,
-    what: u8,
-) -> u32
-    ensures { result ≤ 65 }
-{
-    let mut n: u32 = 0;
-    let mut stored: usize = 0;
-    while stored < 65 {
-        cut(trial, old, new, stored);
-        n += one32(shown(trial, m, without, with) == what);
-        stored += 1;
-    }
-    n
+fn cut(old: &Volume, new: &Volume, stored: u8) -> Volume {
+    let mut v = *old;
+    let end = disk::RECORD + usize::from(stored);
+    disk::give_back(&mut v, new, disk::RECORD, end);
+    v
 }
 
 // A cut, shown in full.
-fn example(
-    rt: &impl Print,
-    trial: &mut Volume,
-    m: &mut Memory,
-    old: &Volume,
-    new: &Volume,
-    stored: usize,
-) -> io::Result<()>
-    requires { stored ≤ 64 }
-{
-    let mut buffer = [0u8; 256];
-    phrase(
-        rt,
-        b"  Damage: the plug is pulled in that last Force, with ",
-        stored as u32,
-        b" of the record's 64 bytes stored.\n   ",
+fn example(rt: &impl Print, old: &Volume, live: &Live, stored: u8) -> io::Result<()> {
+    print!(rt;
+        "  Damage: the plug is pulled in that last Force, with {stored} of the record's 64 bytes stored.\n   "
     )?;
-    cut(trial, old, new, stored);
-    steps::restart(rt, trial, m).done()?;
-    verdict::inspect(rt, trial, 1, &mut buffer).said
+    let mut trial = *live;
+    trial.volume = cut(old, &live.volume, stored);
+    trial.restart(rt)?;
+    let mut buffer = [0u8; 256];
+    verdict::inspect(rt, &trial.volume, 1, &mut buffer).said
+}
+
+// What each of the 65 cuts shows.
+fn all(old: &Volume, new: &Volume) -> [Outcome; 65] {
+    let mut without = [0u8; 256];
+    let mut with = [0u8; 256];
+    Store::inspect(old, 1, &mut without);
+    Store::inspect(new, 1, &mut with);
+    let mut all = [Outcome::Other; 65];
+    for stored in 0..65u8 {
+        all[usize::from(stored)] = shown(&cut(old, new, stored), &without, &with);
+    }
+    all
 }
 
 // What all the cuts left.
-fn summary(rt: &impl Print, whole: u32, not: u32, refused: u32, other: u32) -> io::Result<bool> {
-    say(
-        rt,
-        b"  The plug is pulled after each byte, from none of the 64 to all: 65 cuts.\n",
-    )?;
-    phrase(rt, b"    The line is kept: ", whole, b". It is not kept: ")?;
-    phrase(rt, b"", not, b". Refused: ")?;
-    phrase(rt, b"", refused, b". Any other text: ")?;
-    phrase(rt, b"", other, b".\n")?;
-    Ok((0 < not) & ((0 < whole) & ((refused == 0) & (other == 0))))
-}
-
-// Counts each outcome; without and with are what Inspect gives before and after the Force.
-fn tally(
-    rt: &impl Print,
-    old: &Volume,
-    new: &Volume,
-    m: &mut Memory,
-    without: &Image,
-    with: &Image,
-    trial: &mut Volume,
-) -> io::Result<bool> {
-    let not = count(old, new, m, without, with, trial, 0);
-    let whole = count(old, new, m, without, with, trial, 1);
-    let refused = count(old, new, m, without, with, trial, 2);
-    let other = count(old, new, m, without, with, trial, 3);
-    summary(rt, whole, not, refused, other)
-}
-
-fn cuts(
-    rt: &impl Print,
-    old: &Volume,
-    new: &Volume,
-    m: &mut Memory,
-    trial: &mut Volume,
-) -> io::Result<bool> {
-    let mut without = [0u8; 256];
-    let mut with = [0u8; 256];
-    example(rt, trial, m, old, new, 40)?;
-    example(rt, trial, m, old, new, 64)?;
-    Store::inspect(old, 1, &mut without);
-    Store::inspect(new, 1, &mut with);
-    tally(rt, old, new, m, &without, &with, trial)
-}
-
-fn play(
-    rt: &impl Print,
-    v: &mut Volume,
-    m: &mut Memory,
-    old: &mut Volume,
-    trial: &mut Volume,
-) -> io::Result<bool> {
-    let mut buffer = [0u8; 256];
-    done(rt, v, m, old)?;
-    verdict::before(rt, v, &mut buffer)?;
-    cuts(rt, old, v, m, trial)
+fn summary(rt: &impl Print, all: &[Outcome; 65]) -> io::Result<bool> {
+    let count = |what: Outcome| all.iter().filter(|s| **s == what).count();
+    let with = count(Outcome::With);
+    let without = count(Outcome::Without);
+    let refused = count(Outcome::Refused);
+    let other = count(Outcome::Other);
+    println!(rt; "  The plug is pulled after each byte, from none of the 64 to all: 65 cuts.")?;
+    print!(rt; "    The line is kept: {with}. It is not kept: {without}.")?;
+    println!(rt; " Refused: {refused}. Any other text: {other}.")?;
+    Ok((0 < without) & (0 < with) & (refused == 0) & (other == 0))
 }
 
 pub fn check(rt: &impl Print) -> io::Result<bool> {
-    let mut volume = [0u8; disk::SIZE];
-    let mut memory = [0u8; 1536];
-    let mut old = [0u8; disk::SIZE];
-    let mut trial = [0u8; disk::SIZE];
-    say(
-        rt,
-        b"\nCHECK 2. The plug pulled while a log record is being stored, at every byte\n",
-    )?;
-    play(rt, &mut volume, &mut memory, &mut old, &mut trial)
+    println!(rt; "\nCHECK 2. The plug pulled while a log record is being stored, at every byte")?;
+    let mut live = first(rt)?;
+    // as it was before the Force, which stores nothing else
+    let old = live.volume;
+    live.put(rt, 1, 44, b"06:18 bed 4 is free")?;
+    let mut seen = Seen {
+        before: [0; 256],
+        after: [0; 256],
+    };
+    seen.before(rt, &live.volume)?;
+    example(rt, &old, &live, 40)?;
+    example(rt, &old, &live, 64)?;
+    summary(rt, &all(&old, &live.volume))
 }

@@ -1,13 +1,22 @@
 -- Laws of the disk's part: which bytes an older copy gives back.
-use Prim.Native.Nat.{ℕ, ◌+◌, ◌-◌, ◌≤◌}
+use Prim.Native.Nat.{ℕ, min, ◌+◌, ◌-◌, ◌≤◌}
 use mathlib.Core.Path.{◌≡◌, sym, ◌∙◌}
 use mathlib.Core.List.{List}
 use native.Mathlib.Nat.{add-zero}
 use native.Mathlib.Omega.{arith}
 use lib.ListN.{take, drop, take-append-drop}
+use borrow.Author.Tests.{leb-true, leb-false}
+use lib.Dec.{leb}
+use Rattle.std.proofs.Math.Nat.{min-eq_left, min-eq_right}
+use Rattle.laws.proofs.Tables.{by_cases}
 use Rattle.model.specs.Bytes.{part, splice}
 use Rattle.model.specs.Tables.{smaller}
 use Rattle.checklist_steps.specs.Disk.{size, given_back}
+
+pub min-smaller : (a b : ℕ) → min a b ≡ smaller a b
+min-smaller a b =
+    by_cases (leb a b) (λ t. let h : a ≤ b = omega (arith, leb-true a b t) in rw (t, min-eq_left h))
+    (λ t. let h : b ≤ a = omega (arith, leb-false a b t) in rw (t, min-eq_right h))
 
 module _ (v old : List ℕ) (from to end : ℕ) (ee : end ≡ smaller to size) where
   pub given-some : (w : List ℕ) → w ≡ splice v from (part old from (end - from)) → w ≡ given_back v old from to

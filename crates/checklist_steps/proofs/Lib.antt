@@ -1,4 +1,3 @@
 pub mod Damage
 pub mod Outcomes
 pub mod Same
-pub mod Verdicts

@@ -1,5 +1,5 @@
 -- Laws of the steps: what a call leaves, from the parts that the code holds.
-use Prim.Native.Nat.{ℕ, ◌-◌, ◌≤◌}
+use Prim.Native.Nat.{ℕ, min, ◌-◌, ◌≤◌}
 use mathlib.Core.Path.{◌≡◌, ap, ◌∙◌}
 use mathlib.Core.List.{List}
 use lib.Dec.{eqb, leb}
@@ -7,18 +7,19 @@ use lib.ListN.{length, take, replicate}
 use lib.Seq.{take_all}
 use native.Mathlib.Nat.{sub-zero}
 use native.Mathlib.Omega.{arith}
-use borrow.Author.Tests.{leb-false}
+use borrow.Author.Tests.{leb-true, leb-false}
+use Rattle.std.proofs.Math.Nat.{min-eq_left, min-eq_right}
 use Rattle.laws.proofs.Tables.{by_cases}
 use Rattle.model.specs.Bytes.{splice}
-use Rattle.model.specs.Tables.{first_of, smaller}
+use Rattle.model.specs.Tables.{first_of}
 use Rattle.model.specs.Refusals.{restart_rows}
 use Rattle.model.specs.Outcome.{Outcome, reply_of, volume_after, decided}
-use Rattle.model.specs.Restart.{make_of, restart_of}
-use Rattle.model.specs.declared.{command.Command.Command, geometry.Heading.TheVariants.Second}
+use Rattle.model.specs.Restart.{restart_of}
+use Rattle.model.specs.declared.command.Command.{Command}
 use Rattle.store.specs.Store.{wrapped, performed}
 use Rattle.store.specs.declared.Store.{Store}
 use Rattle.store.specs.declared.Returned.{Returned}
-use Rattle.checklist_steps.specs.Steps.{Live, live, applied, made, restarted, forced, begun, put_in, row_of, first_line, opening}
+use Rattle.checklist_steps.specs.Steps.{live, applied, made, restarted, row_of}
 
 pub applied-is : (v v' m' : List ℕ) (o : Outcome) (r : Returned) (t : Store) → r ≡ wrapped (reply_of o) → t ≡ r.store
     → m' ≡ o.memory
@@ -45,21 +46,13 @@ pub restart-is : (v m m' : List ℕ) (r : Returned) (t : Store) → r ≡ wrappe
 restart-is v m m' r t er et em = applied-is v v m' (restart_of v m) r t er et em (restart-volume v m)
 
 -- so many bytes, or all
-pub take-smaller : (n : ℕ) (s : List ℕ) → take (smaller n (length s)) s ≡ take n s
-take-smaller n s =
-    by_cases (leb n (length s)) (λ t. rw t)
-    (λ t. let h : length s ≤ n = omega (arith, leb-false n (length s) t) in rw (t, take_all n s h, take_all (length s) s (omega arith)))
+take-min : (n : ℕ) (s : List ℕ) → take (min (length s) n) s ≡ take n s
+take-min n s =
+    by_cases (leb (length s) n) (λ t. let h : length s ≤ n = omega (arith, leb-true (length s) n t) in
+    rw (min-eq_left h, take_all n s h, take_all (length s) s (omega arith)))
+    (λ t. let h : n ≤ length s = omega (arith, leb-false (length s) n t) in rw (min-eq_right h))
 
 -- a line's bytes, put over zeros
-pub row_is : (s r : List ℕ) (n : ℕ) → n ≡ smaller 44 (length s) → r ≡ splice (replicate 44 0) 0 (take (n - 0) s) → r ≡ row_of s
+pub row_is : (s r : List ℕ) (n : ℕ) → n ≡ min (length s) 44 → r ≡ splice (replicate 44 0) 0 (take (n - 0) s) → r ≡ row_of s
 unfolding row_of
-row_is s r n en er = er ∙ ap (λ (x : List ℕ). splice (replicate 44 0) 0 x) (rw (sub-zero n, en) (take-smaller 44 s))
-
--- a Force after a call whose payload is q
-pub change-is : (w a b : Live) (c : Command) (p q : List ℕ) → w ≡ forced b → b ≡ made a c p → p ≡ q → w ≡ forced (made a c q)
-change-is w a b c p q ew eb ep = rw (ew, eb, ep)
-
-pub opened-is : (w a b : Live) (v v' m : List ℕ) → w ≡ put_in a 1 0 first_line → a ≡ begun b 1 → b ≡ restarted v' m
-    → v' ≡ (make_of Second v 2 1 16 8).volume
-    → w ≡ opening v m
-opened-is w a b v v' m ew ea eb ev = rw (ew, ea, eb, ev)
+row_is s r n en er = er ∙ ap (λ (x : List ℕ). splice (replicate 44 0) 0 x) (rw (sub-zero n, en) (take-min 44 s))

@@ -1,39 +1,25 @@
--- Two slices compared from one place to another, byte by byte.
-use Prim.Native.Nat.{ℕ, ◌+◌, ◌-◌, ◌≤◌, ◌<◌}
-use mathlib.Core.Path.{◌≡◌, sym}
+-- The library's `all` over a range comes to the model's test of every number below a bound.
+use Prim.Native.Nat.{ℕ, ◌+◌, ◌<◌}
+use mathlib.Core.Path.{◌≡◌, sym, ap, ◌∙◌}
 use mathlib.Core.Bool.{Bool, true, false}
-use mathlib.Core.List.{List}
-use lib.Dec.{eqb}
 use native.Mathlib.Omega.{arith}
-use borrow.Author.Tests.{eq-eqb, ne_eqb}
-use Rattle.laws.proofs.Tables.{every-none, every_more, every-fails}
-use Rattle.model.specs.Bytes.{byte_at}
-use Rattle.checklist_steps.specs.Text.{same_between}
+use mathlib.Core.List.{List}
+use lib.ListN.{length}
+use Rattle.std.specs.Bool.{MatchBool}
+use Rattle.std.specs.List.{range_with_len, AllWithin, HoldsAt}
+use Rattle.std.proofs.lemmas.List.FromFn.{length-range_with_len, get_or-range_with_len}
+use Rattle.laws.proofs.Tables.{every-all, every-fails}
+use Rattle.model.specs.Tables.{every}
 
-pub same_none : (a b : List ℕ) (from : ℕ) → same_between a b from from ≡ true
-same_none a b from = let e : from - from ≡ 0 = omega arith in rw e (every-none _)
+module _ (test : ℕ → Bool) (from n : ℕ) where
+  abbrev numbers : List ℕ
+  numbers = range_with_len from n
 
-module _ (a b : List ℕ) (from to i : ℕ) (past : from ≤ i) where
-  -- the byte at i, seen from the first
-  at : ℕ → Bool
-  at k = eqb (byte_at a (from + k)) (byte_at b (from + k))
-
-  pub same_not : i < to → (byte_at a i ≡ byte_at b i → ⊥) → false ≡ same_between a b from to
-  unfolding at
-  same_not l ne =
-      let e : from + (i - from) ≡ i = omega arith in
-      let f : at (i - from) ≡ false = rw e (ne_eqb _ _ ne) in
-      sym (every-fails at (to - from) (i - from) (omega arith) f)
-
-  pub same_more : same_between a b from i ≡ true → byte_at a i ≡ byte_at b i → same_between a b from (i + 1) ≡ true
-  unfolding at
-  same_more h q =
-      let e : from + (i - from) ≡ i = omega arith in
-      let n : i + 1 - from ≡ i - from + 1 = omega arith in
-      let f : at (i - from) ≡ true = rw e (eq-eqb _ _ q) in
-      rw n (every_more at (i - from) h f)
-
-  pub same-all : i - from ≤ to - from → to ≤ i → same_between a b from i ≡ true → true ≡ same_between a b from to
-  same-all l m h =
-      let e : i - from ≡ to - from = omega arith in
-      sym (rw e at h)
+  pub every-from : (r : Bool)
+      → MatchBool r (AllWithin (λ x. test x ≡ true) numbers 0 (length numbers)) ((k : ℕ) × (k < length numbers) × HoldsAt (λ x. test x ≡ false) numbers k)
+      → r ≡ every n (λ k. test (from + k))
+  every-from true h =
+      sym (every-all _ n (λ k l. ap test (sym (get_or-range_with_len from n k 0 l)) ∙ h k 0 (omega arith) (rw length-range_with_len l)))
+  every-from false h =
+      let l : h.0 < n = rw length-range_with_len at h.1 in
+      sym (every-fails _ n h.0 l (ap test (sym (get_or-range_with_len from n h.0 0 l)) ∙ h.2 0))

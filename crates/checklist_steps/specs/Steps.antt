@@ -11,13 +11,9 @@ use Rattle.model.specs.declared.command.Command.TheVariants.{Begin, Load, Force,
 use Rattle.model.specs.declared.command.Command.TheVariants.{Change, Backup, Note}
 use Rattle.store.specs.Store.{wrapped, performed}
 use Rattle.store.specs.declared.Store.{Store}
+use Rattle.checklist_steps.specs.declared.steps.Live.{Live}
 
 -- what is there between two calls
-pub record Live : Type 0 where
-  pub volume : List ℕ
-  pub memory : List ℕ
-  pub store : Store
-
 abbrev pub live : List ℕ → List ℕ → Store → Live
 live v m s = record { volume = v; memory = m; store = s }
 

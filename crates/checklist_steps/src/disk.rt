@@ -4,7 +4,6 @@ ghost use Rattle.model.specs.Bytes.{part, splice};
 ghost use Rattle.model.specs.Tables.{smaller};
 ghost use Rattle.checklist_steps.specs.Disk.{size, given_back, spoiled};
 
-use codec::number::least;
 use codec::part;
 
 // Where the items that are damaged stand in a volume of 2 pages, 1 slot, 16 records and 8 notes.
@@ -26,29 +25,19 @@ pub const RECORD: usize = 16 + 256 * 2 + 256 + 64 * 2;
 pub fn image(volume: &Volume, at: usize) -> Image
     ensures { result ≡ part volume.now (smaller at (size - 256)) 256 }
 {
-    let from = least(at, SIZE - 256);
-    let end = from + 256;
+    let from = at.min(SIZE - 256);
     let mut image = [0u8; 256];
-    let whole = &volume[..];
-    part::copy(&mut image, &whole[from..end]);
+    image.copy_from_slice(&volume[from..from + 256]);
     image
-}
-
-// Makes the bytes of one slice from a place to another those of the other slice.
-fn copy(dst: &mut [u8], src: &[u8], from: usize, end: usize)
-    requires { (from ≤ end) × (end ≤ length dst.old) × (end ≤ length src.now) }
-    ensures { dst.new ≡ splice dst.old from (part src.now from (end - from)) }
-{
-    part::put(dst, from, &src[from..end]);
 }
 
 // Makes the bytes of a volume from a place to another, or to the end, those of an older copy.
 pub fn give_back(volume: &mut Volume, old: &Volume, from: usize, to: usize)
     ensures { volume.new ≡ given_back volume.old old.now from to }
 {
-    let end = least(to, SIZE);
+    let end = to.min(SIZE);
     if from < end {
-        copy(volume, old, from, end);
+        part::put(volume, from, &old[from..end]);
     }
 }
 

@@ -5,29 +5,29 @@ ghost use Rattle.checklist_steps.specs.Text.{is_repaired, rebuilt_as};
 
 use crate::disk::{Image, Volume};
 use crate::printed::Printed;
-use crate::{steps, text};
+use crate::steps::worded;
+use crate::text;
 use model::answer::Answer;
-use print::{phrase, say};
 use std::io;
 use store::Store;
+
+// Page 1 as Inspect rebuilds it before any damage, and after it.
+#[derive(Clone, Copy)]
+pub struct Seen {
+    pub before: Image,
+    pub after: Image,
+}
 
 // An answer that a page was rebuilt.
 fn repaired(a: Answer) -> bool
     ensures { result ≡ is_repaired a }
 {
-    match a {
-        Answer::Refused(_) => false,
-        Answer::Nothing => false,
-        Answer::Done => false,
-        Answer::Repaired(_) => true,
-    }
+    matches!(a, Answer::Repaired(_))
 }
 
 // What is seen of a page: the answer, and the text in the buffer.
-fn seen(rt: &impl Print, page: u32, a: Answer, buffer: &Image) -> io::Result<()> {
-    phrase(rt, b"    Inspect page ", page, b": ")?;
-    steps::answer(rt, a)?;
-    say(rt, b"\n")?;
+fn show(rt: &impl Print, page: u32, a: Answer, buffer: &Image) -> io::Result<()> {
+    println!(rt; "    Inspect page {page}: {}", worded(a))?;
     text::show(rt, buffer)
 }
 
@@ -39,37 +39,36 @@ pub fn inspect(rt: &impl Print, v: &Volume, page: u32, buffer: &mut Image) -> Pr
     let a = Store::inspect(v, page, buffer);
     Printed {
         value: repaired(a),
-        said: seen(rt, page, a, buffer),
+        said: show(rt, page, a, buffer),
     }
 }
 
-// What is seen before any damage.
-pub fn before(rt: &impl Print, v: &Volume, buffer: &mut Image) -> io::Result<()>
-    ensures { buffer.new ≡ (inspect_of v.now 1 buffer.old).buffer }
-{
-    let said = say(rt, b"  Before the damage:\n");
-    inspect(rt, v, 1, buffer).after(said).said
-}
-
-// What is seen of page 1 after damage, and why; whether it is rebuilt with its text as it was before.
-// Ruled out: a refused page that passes since the buffer holds an earlier text (tried).
-pub fn after(
-    rt: &impl Print,
-    v: &Volume,
-    why: &[u8],
-    before: &Image,
-    after: &mut Image,
-) -> Printed<bool>
-    ensures verdict { result.value ≡ rebuilt_as (inspect_of v.now 1 after.old) before.now }
-    ensures after { after.new ≡ (inspect_of v.now 1 after.old).buffer }
-{
-    let said = say(rt, why);
-    let found = inspect(rt, v, 1, after).after(said);
-    if !found.value {
-        return Printed {
-            value: false,
-            said: found.said,
-        };
+impl Seen {
+    // What is seen before any damage.
+    pub fn before(&mut self, rt: &impl Print, v: &Volume) -> io::Result<()>
+        ensures before { self.new.before ≡ (inspect_of v.now 1 self.old.before).buffer }
+        ensures after { self.new.after ≡ self.old.after }
+    {
+        let said = println!(rt; "  Before the damage:");
+        inspect(rt, v, 1, &mut self.before).after(said).said
     }
-    text::whole(rt, before, after).after(found.said)
+
+    // What is seen of page 1 after damage, and why; whether it is rebuilt with its text as it was before.
+    // Ruled out: a refused page that passes since the buffer holds an earlier text (tried).
+    pub fn after(&mut self, rt: &impl Print, v: &Volume, why: &str) -> Printed<bool>
+        ensures verdict { result.value
+            ≡ rebuilt_as (inspect_of v.now 1 self.old.after) self.old.before }
+        ensures before { self.new.before ≡ self.old.before }
+        ensures after { self.new.after ≡ (inspect_of v.now 1 self.old.after).buffer }
+    {
+        let said = print!(rt; "{why}");
+        let found = inspect(rt, v, 1, &mut self.after).after(said);
+        if !found.value {
+            return Printed {
+                value: false,
+                said: found.said,
+            };
+        }
+        text::whole(rt, &self.before, &self.after).after(found.said)
+    }
 }

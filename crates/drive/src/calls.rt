@@ -1,59 +1,39 @@
 // The cells that call the store, ops 1 to 10 and 17 to 21.
-use model::answer::Answer;
-use script::session::{Session, Turn};
-use script::{cell, session};
-use std::io;
+use model::command::Command;
+use model::geometry::Heading;
+use script::cell::Cell;
+use script::session::{Said, Session};
 use store::{Returned, Store};
 
 // Make under either heading, with the cell's four counts.
-fn make(c: &[u8], volume: &mut [u8]) -> Answer {
-    let p = cell::count(c, 0);
-    let b = cell::count(c, 1);
-    let l = cell::count(c, 2);
-    let n = cell::count(c, 3);
-    if cell::op(c) == 1 {
-        Store::make(volume, p, b, l, n)
-    } else {
-        Store::make_first(volume, p, b, l, n)
-    }
+pub fn make(s: &mut Session<'_>, c: &Cell, heading: Heading) -> Said {
+    let [p, b, l, n] = c.counts();
+    let volume = s.volume.lent_mut();
+    Said::Answer(match heading {
+        Heading::First => Store::make_first(volume, p, b, l, n),
+        Heading::Second => Store::make(volume, p, b, l, n),
+    })
 }
 
-// Make and Inspect, which take no state.
-pub fn plain(
-    rt: &impl Print,
-    b: Session,
-    c: &[u8],
-    volume: &mut [u8],
-    lent: &mut [u8],
-) -> io::Result<Turn> {
-    if cell::op(c) == 10 {
-        session::told(rt, b, Store::inspect(volume, cell::page(c), lent))
-    } else {
-        session::told(rt, b, make(c, volume))
-    }
+pub fn inspect(s: &mut Session<'_>, c: &Cell) -> Said {
+    let volume = s.volume.lent();
+    Said::Answer(Store::inspect(volume, c.page(), s.lent.lent_mut()))
 }
 
-// Restart, or the call on the state that the cell's command names.
-fn call(s: Store, c: &[u8], volume: &mut [u8], memory: &mut [u8]) -> Returned {
-    if cell::op(c) == 2 {
-        Store::restart(volume, memory)
-    } else {
-        s.perform(volume, memory, cell::command(c), cell::payload(c))
-    }
+// Keeps the store that a call gave back, and tells its answer.
+fn told(s: &mut Session<'_>, r: Returned) -> Said {
+    s.store = r.store;
+    Said::Answer(r.answer)
 }
 
-// The calls that take or give a state. A change of no kind is skipped.
-pub fn stateful(
-    rt: &impl Print,
-    b: Session,
-    c: &[u8],
-    volume: &mut [u8],
-    memory: &mut [u8],
-) -> io::Result<Turn> {
-    let kind = cell::kind(c);
-    if (cell::op(c) == 5) & !((1 <= kind) & (kind <= 3)) {
-        return session::skipped(rt, b);
-    }
-    let s = b.store;
-    session::came(rt, b, call(s, c, volume, memory))
+pub fn restart(s: &mut Session<'_>) -> Said {
+    let r = Store::restart(s.volume.lent(), s.memory.lent_mut());
+    told(s, r)
+}
+
+pub fn perform(s: &mut Session<'_>, c: &Cell, command: Command) -> Said {
+    let volume = s.volume.lent_mut();
+    let memory = s.memory.lent_mut();
+    let r = s.store.perform(volume, memory, command, c.payload());
+    told(s, r)
 }

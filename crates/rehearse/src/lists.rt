@@ -1,93 +1,86 @@
-// The two lists that come with the program, and one that is given. Both have the same 336 changes: 16 pages of a
-// thread, each begun and then changed 20 times.
+// The two lists that come with the program. Both have the same 336 changes: 16 pages of a thread, each begun and then
+// changed 20 times.
+ghost use Rattle.std.specs.Prelude.{◌≤◌};
 
-// At most 1,024 events.
+// At most 1,024 events, a byte each. A Vec could fail to grow, which the program has no answer for.
 #[derive(Clone, Copy)]
 pub struct List {
-    pub bytes: [u8; 1024],
-    pub len: usize,
+    bytes: [u8; 1024],
+    len: usize,
+    ghost fits: { len ≤ 1024 },
 }
 
-fn none() -> List {
-    let bytes = [0u8; 1024];
-    List { bytes, len: 0 }
-}
-
-// One event more; none where the list is full.
-fn push(list: List, event: u8) -> List {
-    let at = list.len;
-    if 1024 <= at {
-        return list;
+impl List {
+    fn new() -> List {
+        List {
+            bytes: [0; 1024],
+            len: 0,
+        }
     }
-    let mut next = list;
-    next.bytes[at] = event;
-    next.len = at + 1;
-    next
-}
 
-fn read(list: List, page: u8) -> List {
-    push(list, page % 128)
-}
-
-fn change(list: List, page: u8) -> List {
-    push(list, page % 128 + 128)
-}
-
-// A page is changed 20 times more; after each change the reader sees it.
-fn stay(list: List, page: u8) -> List {
-    let mut l = list;
-    for _ in 0..20u32 {
-        l = read(change(l, page), page);
+    pub fn events(&self) -> &[u8] {
+        &self.bytes[..self.len]
     }
-    l
+
+    // One event more; none where the list is full.
+    fn push(&mut self, event: u8) {
+        if self.len < 1024 {
+            self.bytes[self.len] = event;
+            self.len += 1;
+        }
+    }
+
+    fn read(&mut self, page: u8) {
+        self.push(page % 128);
+    }
+
+    fn change(&mut self, page: u8) {
+        self.push(page % 128 + 128);
+    }
+
+    // A page is changed 20 times more; after each change the reader sees it.
+    fn stay(&mut self, page: u8) {
+        for _ in 0..20u32 {
+            self.change(page);
+            self.read(page);
+        }
+    }
+
+    fn changes(&mut self, page: u8, count: u32) {
+        for _ in 0..count {
+            self.change(page);
+        }
+    }
+
+    // Seven changes of a page, and then all pages from the first are read.
+    fn reread(&mut self, page: u8) {
+        self.changes(page, 7);
+        for p in 1..=page {
+            self.read(p);
+        }
+    }
 }
 
 // After each change the newest page is read; where a page begins, first the one before it.
 pub fn stays() -> List {
-    let mut l = none();
-    for page in 1..17u8 {
-        l = change(l, page);
+    let mut list = List::new();
+    for page in 1..=16u8 {
+        list.change(page);
         if 1 < page {
-            l = read(l, page - 1);
+            list.read(page - 1);
         }
-        l = stay(read(l, page), page);
+        list.read(page);
+        list.stay(page);
     }
-    l
-}
-
-// Seven changes of a page.
-fn changes(list: List, page: u8) -> List {
-    let mut l = list;
-    for _ in 0..7u32 {
-        l = change(l, page);
-    }
-    l
-}
-
-// Seven changes of a page, and then all pages from the first are read.
-fn reread(list: List, page: u8) -> List {
-    let mut l = changes(list, page);
-    for p in 1..17u8 {
-        if p <= page {
-            l = read(l, p);
-        }
-    }
-    l
+    list
 }
 
 pub fn rereads() -> List {
-    let mut l = none();
-    for page in 1..17u8 {
-        l = reread(reread(reread(l, page), page), page);
+    let mut list = List::new();
+    for page in 1..=16u8 {
+        list.reread(page);
+        list.reread(page);
+        list.reread(page);
     }
-    l
-}
-
-// The bytes as they are.
-pub fn given(bytes: &[u8]) -> List {
-    let mut l = none();
-    for i in 0..bytes.len() {
-        l = push(l, bytes[i]);
-    }
-    l
+    list
 }

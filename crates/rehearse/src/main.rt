@@ -8,33 +8,35 @@
 mod lists;
 mod table;
 
+use model::answer::Refusal;
 use print::input;
 use std::io;
+use table::{Lines, Table};
 
 fn main(rt: HostRuntime) -> io::Result<()> {
     let mut space = [0u8; 1025];
     let n = input::fill(&mut rt.stdin(), &mut space)?;
     if n == 0 {
-        table::print(
-            &rt,
-            lists::stays(),
-            false,
-            b"A reader who stays at the end of a thread of 16 pages, each begun and changed 20 times\n",
-        )?;
-        return table::print(
-            &rt,
-            lists::rereads(),
-            false,
-            b"\nA reader who rereads the whole thread after every 7th change of a page\n",
-        );
+        Table {
+            title: "A reader who stays at the end of a thread of 16 pages, each begun and changed 20 times",
+            events: lists::stays().events(),
+            lines: Lines::Totals,
+        }
+        .print(&rt)?;
+        return Table {
+            title: "\nA reader who rereads the whole thread after every 7th change of a page",
+            events: lists::rereads().events(),
+            lines: Lines::Totals,
+        }
+        .print(&rt);
     }
     if 1024 < n {
-        return print::refusal(&rt, 25);
+        return println!(rt; "REFUSED {}", Refusal::BadRehearsal as u32);
     }
-    table::print(
-        &rt,
-        lists::given(&space[0..n]),
-        true,
-        b"The list on standard input\n",
-    )
+    Table {
+        title: "The list on standard input",
+        events: &space[..n],
+        lines: Lines::Pages,
+    }
+    .print(&rt)
 }

@@ -1,205 +1,142 @@
 // What a list costs, by frames, victim and backup habit.
 ghost use Rattle.std.specs.Prelude.{◌≤◌};
 
-use crate::lists::List;
-use codec::number::one64;
 use model::answer::Answer;
 use planning::rehearsal::{Figures, Rehearsed, Totals, Victim};
-use print::{number, say};
+use planning_model::figures;
 use std::io;
 
-// A number in a column of seven.
-fn column(rt: &impl Print, n: u64) -> io::Result<()> {
-    if n < 1000000 {
-        say(rt, b" ")?;
-    }
-    if n < 100000 {
-        say(rt, b" ")?;
-    }
-    if n < 10000 {
-        say(rt, b" ")?;
-    }
-    if n < 1000 {
-        say(rt, b" ")?;
-    }
-    if n < 100 {
-        say(rt, b" ")?;
-    }
-    if n < 10 {
-        say(rt, b" ")?;
-    }
-    number(rt, (n % 4294967296) as u32)
+// How much is printed of each setting.
+#[derive(Clone, Copy, Debug, PartialEq, Eq)]
+pub enum Lines {
+    Totals,
+    // A line for each page too.
+    Pages,
 }
 
-// One mark for every so many begun.
-fn bar(rt: &impl Print, n: u64, mark: &[u8], each: u64) -> io::Result<()> {
-    let step = each % 1024;
-    let mut at: u64 = 0;
-    for _ in 0..64u64 {
-        if at < n {
-            say(rt, mark)?;
-        }
-        at = at + step;
+// The list that is played, and how it is printed.
+#[derive(Clone, Copy)]
+pub struct Table<'a> {
+    pub title: &'static str,
+    pub events: &'a [u8],
+    pub lines: Lines,
+}
+
+// At most 64 marks.
+fn bar(rt: &impl Print, count: u64, mark: char) -> io::Result<()> {
+    for _ in 0..count.min(64) {
+        print!(rt; "{mark}")?;
     }
     Ok(())
 }
 
 // How many pages were backed up.
-fn backed_up(pages: [Figures; 64]) -> u64
+fn backed_up(pages: &[Figures; 64]) -> usize
     ensures { result ≤ 64 }
 {
-    let mut n: u64 = 0;
-    for i in 0..64usize {
-        n = n + one64(0 < pages[i].backups);
-    }
-    n
+    pages.iter().filter(|f| 0 < f.backups).count()
 }
 
 // The highest page that was changed.
-fn highest(pages: [Figures; 64]) -> u64 {
-    let mut n: u64 = 0;
-    for i in 0..64usize {
-        if 0 < pages[i].records {
-            n = i as u64 + 1;
-        }
-    }
-    n
+fn highest(pages: &[Figures; 64]) -> usize {
+    pages
+        .iter()
+        .rposition(|f| 0 < f.records)
+        .map_or(0, |i| i + 1)
 }
 
 // The stores other than log records, which every setting has alike.
 fn extra(t: Totals) -> u64 {
-    t.images % 1000000 + t.backups % 1000000 + t.notes % 1000000
-}
-
-// The first n bytes, played.
-fn play(bytes: &[u8], n: usize, frames: u32, every: u32, victim: Victim) -> Rehearsed {
-    if n <= bytes.len() {
-        planning_model::rehearse(&bytes[0..n], frames, every, victim)
-    } else {
-        planning_model::rehearse(bytes, frames, every, victim)
-    }
+    t.images.saturating_add(t.backups).saturating_add(t.notes)
 }
 
 // A page's line: its number and its changes; then as in the line of all pages together.
-fn page_line(rt: &impl Print, page: u32, f: Figures) -> io::Result<()> {
-    column(rt, page as u64)?;
-    say(rt, b"  page   ")?;
-    column(rt, f.records as u64)?;
-    column(rt, f.loads as u64)?;
-    column(rt, f.replayed as u64)?;
-    column(rt, f.images as u64)?;
-    column(rt, f.backups as u64)?;
-    column(rt, f.notes as u64)?;
-    say(rt, b"\n")
+fn page_line(rt: &impl Print, page: u32, f: &Figures) -> io::Result<()> {
+    println!(rt;
+        "{page:7}  page   {:7}{:7}{:7}{:7}{:7}{:7}",
+        f.records, f.loads, f.replayed, f.images, f.backups, f.notes
+    )
 }
 
 // A line for each page that was changed; no other has a figure.
-fn page_lines(rt: &impl Print, pages: [Figures; 64]) -> io::Result<()> {
-    for i in 0..64usize {
-        let f = pages[i];
+fn page_lines(rt: &impl Print, pages: &[Figures; 64]) -> io::Result<()> {
+    for (page, f) in (1..=64u32).zip(pages) {
         if 0 < f.records {
-            page_line(rt, i as u32 + 1, f)?;
+            page_line(rt, page, f)?;
         }
     }
     Ok(())
 }
 
-// A line: frames, victim, k; loads and records replayed; page images, backups and notes; a B that is enough; two bars.
-// Behind it, where each page is asked for, the lines of the pages.
-fn line(
-    rt: &impl Print,
-    list: List,
-    each: bool,
-    frames: u32,
-    every: u32,
-    victim: Victim,
-    words: &[u8],
-) -> io::Result<()> {
-    let n = list.len;
-    let bytes = list.bytes;
-    let r = play(&bytes, n, frames, every, victim);
-    let pages = r.pages;
-    let t = planning_model::figures::total(pages);
-    column(rt, frames as u64)?;
-    say(rt, words)?;
-    column(rt, every as u64)?;
-    column(rt, t.loads)?;
-    column(rt, t.replayed)?;
-    column(rt, t.images)?;
-    column(rt, t.backups)?;
-    column(rt, t.notes)?;
-    column(rt, backed_up(pages) + 1)?;
-    say(rt, b"  ")?;
-    bar(rt, extra(t), b"#", 32)?;
-    bar(rt, t.replayed, b"*", 256)?;
-    say(rt, b"\n")?;
-    if each {
-        page_lines(rt, pages)?;
+fn words(victim: Victim) -> &'static str {
+    match victim {
+        Victim::Written => "written",
+        Victim::Released => "let go ",
     }
-    Ok(())
 }
 
-fn habits(
-    rt: &impl Print,
-    list: List,
-    each: bool,
-    frames: u32,
-    victim: Victim,
-    words: &[u8],
-) -> io::Result<()> {
-    line(rt, list, each, frames, 1, victim, words)?;
-    line(rt, list, each, frames, 4, victim, words)?;
-    line(rt, list, each, frames, 16, victim, words)?;
-    line(rt, list, each, frames, 255, victim, words)
-}
-
-fn both(rt: &impl Print, list: List, each: bool, frames: u32) -> io::Result<()> {
-    habits(rt, list, each, frames, Victim::Written, b"  written")?;
-    habits(rt, list, each, frames, Victim::Released, b"  let go ")
-}
-
-fn heading(rt: &impl Print, list: List, each: bool, pages: [Figures; 64]) -> io::Result<()> {
-    let t = planning_model::figures::total(pages);
-    column(rt, list.len as u64)?;
-    say(rt, b" events,")?;
-    column(rt, t.records)?;
-    say(rt, b" changes. Enough room: P")?;
-    column(rt, highest(pages))?;
-    say(rt, b", L")?;
-    column(rt, t.records)?;
-    say(rt, b", N the notes and B of the line\n")?;
-    say(
-        rt,
-        b" frames  victim       k  loads replay images backup  notes      B",
-    )?;
-    say(rt, b"  # 32 images, backups, notes  * 256 replayed\n")?;
-    if each {
-        say(rt, b"   page         changes\n")?;
+impl Table<'_> {
+    fn play(&self, frames: u32, every: u32, victim: Victim) -> Rehearsed {
+        planning_model::rehearse(self.events, frames, every, victim)
     }
-    Ok(())
-}
 
-// The whole table, with the lines of the pages or without, under its title; or the refusal alone.
-pub fn print(rt: &impl Print, list: List, each: bool, title: &[u8]) -> io::Result<()> {
-    let n = list.len;
-    let bytes = list.bytes;
-    let r = play(&bytes, n, 1, 1, Victim::Released);
-    let answer = r.answer;
-    let pages = r.pages;
-    match answer {
-        Answer::Refused(no) => {
-            return print::refusal(rt, no);
+    // A line: frames, victim, k; loads and records replayed; page images, backups and notes; a B that is enough; two
+    // bars, one mark for every so many begun. Behind it, where each page is asked for, the lines of the pages.
+    fn line(&self, rt: &impl Print, frames: u32, every: u32, victim: Victim) -> io::Result<()> {
+        let pages = self.play(frames, every, victim).pages;
+        let t = figures::total(pages);
+        let enough = backed_up(&pages) + 1;
+        print!(rt;
+            "{frames:7}  {}{every:7}{:7}{:7}{:7}{:7}{:7}{enough:7}  ",
+            words(victim),
+            t.loads,
+            t.replayed,
+            t.images,
+            t.backups,
+            t.notes
+        )?;
+        bar(rt, extra(t).div_ceil(32), '#')?;
+        bar(rt, t.replayed.div_ceil(256), '*')?;
+        println!(rt)?;
+        match self.lines {
+            Lines::Totals => Ok(()),
+            Lines::Pages => page_lines(rt, &pages),
         }
-        Answer::Nothing => {}
-        Answer::Done => {}
-        Answer::Repaired(_) => {}
     }
-    say(rt, title)?;
-    heading(rt, list, each, pages)?;
-    both(rt, list, each, 1)?;
-    both(rt, list, each, 2)?;
-    both(rt, list, each, 4)?;
-    both(rt, list, each, 8)?;
-    both(rt, list, each, 15)?;
-    both(rt, list, each, 16)
+
+    fn habits(&self, rt: &impl Print, frames: u32, victim: Victim) -> io::Result<()> {
+        for every in [1, 4, 16, 255] {
+            self.line(rt, frames, every, victim)?;
+        }
+        Ok(())
+    }
+
+    fn heading(&self, rt: &impl Print, pages: &[Figures; 64]) -> io::Result<()> {
+        let events = self.events.len();
+        let changes = figures::total(*pages).records;
+        let most = highest(pages);
+        println!(rt; "{}", self.title)?;
+        print!(rt; "{events:7} events,{changes:7} changes. Enough room: P{most:7}, L{changes:7}")?;
+        println!(rt; ", N the notes and B of the line")?;
+        print!(rt; " frames  victim       k  loads replay images backup  notes      B")?;
+        println!(rt; "  # 32 images, backups, notes  * 256 replayed")?;
+        match self.lines {
+            Lines::Totals => Ok(()),
+            Lines::Pages => println!(rt; "   page         changes"),
+        }
+    }
+
+    // The whole table, or the refusal alone.
+    pub fn print(&self, rt: &impl Print) -> io::Result<()> {
+        let r = self.play(1, 1, Victim::Released);
+        if let Answer::Refused(n) = r.answer {
+            return println!(rt; "REFUSED {n}");
+        }
+        self.heading(rt, &r.pages)?;
+        for frames in [1, 2, 4, 8, 15, 16] {
+            self.habits(rt, frames, Victim::Written)?;
+            self.habits(rt, frames, Victim::Released)?;
+        }
+        Ok(())
+    }
 }

@@ -4,9 +4,10 @@
 // is proved; this file only prints.
 #![tactic(auto)]
 
-use model::answer::Answer;
-use print::{input, number, say};
+use model::answer::{Answer, Refusal};
+use print::input;
 use std::io;
+use volume::Volume;
 
 // How Inspect finds a page.
 fn found(volume: &[u8], page: u32) -> Answer {
@@ -14,48 +15,37 @@ fn found(volume: &[u8], page: u32) -> Answer {
     inspect::inspect(volume, page, &mut buffer)
 }
 
-// The refusal that hides every page's line, or 0: a blank page's 7 is that page's line.
-fn hiding(volume: &[u8], page: u32) -> u32 {
+// The refusal that hides every page's line: a blank page's is that page's line.
+fn hiding(volume: &[u8], page: u32) -> Option<u32> {
     match found(volume, page) {
-        Answer::Refused(n) => if n == 7 { 0 } else { n },
-        Answer::Nothing => 0,
-        Answer::Done => 0,
-        Answer::Repaired(_) => 0,
+        Answer::Refused(n) if n != u32::from(Refusal::BlankPage) => Some(n),
+        _ => None,
     }
 }
 
-// The refusal that is the only line, or 0.
-fn refusal(volume: &[u8], pages: u32) -> u32 {
-    let mut page: u32 = 1;
-    while page < pages {
-        let n = hiding(volume, page);
-        if n != 0 {
-            return n;
-        }
-        page += 1;
+// The count of pages, or the refusal that is the only line.
+fn judged(bytes: &[u8]) -> Result<u32, u32> {
+    if 32768 < bytes.len() {
+        return Err(u32::from(Refusal::BadVolume));
     }
-    hiding(volume, page)
+    let pages = Volume::open(bytes)?.geometry.pages;
+    match (1..=pages).find_map(|page| hiding(bytes, page)) {
+        Some(n) => Err(n),
+        None => Ok(pages),
+    }
 }
 
 // Prints the line of a page that is blank or repaired.
 fn print_page(rt: &impl Print, volume: &[u8], page: u32) -> io::Result<()> {
-    number(rt, page)?;
     match found(volume, page) {
-        Answer::Repaired(r) => {
-            say(rt, b" ")?;
-            print::repair(rt, r)?;
-        }
-        Answer::Refused(_) => say(rt, b" BLANK")?,
-        Answer::Nothing => {}
-        Answer::Done => {}
+        Answer::Repaired(r) => println!(rt; "{page} {r}"),
+        Answer::Refused(_) => println!(rt; "{page} BLANK"),
+        Answer::Nothing | Answer::Done => println!(rt; "{page}"),
     }
-    say(rt, b"\n")
 }
 
 fn print_pages(rt: &impl Print, volume: &[u8], pages: u32) -> io::Result<()> {
-    let mut page: u32 = 0;
-    while page < pages {
-        page += 1;
+    for page in 1..=pages {
         print_page(rt, volume, page)?;
     }
     Ok(())
@@ -64,18 +54,9 @@ fn print_pages(rt: &impl Print, volume: &[u8], pages: u32) -> io::Result<()> {
 fn main(rt: HostRuntime) -> io::Result<()> {
     let mut space = [0u8; 32769];
     let n = input::fill(&mut rt.stdin(), &mut space)?;
-    if 32768 < n {
-        return print::refusal(&rt, 1);
-    }
-    let volume = &space[..n];
-    if !volume::heading::valid(volume) {
-        return print::refusal(&rt, 1);
-    }
-    let pages = volume::heading::geometry(volume).pages;
-    let no = refusal(volume, pages);
-    if no == 0 {
-        print_pages(&rt, volume, pages)
-    } else {
-        print::refusal(&rt, no)
+    let bytes = &space[..n];
+    match judged(bytes) {
+        Ok(pages) => print_pages(&rt, bytes, pages),
+        Err(n) => println!(rt; "REFUSED {n}"),
     }
 }

@@ -1,95 +1,171 @@
-// The fields of a script's cell of 64 bytes. What they are for depends on its op.
+// The cells of a script, as `docs/SCRIPT.md` lays them out.
 use codec::field;
 use model::change::Change;
 use model::command::Command;
+use model::geometry::Heading;
 
-pub fn op(c: &[u8]) -> u8 {
-    field::byte(c, 0)
+// One of the driver's four buffers.
+#[derive(Clone, Copy, Debug, PartialEq, Eq)]
+pub enum Place {
+    Volume,
+    Memory,
+    Lent,
+    Second,
 }
 
-// The kind of a change, or the byte of a fill.
-pub fn kind(c: &[u8]) -> u8 {
-    field::byte(c, 1)
+// What a cell asks for.
+#[derive(Clone, Copy)]
+pub enum Op {
+    Make(Heading),
+    Restart,
+    Call(Command),
+    Inspect,
+    Sizes,
+    Poke(Place),
+    Fill(Place),
+    SetState,
+    Lose,
+    Second,
+    Forecast,
+    Length,
+    Archive,
+    Unarchive,
+    Pages,
+    Compare,
+    Rehearse,
+    Advise,
 }
 
-pub fn page(c: &[u8]) -> u32 {
-    field::u16_at(c, 2) as u32
+#[derive(Clone, Copy)]
+pub struct Cell {
+    bytes: [u8; 64],
 }
 
-// A frame or a backup slot.
-pub fn place(c: &[u8]) -> u32 {
-    field::u16_at(c, 4) as u32
-}
-
-// The length of a change, or the count of bytes that a poke writes.
-pub fn length(c: &[u8]) -> u8 {
-    field::byte(c, 8)
-}
-
-pub fn fill(c: &[u8]) -> u8 {
-    field::byte(c, 9)
-}
-
-pub fn first(c: &[u8]) -> u32 {
-    field::u32_at(c, 12)
-}
-
-pub fn second(c: &[u8]) -> u32 {
-    field::u32_at(c, 60)
-}
-
-// One of the four counts of a Make.
-pub fn count(c: &[u8], k: usize) -> u32 {
-    field::u32_at(c, 16 + 4 * (k % 4))
-}
-
-// The cell makes no call: it sets up what calls work on, or is skipped.
-pub fn sets_up(c: &[u8]) -> bool {
-    let n = op(c);
-    (n == 0) | ((11 <= n) & (n <= 16)) | (n == 27) | (n == 28) | (31 < n)
-}
-
-// The change, for kinds 1 to 3.
-fn change(c: &[u8]) -> Change {
-    let offset = field::u16_at(c, 6);
-    let length = length(c);
-    match kind(c) {
-        1 => Change::Format { fill: fill(c) },
-        2 => Change::Put { offset, length },
-        _ => Change::Slide { offset, length },
+impl Cell {
+    pub fn new(bytes: [u8; 64]) -> Cell {
+        Cell { bytes }
     }
-}
 
-// The call on the state, for ops 3 to 9 and 17 to 20.
-pub fn command(c: &[u8]) -> Command {
-    let page = page(c);
-    let place = place(c);
-    let change = change(c);
-    match op(c) {
-        3 => Command::Begin {
-            page,
-            frame: place,
-            fill: fill(c),
-        },
-        4 => Command::Load { page, frame: place },
-        5 => Command::Change { page, change },
-        6 => Command::Force,
-        7 => Command::Write { page },
-        8 => Command::Backup { page, slot: place },
-        17 => Command::Release { page },
-        18 => Command::StartCarry,
-        19 => Command::Restamp,
-        20 => Command::FinishCarry,
-        _ => Command::Note,
+    // None: the cell is skipped.
+    pub fn op(&self) -> Option<Op> {
+        Some(match self.bytes[0] {
+            1 => Op::Make(Heading::Second),
+            2 => Op::Restart,
+            10 => Op::Inspect,
+            11 => Op::Sizes,
+            12 => Op::Poke(Place::Volume),
+            13 => Op::Poke(Place::Memory),
+            14 => Op::SetState,
+            15 => Op::Lose,
+            16 => Op::Fill(self.filled()?),
+            21 => Op::Make(Heading::First),
+            22 => Op::Forecast,
+            23 => Op::Length,
+            24 => Op::Archive,
+            25 => Op::Unarchive,
+            26 => Op::Compare,
+            27 => Op::Second,
+            28 => Op::Poke(Place::Second),
+            29 => Op::Pages,
+            30 => Op::Rehearse,
+            31 => Op::Advise,
+            _ => Op::Call(self.command()?),
+        })
     }
-}
 
-pub fn payload(c: &[u8]) -> [u8; 44] {
-    let mut bytes = [0u8; 44];
-    let mut i: usize = 0;
-    while i < 44 {
-        bytes[i] = field::byte(c, 16 + i);
-        i += 1;
+    fn command(&self) -> Option<Command> {
+        let page = self.page();
+        let place = self.place();
+        let fill = self.fill();
+        Some(match self.bytes[0] {
+            3 => Command::Begin {
+                page,
+                frame: place,
+                fill,
+            },
+            4 => Command::Load { page, frame: place },
+            5 => Command::Change {
+                page,
+                change: self.change()?,
+            },
+            6 => Command::Force,
+            7 => Command::Write { page },
+            8 => Command::Backup { page, slot: place },
+            9 => Command::Note,
+            17 => Command::Release { page },
+            18 => Command::StartCarry,
+            19 => Command::Restamp,
+            20 => Command::FinishCarry,
+            _ => return None,
+        })
     }
-    bytes
+
+    fn change(&self) -> Option<Change> {
+        let offset = field::u16_at(&self.bytes, 6);
+        let length = self.length();
+        match self.kind() {
+            1 => Some(Change::Format { fill: self.fill() }),
+            2 => Some(Change::Put { offset, length }),
+            3 => Some(Change::Slide { offset, length }),
+            _ => None,
+        }
+    }
+
+    fn filled(&self) -> Option<Place> {
+        match self.first() {
+            0 => Some(Place::Volume),
+            1 => Some(Place::Memory),
+            2 => Some(Place::Lent),
+            3 => Some(Place::Second),
+            _ => None,
+        }
+    }
+
+    // The kind of a change or of a second, or the byte of a fill.
+    pub fn kind(&self) -> u8 {
+        self.bytes[1]
+    }
+
+    pub fn page(&self) -> u32 {
+        u32::from(field::u16_at(&self.bytes, 2))
+    }
+
+    // A frame or a backup slot.
+    pub fn place(&self) -> u32 {
+        u32::from(field::u16_at(&self.bytes, 4))
+    }
+
+    // The length of a change, or the count of bytes that a poke writes.
+    fn length(&self) -> u8 {
+        self.bytes[8]
+    }
+
+    fn fill(&self) -> u8 {
+        self.bytes[9]
+    }
+
+    pub fn first(&self) -> u32 {
+        field::u32_at(&self.bytes, 12)
+    }
+
+    pub fn second(&self) -> u32 {
+        field::u32_at(&self.bytes, 60)
+    }
+
+    // The four counts of a Make.
+    pub fn counts(&self) -> [u32; 4] {
+        [16, 20, 24, 28].map(|at| field::u32_at(&self.bytes, at))
+    }
+
+    pub fn payload(&self) -> [u8; 44] {
+        let mut payload = [0u8; 44];
+        payload.copy_from_slice(&self.bytes[16..60]);
+        payload
+    }
+
+    // The payload's bytes that a poke writes.
+    pub fn poked(&self) -> &[u8] {
+        let n = usize::from(self.length()).min(44);
+        &self.bytes[16..16 + n]
+    }
 }

@@ -2,69 +2,45 @@
 use model::item::Note;
 use model::state::{Entry, Frame, State};
 
+// The hash of no numbers.
+pub const START: u32 = 7;
+
 pub fn step(h: u32, x: u32) -> u32 {
-    ((h as u64 * 257 + x as u64 + 1) % 4294967291) as u32
+    ((u64::from(h) * 257 + u64::from(x) + 1) % 4294967291) as u32
 }
 
-fn byte(h: u32, x: u8) -> u32 {
-    step(h, x as u32)
+// The hash of some numbers more.
+pub fn steps<const N: usize>(h: u32, numbers: [u32; N]) -> u32 {
+    numbers.iter().fold(h, |h, x| step(h, *x))
 }
 
 pub fn bytes(s: &[u8]) -> u32 {
-    let mut h: u32 = 7;
-    let mut i: usize = 0;
-    while i < s.len() {
-        h = byte(h, s[i]);
-        i += 1;
-    }
-    h
+    s.iter().fold(START, |h, x| step(h, u32::from(*x)))
 }
 
 fn note(h: u32, p: Option<Note>) -> u32 {
     match p {
-        None => step(step(step(step(step(h, 0), 0), 0), 0), 0),
+        None => steps(h, [0; 5]),
         Some(n) => {
-            let head = step(step(h, n.kind as u32), n.number);
-            step(step(step(head, n.page as u32), n.slot as u32), n.lsn)
+            let head = steps(h, [u32::from(n.kind), n.number]);
+            steps(head, [u32::from(n.page), u32::from(n.slot), n.lsn])
         }
     }
 }
 
-fn frame(h: u32, f: Frame) -> u32 {
-    step(step(h, f.page as u32), f.dirty as u32)
+fn frame(h: u32, f: &Frame) -> u32 {
+    steps(h, [u32::from(f.page), u32::from(f.dirty)])
 }
 
-fn frames(h0: u32, table: [Frame; 16]) -> u32 {
-    let mut h = h0;
-    let mut i: usize = 0;
-    while i < 16 {
-        let f = table[i];
-        h = frame(h, f);
-        i += 1;
-    }
-    h
+fn entry(h: u32, e: &Entry) -> u32 {
+    steps(
+        h,
+        [e.last, e.durable, e.written, u32::from(e.slot), e.backup],
+    )
 }
 
-fn entry(h: u32, e: Entry) -> u32 {
-    let head = step(step(step(h, e.last), e.durable), e.written);
-    step(step(head, e.slot as u32), e.backup)
-}
-
-fn entries(h0: u32, index: [Entry; 64]) -> u32 {
-    let mut h = h0;
-    let mut i: usize = 0;
-    while i < 64 {
-        let e = index[i];
-        h = entry(h, e);
-        i += 1;
-    }
-    h
-}
-
-pub fn state(s: State) -> u32 {
-    let pending = s.note;
-    let table = s.frames;
-    let index = s.index;
-    let head = step(step(step(7, s.durable), s.pending), s.notes);
-    entries(frames(note(head, pending), table), index)
+pub fn state(s: &State) -> u32 {
+    let counts = steps(START, [s.durable, s.pending, s.notes]);
+    let frames = s.frames.iter().fold(note(counts, s.note), frame);
+    s.index.iter().fold(frames, entry)
 }

@@ -5,43 +5,39 @@ use model::state::State;
 
 // The largest number that may stand at a position.
 fn most(at: u32) -> u32 {
-    if at == 3 {
-        return 2;
-    }
-    if (8 <= at) & (at < 40) & (at % 2 == 1) {
-        return 1;
-    }
-    if (at == 5) | ((8 <= at) & (at < 40)) {
-        return 65535;
-    }
-    if (at == 6) | ((40 <= at) & (at % 5 == 3)) {
-        return 255;
-    }
-    4294967295
-}
-
-fn present(p: Option<Note>) -> bool {
-    match p {
-        None => false,
-        Some(_) => true,
+    match at {
+        3 => 2,
+        5 => 65535,
+        6 => 255,
+        8..=39 => if at % 2 == 1 { 1 } else { 65535 },
+        40.. => if at % 5 == 3 { 255 } else { u32::MAX },
+        _ => u32::MAX,
     }
 }
 
 // Whether the number at a position may become x. A note's fields are there only with a note.
-pub fn settable(s: State, at: u32, x: u32) -> bool {
-    let pending = s.note;
-    let field = (4 <= at) & (at <= 7);
-    (at < 360) & (x <= most(at)) & (!field | present(pending))
+fn settable(s: &State, at: u32, x: u32) -> bool {
+    let is_field = (4..=7).contains(&at);
+    (at < 360) & (x <= most(at)) & (!is_field | s.note.is_some())
 }
 
-fn set_count(s: State, at: u32, x: u32) -> State {
-    let mut t = s;
+fn set_count(s: &mut State, at: u32, x: u32) {
     match at {
-        0 => t.durable = x,
-        1 => t.pending = x,
-        _ => t.notes = x,
+        0 => s.durable = x,
+        1 => s.pending = x,
+        _ => s.notes = x,
     }
-    t
+}
+
+// A note of a kind, with no other number.
+fn of_kind(kind: u8) -> Note {
+    Note {
+        number: 0,
+        page: 0,
+        kind,
+        slot: 0,
+        lsn: 0,
+    }
 }
 
 // A pending note whose kind becomes x; kind 0 is none.
@@ -50,96 +46,66 @@ fn with_kind(p: Option<Note>, x: u32) -> Option<Note> {
         return None;
     }
     let kind = (x % 256) as u8;
-    match p {
-        None => Some(Note {
-            number: 0,
-            page: 0,
-            kind,
-            slot: 0,
-            lsn: 0,
-        }),
-        Some(n) => Some(Note {
-            number: n.number,
-            page: n.page,
-            kind,
-            slot: n.slot,
-            lsn: n.lsn,
-        }),
-    }
+    Some(p.map_or(of_kind(kind), |n| Note { kind, ..n }))
 }
 
 fn with_field(n: Note, at: u32, x: u32) -> Note {
-    let mut t = n;
     match at {
-        4 => t.number = x,
-        5 => t.page = (x % 65536) as u16,
-        6 => t.slot = (x % 256) as u8,
-        _ => t.lsn = x,
-    }
-    t
-}
-
-fn with_number(p: Option<Note>, at: u32, x: u32) -> Option<Note> {
-    if at == 3 {
-        return with_kind(p, x);
-    }
-    match p {
-        None => None,
-        Some(n) => Some(with_field(n, at, x)),
+        4 => Note { number: x, ..n },
+        5 => Note {
+            page: (x % 65536) as u16,
+            ..n
+        },
+        6 => Note {
+            slot: (x % 256) as u8,
+            ..n
+        },
+        _ => Note { lsn: x, ..n },
     }
 }
 
-fn set_note(s: State, at: u32, x: u32) -> State {
-    let pending = s.note;
-    let frames = s.frames;
-    let index = s.index;
-    State {
-        durable: s.durable,
-        pending: s.pending,
-        notes: s.notes,
-        note: with_number(pending, at, x),
-        frames,
-        index,
-    }
-}
-
-fn set_frame(s: State, k: u32, x: u32) -> State {
-    let mut t = s;
-    let row = (k / 2) as usize;
-    if row < 16 {
-        if k % 2 == 0 {
-            t.frames[row].page = (x % 65536) as u16;
-        } else {
-            t.frames[row].dirty = x != 0;
-        }
-    }
-    t
-}
-
-fn set_entry(s: State, k: u32, x: u32) -> State {
-    let mut t = s;
-    let row = (k / 5) as usize;
-    if row < 64 {
-        match k % 5 {
-            0 => t.index[row].last = x,
-            1 => t.index[row].durable = x,
-            2 => t.index[row].written = x,
-            3 => t.index[row].slot = (x % 256) as u8,
-            _ => t.index[row].backup = x,
-        }
-    }
-    t
-}
-
-// The state with x at a position.
-pub fn set(s: State, at: u32, x: u32) -> State {
-    if at < 3 {
-        set_count(s, at, x)
-    } else if at < 8 {
-        set_note(s, at, x)
-    } else if at < 40 {
-        set_frame(s, at - 8, x)
+fn set_note(s: &mut State, at: u32, x: u32) {
+    s.note = if at == 3 {
+        with_kind(s.note, x)
     } else {
-        set_entry(s, at - 40, x)
+        s.note.map(|n| with_field(n, at, x))
+    };
+}
+
+fn set_frame(s: &mut State, k: u32, x: u32) {
+    let Some(f) = s.frames.get_mut((k / 2) as usize) else {
+        return;
+    };
+    if k % 2 == 0 {
+        f.page = (x % 65536) as u16;
+    } else {
+        f.dirty = x != 0;
     }
+}
+
+fn set_entry(s: &mut State, k: u32, x: u32) {
+    let Some(e) = s.index.get_mut((k / 5) as usize) else {
+        return;
+    };
+    match k % 5 {
+        0 => e.last = x,
+        1 => e.durable = x,
+        2 => e.written = x,
+        3 => e.slot = (x % 256) as u8,
+        _ => e.backup = x,
+    }
+}
+
+// The state with x at a position, where x may stand there.
+pub fn set(mut s: State, at: u32, x: u32) -> Option<State> {
+    if !settable(&s, at, x) {
+        return None;
+    }
+    match at {
+        0..=2 => set_count(&mut s, at, x),
+        3..=7 => set_note(&mut s, at, x),
+        8..=39 => set_frame(&mut s, at - 8, x),
+        _ => set_entry(&mut s, at - 40, x),
+    }
+    Some(s)
 }

@@ -2,29 +2,23 @@
 // into the lent one, and the number of its pages.
 use model::answer::Answer;
 use reports::reading::Size;
-use script::session::{Session, Turn};
-use script::{cell, session};
-use std::io;
+use script::session::{Said, Session};
 
-fn length(rt: &impl Print, b: Session, volume: &[u8]) -> io::Result<Turn> {
-    match archive_write::length(volume) {
-        Size::Refused(n) => session::told(rt, b, Answer::Refused(n)),
-        Size::Bytes(n) => session::counted(rt, b, b"LENGTH ", n),
+pub fn length(s: &Session<'_>) -> Said {
+    match archive_write::length(s.volume.lent()) {
+        Size::Refused(n) => Said::Answer(Answer::Refused(n)),
+        Size::Bytes(n) => Said::Number("LENGTH", n),
     }
 }
 
-pub fn turn(
-    rt: &impl Print,
-    b: Session,
-    c: &[u8],
-    volume: &[u8],
-    lent: &mut [u8],
-    second: &[u8],
-) -> io::Result<Turn> {
-    match cell::op(c) {
-        23 => length(rt, b, volume),
-        24 => session::told(rt, b, archive_write::write(volume, lent)),
-        25 => session::told(rt, b, archive_read::read(second, lent)),
-        _ => session::counted(rt, b, b"PAGES ", archive_read::pages(second)),
-    }
+pub fn write(s: &mut Session<'_>) -> Said {
+    Said::Answer(archive_write::write(s.volume.lent(), s.lent.lent_mut()))
+}
+
+pub fn read(s: &mut Session<'_>) -> Said {
+    Said::Answer(archive_read::read(s.second.lent(), s.lent.lent_mut()))
+}
+
+pub fn pages(s: &Session<'_>) -> Said {
+    Said::Number("PAGES", archive_read::pages(s.second.lent()))
 }

@@ -3,4 +3,4 @@ use Rattle.checklist_steps.proofs.Outcomes.{row_is}
 use Rattle.checklist_steps.proofs.text.row.Goals as goal
 
 pub returns : goal.returns
-returns c = row_is _ _ _ c.least-n.ensures.0 c.put.ensures
+returns c = row_is _ _ _ c.min-n.ensures c.put.ensures
