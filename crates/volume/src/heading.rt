@@ -4,7 +4,7 @@ ghost use Rattle.model.specs.Refused.{refusal_number};
 ghost use Rattle.model.specs.Bytes.{starts_with};
 ghost use Rattle.model.specs.Geometry.{magic, known_magic, length_for, geometry_of, valid_counts, valid_volume};
 
-use codec::{field, part};
+use codec::field;
 use model::answer::Refusal;
 use model::geometry::{Geometry, Heading};
 
@@ -30,7 +30,7 @@ pub fn magic_bytes(h: Heading) -> [u8; 4]
 pub fn headed(v: &[u8], magic: [u8; 4]) -> bool
     ensures { result ≡ starts_with magic v.now }
 {
-    part::starts(v, &magic)
+    v.starts_with(&magic)
 }
 
 // The volume starts with one of the three headings.

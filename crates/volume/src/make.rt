@@ -17,7 +17,7 @@ fn write(v: &mut [u8], h: Heading, p: u32, b: u32, l: u32, n: u32)
     let slots = 8 + 256 * (p as usize);
     let records = 12 + 256 * (p as usize) + 256 * (b as usize);
     let notes = 16 + 256 * (p as usize) + 256 * (b as usize) + 64 * (l as usize);
-    part::fill(v, 0);
+    v.fill(0);
     field::put_u32(v, notes, n);
     field::put_u32(v, records, l);
     field::put_u32(v, slots, b);

@@ -1,4 +1,5 @@
 -- `volume::make::write` meets its contract. Zeros, then each heading from the last one down, so that each is written over zeros alone.
+use borrow.Author.Rules.{rules}
 use mathlib.Core.Path.{ap, ◌∙◌}
 use Rattle.model.specs.Bytes.{splice}
 use Rattle.volume.proofs.Fresh.{fresh}
@@ -7,7 +8,7 @@ use Rattle.volume.proofs.make.write.Goals as goal
 pub returns : goal.returns
 returns c =
     fresh _ _ _ _ _ _ _ _ _ _ _ _
-    c.requires c.fill.ensures
+    c.requires (search (rules, c.fill.ensures.after))
     c.put_u32.ensures c.put_u32-2.ensures
     c.put_u32-3.ensures
     c.put_u32-4.ensures
