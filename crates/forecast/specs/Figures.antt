@@ -1,6 +1,5 @@
 -- The figures as the code makes them: from a walk's two numbers, and page by page from an index at hand.
-use Rattle.std.specs.Prelude.{ℕ, suc, ◌≤◌, ◌≡◌, true, cond, List, ltb}
-use Rattle.model.specs.Geometry.{geometry_of, valid_volume}
+use Rattle.std.specs.Prelude.{ℕ, suc, ◌≤◌, cond, List, ltb}
 use Rattle.model.specs.Index.{entry_of}
 use Rattle.model.specs.Repair.{view_of, walk_of, is_below}
 use Rattle.reports.specs.Forecast.{counted, below, figure_of}
@@ -9,11 +8,9 @@ use Rattle.reports.specs.declared.reading.Figure.{Figure}
 use Rattle.repair.specs.Walked.{Ready, Whole}
 use Rattle.repair.specs.declared.walk.Walked.{Walked}
 
--- a valid volume with its geometry, and an index by which each page's walk may be made untested
+-- an index by which each page's walk may be made untested
 pub record Indexed (v : List ℕ) (g : Geometry) (first : ℕ) (index : List Entry) : Type 0 where
-  pub valid : valid_volume v ≡ true
-  pub geometry : g ≡ geometry_of v
-  pub ready : (p : ℕ) → 1 ≤ p → p ≤ g.pages → Ready v g first (entry_of index p) p
+  pub ready : (p : ℕ) → 1 ≤ p → p ≤ g.pages → Ready g first (entry_of index p) p
   pub whole : (p : ℕ) → 1 ≤ p → Whole g p (view_of g v first (entry_of index p) p)
 
 -- what a walk comes to

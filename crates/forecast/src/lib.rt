@@ -8,14 +8,14 @@ ghost use Rattle.forecast.specs.Figures.{Indexed, figure_as, figure_in};
 
 pub mod face;
 
-use model::geometry::Geometry;
+use model::answer::Refusal;
 use model::state::Entry;
-use repair::walk;
 use repair::walk::Walked;
+use repair::{Target, walk};
 use reports::reading::{Figure, Forecast};
-use volume::heading;
+use volume::Volume;
 
-// A row past the last page, and of a refused call.
+// A row past the last page, and of a refused call: document 02 asks for zeros, so a figure is no Result.
 const ZERO: Figure = Figure {
     refusal: 0,
     count: 0,
@@ -25,10 +25,9 @@ const ZERO: Figure = Figure {
 fn figure(w: Walked) -> Figure
     ensures { result ≡ figure_as w }
 {
-    let stop = w.stop;
-    if walk::below(stop) {
+    if walk::below(w.stop) {
         return Figure {
-            refusal: 23,
+            refusal: u32::from(Refusal::PageLost),
             count: 0,
         };
     }
@@ -39,19 +38,20 @@ fn figure(w: Walked) -> Figure
 }
 
 // The figures of all pages: each page's walk, its own image and its backup judged.
-fn rows(volume: &[u8], g: Geometry, first: u64, index: [Entry; 64]) -> [Figure; 64]
-    requires { Indexed volume.now g first index }
-    ensures { result ≡ tabulate 64 (λ i. figure_in g volume.now first index i) }
+fn rows(v: &Volume<'_>, first: u64, index: [Entry; 64]) -> [Figure; 64]
+    requires { Indexed v.now.bytes.now v.now.geometry first index }
+    ensures { result ≡ tabulate 64 (λ i. figure_in v.now.geometry v.now.bytes.now first index i) }
 {
     let mut pages = [ZERO; 64];
-    let count = g.pages;
-    let mut i: u32 = 0;
-    while i < count {
-        let k = i as usize;
-        let e = index[k];
-        let walked = walk::follow(volume, g, first, e, i + 1);
-        pages[k] = figure(walked);
-        i += 1;
+    let count = v.geometry.pages as usize;
+    for i in 0..count {
+        let t = Target {
+            volume: *v,
+            first,
+            entry: index[i],
+            page: i as u32 + 1,
+        };
+        pages[i] = figure(walk::follow(&t));
     }
     pages
 }
@@ -62,18 +62,17 @@ fn rows(volume: &[u8], g: Geometry, first: u64, index: [Entry; 64]) -> [Figure; 
 pub fn forecast(volume: &[u8]) -> Forecast
     ensures { result ≡ forecasts.forecast_of volume.now }
 {
-    let scanned = index::scan(volume);
-    let no = scanned.refusal;
-    if no != 0 {
-        return Forecast {
-            refusal: no,
+    match index::scan(volume) {
+        Err(refusal) => Forecast {
+            refusal: u32::from(refusal),
             pages: [ZERO; 64],
-        };
-    }
-    let g = heading::geometry(volume);
-    let index = scanned.index;
-    Forecast {
-        refusal: 0,
-        pages: rows(volume, g, scanned.first, index),
+        },
+        Ok(scanned) => {
+            let v = Volume::of(volume);
+            Forecast {
+                refusal: 0,
+                pages: rows(&v, scanned.first, scanned.index),
+            }
+        }
     }
 }

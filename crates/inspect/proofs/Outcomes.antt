@@ -1,157 +1,137 @@
 -- What the definition of Inspect says in each of its cases, and what the code needs to know once it is not refused.
-use mathlib.Core.Path.{◌≡◌, refl, sym, ap, ◌∙◌, subst}
+use mathlib.Core.Path.{◌≡◌, refl, sym, ap, ◌∙◌}
 use mathlib.Core.Bool.{Bool, true, false, cond, not}
-use mathlib.Core.List.{List, [], ◌∷◌}
+use mathlib.Core.List.{List}
 use Prim.Native.Nat.{ℕ}
-use lib.Dec.{eqb}
+use native.Mathlib.Omega.{arith}
 use lib.ListN.{length}
-use borrow.Author.Tests.{eq-eqb, ne_eqb, eqb-true, eqb-false, not-false}
-use Rattle.laws.proofs.Tables.{Numbered, none-at, within-bounds, when_true, when_false}
-use Rattle.repair.proofs.Rows.{first_then}
+use borrow.Author.Tests.{eq-eqb, ne_eqb, eqb-false}
+use Rattle.laws.proofs.Tables.{by_cases, within-bounds}
+use Rattle.laws.proofs.Places.{valid-facts}
 use Rattle.repair.proofs.Scanned.{scanned-ready}
 use Rattle.repair.proofs.Unbroken.{scanned-whole}
-use Rattle.model.specs.Tables.{Row, first_of, within}
+use Rattle.model.specs.Tables.{first_of, within}
 use Rattle.model.specs.Checksum.{seal_image}
-use Rattle.model.specs.Geometry.{geometry_of, valid_volume}
+use Rattle.model.specs.Geometry.{known_magic, geometry_of, valid_volume}
 use Rattle.model.specs.Index.{entry_of}
 use Rattle.model.specs.Scan.{valid_log, valid_notes, index_of}
 use Rattle.model.specs.Repair.{view_of, walk_of, is_below, repair_of, rebuilt}
-use Rattle.model.specs.Refusals.{inspect_rows, found_below}
+use Rattle.model.specs.Refusals.{inspect_rows}
 use Rattle.model.specs.Restart.{inspect_of}
-use Rattle.model.specs.declared.{geometry.Geometry.Geometry, answer.Repair.Repair}
+use Rattle.model.specs.declared.{geometry.Geometry.Geometry, answer.Repair.Repair, answer.Answer.Answer}
 use Rattle.model.specs.declared.answer.Answer.TheVariants.{Refused, Repaired}
 use Rattle.index.specs.Scanned.{scan_rows, scan_refusal, found_of}
 use Rattle.index.specs.declared.Found.{Found}
-use Rattle.index.proofs.Whole.{clean}
+use Rattle.volume.specs.declared.Volume.{Volume}
 use Rattle.repair.specs.Walked.{Ready, Whole, walked_of}
 use Rattle.repair.specs.declared.walk.Walked.{Walked}
 
--- the scan's number and the call's own tests, in the table's order
-tests : (a b c t u : Bool) (d d' : ℕ) → (a ≡ true → b ≡ true → c ≡ true → d ≡ d')
-    → (let r = cond (not a) 1 (cond (not b) 17 (cond (not c) 18 0)) in
-    cond (eqb r 1) 1 (cond t 2 (cond u 3 (cond (not (eqb r 0)) r (cond (eqb d 0) 7 0)))))
-    ≡ cond (not a) 1 (cond t 2 (cond u 3 (cond (not b) 17 (cond (not c) 18 (cond (eqb d' 0) 7 0)))))
-tests false b c t u d d' h = refl
-tests true false c t u d d' h = refl
-tests true true false t u d d' h = refl
-tests true true true t u d d' h = rw (h refl refl refl)
-
--- the code's tests, innermost first
-pub chained : (t₁ t₂ t₃ t₄ t₅ : Bool) (n a b c d e : ℕ) → a ≡ cond t₅ 7 0 → b ≡ cond t₄ n a → c ≡ cond t₃ 3 b
-    → d ≡ cond t₂ 2 c → e ≡ cond t₁ 1 d
-    → e ≡ cond t₁ 1 (cond t₂ 2 (cond t₃ 3 (cond t₄ n (cond t₅ 7 0))))
-chained t₁ t₂ t₃ t₄ t₅ n a b c d e ea eb ec ed ee = rw (ee, ed, ec, eb, ea)
-
 module _ (v : List ℕ) (page : ℕ) (b : List ℕ) where
-  -- the rows before the walk
-  abbrev early_rows : List Row
-  early_rows =
-      let g = geometry_of v in
-      (not (valid_volume v), 1) ∷ (not (eqb (length b) 256), 2) ∷ (not (within g.pages page), 3) ∷ (not (valid_log g v), 17)
-      ∷ (not (valid_notes g v), 18) ∷ (eqb (entry_of (index_of g v) page).durable 0, 7) ∷ []
+  -- what the call is to answer and to leave
+  abbrev Left : Answer → List ℕ → Type 0
+  Left a x = (a ≡ (inspect_of v page b).answer) × (x ≡ (inspect_of v page b).buffer)
 
-  -- 0, or the refusal before the walk
-  pub early : ℕ
-  early = first_of early_rows
-
-  early-numbered : Numbered early_rows
-  early-numbered = (
-    eqb-false 1 0 refl,
-    (eqb-false 2 0 refl, (eqb-false 3 0 refl, (eqb-false 17 0 refl, (eqb-false 18 0 refl, (eqb-false 7 0 refl, tt))))),
-  )
-
-  whole : first_of (inspect_rows v page (length b)) ≡ cond (eqb early 0) (cond (found_below (geometry_of v) v page) 23 0) early
-  unfolding inspect_rows early
-  whole = first_then early_rows ((found_below (geometry_of v) v page, 23) ∷ []) early-numbered
-
-  pub refusal_is : (found : Found) (g : Geometry) (n : ℕ) → found.refusal ≡ scan_refusal v → g ≡ geometry_of v
-      → (found.refusal ≡ 0 → found ≡ found_of v page)
-      → n ≡ cond (eqb found.refusal 1) 1 (cond (not (eqb (length b) 256)) 2 (cond (not (within g.pages page)) 3
-      (cond (not (eqb found.refusal 0)) found.refusal (cond (eqb found.entry.durable 0) 7 0))))
-      → n ≡ early
-  unfolding early scan_rows
-  refusal_is found g n es eg ee en =
-      en ∙ rw (es, eg)
-      (tests (valid_volume v) (valid_log (geometry_of v) v) (valid_notes (geometry_of v) v) (not (eqb (length b) 256))
-      (not (within (geometry_of v).pages page)) found.entry.durable _
-      (λ x y z. ap (λ (q : Found). q.entry.durable) (ee (es ∙ clean v x y z))))
-
-  refuses : (n : ℕ) → n ≡ first_of (inspect_rows v page (length b)) → (n ≡ 0 → ⊥)
-      → (Refused n ≡ (inspect_of v page b).answer) × (b ≡ (inspect_of v page b).buffer)
+  refuses : (n : ℕ) → n ≡ first_of (inspect_rows v page (length b)) → (n ≡ 0 → ⊥) → Left (Refused n) b
   unfolding inspect_of
   refuses n e ne = rw (ne_eqb (first_of (inspect_rows v page (length b))) 0 (λ z. ne (e ∙ z))) (ap Refused e, refl)
 
-  -- no row stands before that of the volume
-  pub invalid : valid_volume v ≡ false → (Refused 1 ≡ (inspect_of v page b).answer) × (b ≡ (inspect_of v page b).buffer)
+  pub invalid : (n : ℕ) → n ≡ cond (not (valid_volume v)) 1 0 → (n ≡ 0 → ⊥) → Left (Refused n) b
   unfolding inspect_rows
-  invalid h = refuses 1 (rw h) (eqb-false 1 0 refl)
+  invalid n e ne =
+      by_cases (valid_volume v) (λ t. absurd (ne (rw t at e))) (λ t. refuses n (rw t (rw t at e)) ne)
 
-  pub refused : (n : ℕ) → n ≡ early → (n ≡ 0 → ⊥) → (Refused n ≡ (inspect_of v page b).answer) × (b ≡ (inspect_of v page b).buffer)
-  refused n e ne = refuses n (e ∙ sym (whole ∙ when_false _ _ (ne_eqb _ _ (λ z. ne (e ∙ z))))) ne
+  module _ (u : Volume) (u-is : u.bytes.now ≡ v) where
+    valid : valid_volume v ≡ true
+    valid = rw u-is at u.valid
 
-  -- what is known where there is no refusal before the walk
-  pub record Open (g : Geometry) (found : Found) : Type 0 where
-    pub none : early ≡ 0
-    pub geometry : g ≡ geometry_of v
-    pub ready : Ready v g found.first found.entry page
-    pub whole : Whole g page (view_of g v found.first found.entry page)
-    pub size : length b ≡ 256
-    pub found-is : found ≡ found_of v page
+    geometry-is : u.geometry ≡ geometry_of v
+    geometry-is = u.read ∙ ap geometry_of u-is
 
-  pub opened : (found : Found) (g : Geometry) → found.refusal ≡ scan_refusal v → g ≡ geometry_of v
-      → (found.refusal ≡ 0 → found ≡ found_of v page) → early ≡ 0 → Open g found
-  unfolding early
-  opened found g es eg ee h =
-      let none = none-at early_rows early-numbered h in
-      let valid = not-false (valid_volume v) (none 0) in
-      let log = not-false (valid_log (geometry_of v) v) (none 3) in
-      let notes = not-false (valid_notes (geometry_of v) v) (none 4) in
-      let w = within-bounds (geometry_of v).pages page (not-false _ (none 2)) in
-      let i : found ≡ found_of v page = ee (es ∙ clean v valid log notes) in
-      let r : Ready v (geometry_of v) (found_of v page).first (found_of v page).entry page =
-      scanned-ready v (geometry_of v) valid refl log page notes w.0 w.1 in
-      let u : Whole (geometry_of v) page (view_of (geometry_of v) v (found_of v page).first (found_of v page).entry page) =
-      scanned-whole v (geometry_of v) page valid refl log notes w.0 in
-      record {
-        none = h;
-        geometry = eg;
-        ready = subst (λ (k : Geometry). Ready v k found.first found.entry page) (sym eg)
-            (subst (λ (q : Found). Ready v (geometry_of v) q.first q.entry page) (sym i) r);
-        whole = subst (λ (k : Geometry). Whole k page (view_of k v found.first found.entry page)) (sym eg)
-            (subst (λ (q : Found). Whole (geometry_of v) page (view_of (geometry_of v) v q.first q.entry page)) (sym i) u);
-        size = eqb-true _ _ (not-false _ (none 1));
-        found-is = i;
-      }
+    pub known : known_magic v ≡ true
+    known = (valid-facts v valid).heading
 
-  module _ (g : Geometry) (found : Found) (o : Open g found) where
-    -- what is made of the geometry and the entry at hand is made of the volume's
-    same : {A : Type 0} (f : Geometry → Found → A) → f g found ≡ f (geometry_of v) (found_of v page)
-    same f = ap (λ (k : Geometry). f k found) o.geometry ∙ ap (f (geometry_of v)) o.found-is
+    pub wrong-size : (length b ≡ 256 → ⊥) → Left (Refused 2) b
+    unfolding inspect_rows
+    wrong-size ne = refuses 2 (rw (valid, ne_eqb (length b) 256 ne)) (eqb-false 2 0 refl)
 
-    decides : (c : Walked) (t : Bool) → c ≡ walked_of g page (view_of g v found.first found.entry page) → t ≡ is_below c.stop
-        → first_of (inspect_rows v page (length b)) ≡ cond t 23 0
-    unfolding walked_of
-    decides c t ec et =
-        let q : t ≡ found_below (geometry_of v) v page =
-        et ∙ ap (λ (x : Walked). is_below x.stop) ec
-        ∙ same (λ k x. is_below (walk_of k page (view_of k v x.first x.entry page)).stop) in
-        whole ∙ when_true _ _ (eq-eqb _ _ o.none) ∙ rw q
+    module _ (size : length b ≡ 256) where
+      pub no-page : within u.geometry.pages page ≡ false → Left (Refused 3) b
+      unfolding inspect_rows
+      no-page t =
+          let z : within (geometry_of v).pages page ≡ false = rw geometry-is at t in
+          refuses 3 (rw (valid, eq-eqb (length b) 256 size, z)) (eqb-false 3 0 refl)
 
-    -- the walk goes below the run
-    pub below : (c : Walked) (t : Bool) → c ≡ walked_of g page (view_of g v found.first found.entry page)
-        → t ≡ is_below c.stop → t ≡ true
-        → (Refused 23 ≡ (inspect_of v page b).answer) × (b ≡ (inspect_of v page b).buffer)
-    below c t ec et h = refuses 23 (sym (decides c t ec et ∙ rw h)) (eqb-false 23 0 refl)
+      module _ (within-is : within u.geometry.pages page ≡ true) where
+        inside : within (geometry_of v).pages page ≡ true
+        inside = rw geometry-is at within-is
 
-    -- it does not
-    pub done : (c : Walked) (t : Bool) (r : Repair) (x y : List ℕ) → c ≡ walked_of g page (view_of g v found.first found.entry page)
-        → t ≡ is_below c.stop → t ≡ false
-        → r ≡ repair_of g page (view_of g v found.first found.entry page)
-        → x ≡ rebuilt g page (view_of g v found.first found.entry page) → y ≡ seal_image g x
-        → (Repaired r ≡ (inspect_of v page b).answer) × (y ≡ (inspect_of v page b).buffer)
-    unfolding inspect_of
-    done c t r x y ec et h er ex ey =
-        rw (eq-eqb (first_of (inspect_rows v page (length b))) 0 (decides c t ec et ∙ rw h)) (
-          ap Repaired (er ∙ same (λ k q. repair_of k page (view_of k v q.first q.entry page))),
-          ey ∙ ap (seal_image g) ex ∙ same (λ k q. seal_image k (rebuilt k page (view_of k v q.first q.entry page))),
-        )
+        pub scan-refused : (n : ℕ) → n ≡ scan_refusal v → (n ≡ 0 → ⊥) → Left (Refused n) b
+        unfolding inspect_rows scan_rows
+        scan-refused n e ne =
+            let k = rw valid at e in
+            refuses n (rw (valid, eq-eqb (length b) 256 size, inside)
+            (by_cases (valid_log (geometry_of v) v)
+            (λ l. rw l (by_cases (valid_notes (geometry_of v) v) (λ w. absurd (ne (rw (l, w) at k))) (λ w. rw w (rw (l, w) at k))))
+            (λ l. rw l (rw l at k)))) ne
+
+        module _ (found : Found) (clean : 0 ≡ scan_refusal v) (found-is : found ≡ found_of v page) where
+          log : valid_log (geometry_of v) v ≡ true
+          unfolding scan_rows
+          log =
+              by_cases (valid_log (geometry_of v) v) (λ t. t)
+              (λ t. let z : ◌≡◌ {A = ℕ} 0 17 = rw (valid, t) at clean in absurd (omega arith))
+
+          notes : valid_notes (geometry_of v) v ≡ true
+          unfolding scan_rows
+          notes =
+              by_cases (valid_notes (geometry_of v) v) (λ t. t)
+              (λ t. let z : ◌≡◌ {A = ℕ} 0 18 = rw (valid, log, t) at clean in absurd (omega arith))
+
+          pub ready : Ready u.geometry found.first found.entry page
+          ready =
+              let w = within-bounds (geometry_of v).pages page inside in
+              rw (geometry-is, found-is) (scanned-ready v (geometry_of v) valid refl log page notes w.0 w.1)
+
+          pub whole : Whole u.geometry page (view_of u.geometry u.bytes.now found.first found.entry page)
+          whole =
+              let w = within-bounds (geometry_of v).pages page inside in
+              rw (geometry-is, u-is, found-is) (scanned-whole v (geometry_of v) page valid refl log notes w.0)
+
+          -- what is made of the volume and the entry at hand is made of the bytes
+          same : {A : Type 0} (h : Geometry → List ℕ → Found → A) → h u.geometry u.bytes.now found ≡ h (geometry_of v) v (found_of v page)
+          same h =
+              ap (λ (g : Geometry). h g u.bytes.now found) geometry-is ∙ ap (λ (x : List ℕ). h (geometry_of v) x found) u-is
+              ∙ ap (h (geometry_of v) v) found-is
+
+          pub blank : found.entry.durable ≡ 0 → Left (Refused 7) b
+          unfolding inspect_rows
+          blank z =
+              let d : (entry_of (index_of (geometry_of v) v) page).durable ≡ 0 = sym (same (λ g x q. q.entry.durable)) ∙ z in
+              refuses 7 (rw (valid, eq-eqb (length b) 256 size, inside, log, notes, eq-eqb _ 0 d)) (eqb-false 7 0 refl)
+
+          module _ (some : found.entry.durable ≡ 0 → ⊥) (c : Walked)
+              (c-is : c ≡ walked_of u.geometry page (view_of u.geometry u.bytes.now found.first found.entry page)) (t : Bool)
+              (t-is : t ≡ is_below c.stop) where
+            decides : first_of (inspect_rows v page (length b)) ≡ cond t 23 0
+            unfolding inspect_rows walked_of
+            decides =
+                let d : (entry_of (index_of (geometry_of v) v) page).durable ≡ 0 → ⊥ = λ z. some (same (λ g x q. q.entry.durable) ∙ z) in
+                let q = t-is ∙ ap (λ (x : Walked). is_below x.stop) c-is
+                ∙ same (λ g x q. is_below (walk_of g page (view_of g x q.first q.entry page)).stop) in
+                rw (valid, eq-eqb (length b) 256 size, inside, log, notes, ne_eqb _ 0 d, q)
+
+            -- the walk goes below the run
+            pub below : t ≡ true → Left (Refused 23) b
+            below h = refuses 23 (sym (decides ∙ rw h)) (eqb-false 23 0 refl)
+
+            -- it does not
+            pub done : t ≡ false → (r : Repair) (x y : List ℕ)
+                → r ≡ repair_of u.geometry page (view_of u.geometry u.bytes.now found.first found.entry page)
+                → x ≡ rebuilt u.geometry page (view_of u.geometry u.bytes.now found.first found.entry page) → y ≡ seal_image u.geometry x
+                → Left (Repaired r) y
+            unfolding inspect_of
+            done h r x y er ex ey =
+                rw (eq-eqb (first_of (inspect_rows v page (length b))) 0 (decides ∙ rw h)) (
+                  ap Repaired (er ∙ same (λ g z q. repair_of g page (view_of g z q.first q.entry page))),
+                  ey ∙ ap (seal_image u.geometry) ex ∙ same (λ g z q. seal_image g (rebuilt g page (view_of g z q.first q.entry page))),
+                )

@@ -1,30 +1,48 @@
 // Inspect: a page rebuilt from the durable records of a volume, into a lent buffer.
 #![tactic(auto)]
 
-ghost use Rattle.std.specs.Prelude.{◌≡◌, cond, not, eqb};
-ghost use Rattle.model.specs.Tables.{within};
+ghost use Rattle.std.specs.Prelude.{◌≡◌, MatchResult};
+ghost use Rattle.model.specs.Refused.{refusal_number};
 ghost use Rattle.model.specs.Outcome.{refusal_of};
 ghost use Rattle.model.specs.Restart.{inspect_of};
+ghost use Rattle.model.specs.declared.answer.Answer.TheVariants.{Refused, Repaired};
 
 use item::image;
-use model::answer::Answer;
-use repair::walk::Target;
-use repair::{answer, rebuild, walk};
-use volume::{heading, rows};
+use model::answer::{Answer, Refusal, Repair};
+use repair::{Target, answer, rebuild, walk};
+use volume::Volume;
 
-// The refusal before the walk: rows 1, 2, 3, then the scan's 17 or 18, then 7.
-fn refusal(scan: u32, pages: u32, page: u32, size: usize, durable: u32) -> u32
-    ensures { result
-        ≡ cond (eqb scan 1) 1 (cond (not (eqb size 256)) 2 (cond (not (within pages page)) 3
-        (cond (not (eqb scan 0)) scan (cond (eqb durable 0) 7 0)))) }
+// Rebuilds the page, tested in the order of the table's row: 1, 2, 3, then the scan's 17 or 18, then 7 and 23.
+fn restore(volume: &[u8], page: u32, buffer: &mut [u8]) -> Result<Repair, Refusal>
+    ensures { MatchResult result
+        (λ r. Repaired r ≡ (inspect_of volume.now page buffer.old).answer)
+        (λ n. Refused (refusal_number n) ≡ (inspect_of volume.now page buffer.old).answer)
+        × (buffer.new ≡ (inspect_of volume.now page buffer.old).buffer) }
 {
-    let inside = (1 <= page) & (page <= pages);
-    let rest = rows::first(!(scan == 0), scan, rows::first(durable == 0, 7, 0));
-    rows::first(
-        scan == 1,
-        1,
-        rows::first(!(size == 256), 2, rows::first(!inside, 3, rest)),
-    )
+    let v = Volume::open(volume)?;
+    if buffer.len() != 256 {
+        return Err(Refusal::BadBuffer);
+    }
+    if !((1 <= page) & (page <= v.geometry.pages)) {
+        return Err(Refusal::NoSuchPage);
+    }
+    let found = index::seek(volume, v.geometry, page)?;
+    if found.entry.durable == 0 {
+        return Err(Refusal::BlankPage);
+    }
+    let t = Target {
+        volume: v,
+        first: found.first,
+        entry: found.entry,
+        page,
+    };
+    let walked = walk::follow(&t);
+    if walk::below(walked.stop) {
+        return Err(Refusal::PageLost);
+    }
+    rebuild::rebuild(&t, walked, buffer);
+    image::seal(buffer, v.geometry);
+    Ok(answer::answer(walked))
 }
 
 // Inspects a page. The heading is compared before a count is read.
@@ -34,31 +52,10 @@ pub fn inspect(volume: &[u8], page: u32, buffer: &mut [u8]) -> Answer
     ensures answer { result ≡ (inspect_of volume.now page buffer.old).answer }
     ensures buffer { buffer.new ≡ (inspect_of volume.now page buffer.old).buffer }
 {
-    if !heading::known(volume) {
-        return Answer::Refused(1);
+    match restore(volume, page, buffer) {
+        Ok(repair) => Answer::Repaired(repair),
+        Err(refusal) => Answer::from(refusal),
     }
-    let g = heading::geometry(volume);
-    let found = index::seek(volume, g, page);
-    let e = found.entry;
-    let no = refusal(found.refusal, g.pages, page, buffer.len(), e.durable);
-    if no != 0 {
-        return Answer::Refused(no);
-    }
-    let first = found.first;
-    let walked = walk::follow(volume, g, first, e, page);
-    let stop = walked.stop;
-    if walk::below(stop) {
-        return Answer::Refused(23);
-    }
-    let t = Target {
-        g,
-        first,
-        entry: e,
-        page,
-    };
-    rebuild::rebuild(volume, t, walked, buffer);
-    image::seal(buffer, g);
-    Answer::Repaired(answer::answer(walked))
 }
 
 // The number that stands for an answer.
@@ -67,8 +64,6 @@ pub fn number(a: Answer) -> u32
 {
     match a {
         Answer::Refused(n) => n,
-        Answer::Nothing => 0,
-        Answer::Done => 0,
-        Answer::Repaired(_) => 0,
+        _ => 0,
     }
 }

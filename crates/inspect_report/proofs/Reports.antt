@@ -1,46 +1,22 @@
 -- A report of three numbers, and the outcome of an inspection that fills one.
 use Prim.Native.Nat.{ℕ}
-use mathlib.Core.Path.{◌≡◌, refl, sym, ap, ◌∙◌}
-use mathlib.Core.Bool.{Bool, true, false, cond, not}
-use mathlib.Core.List.{List, [], ◌∷◌}
-use native.Mathlib.Omega.{arith}
+use mathlib.Core.Path.{◌≡◌, refl, ap, ◌∙◌}
+use mathlib.Core.Bool.{true, false, cond, not}
+use mathlib.Core.List.{List}
 use lib.Dec.{eqb}
-use lib.ListN.{length, set, get_or}
+use lib.ListN.{length}
 use borrow.Author.Tests.{eq-eqb}
 use Rattle.laws.proofs.Tables.{by_cases}
-use Rattle.volume.proofs.Readings.{unknown-read}
 use Rattle.model.specs.Tables.{first_of}
-use Rattle.model.specs.Geometry.{known_magic, valid_volume}
+use Rattle.model.specs.Geometry.{valid_volume}
 use Rattle.model.specs.Refusals.{inspect_rows}
 use Rattle.model.specs.Outcome.{refusal_of}
 use Rattle.model.specs.Restart.{inspect_of}
 use Rattle.reports.specs.Examine.{reported, examine_rows, examine_of}
-use Rattle.model.specs.declared.answer.Answer.{Answer}
-use Rattle.model.specs.declared.answer.Answer.TheVariants.{Refused, Nothing, Done, Repaired}
-use Rattle.inspect_report.specs.Report.{class_after, start_after, count_after}
-
-three : (a : Answer) (x y z : ℕ) → class_after a x ∷ start_after a y ∷ count_after a z ∷ [] ≡ reported a (x ∷ y ∷ z ∷ [])
-three (Refused n) x y z = refl
-three Nothing x y z = refl
-three Done x y z = refl
-three (Repaired r) x y z = refl
-
-pub told : (a : Answer) (xs : List ℕ) → length xs ≡ 3 → (c s n : ℕ)
-    → c ≡ class_after a (get_or xs 0 0) → s ≡ start_after a (get_or xs 1 0) → n ≡ count_after a (get_or xs 2 0)
-    → set (set (set xs 0 c) 1 s) 2 n ≡ reported a xs
-told a [] e c s n p q r = absurd (omega arith)
-told a (x ∷ []) e c s n p q r = absurd (omega arith)
-told a (x ∷ (y ∷ [])) e c s n p q r = absurd (omega arith)
-told a (x ∷ (y ∷ (z ∷ []))) e c s n p q r = rw (p, q, r) (three a x y z)
-told a (x ∷ (y ∷ (z ∷ (w ∷ ws)))) e c s n p q r = absurd (omega arith)
+use Rattle.model.specs.declared.{answer.Answer.Answer}
+use Rattle.model.specs.declared.answer.Answer.TheVariants.{Refused}
 
 -- a report of another length
--- a heading that is not known: row 1, whatever follows it
-pub unknown : (v : List ℕ) (p : ℕ) (b r : List ℕ) (k : Bool) → k ≡ known_magic v → k ≡ false
-    → (1 ≡ (examine_of v p b r).refusal) × (b ≡ (examine_of v p b r).buffer) × (r ≡ (examine_of v p b r).report)
-unfolding examine_of examine_rows
-unknown v p b r k ek t = rw (unknown-read v (sym ek ∙ t)) (refl, refl, refl)
-
 pub unlike : (v : List ℕ) (p : ℕ) (b r : List ℕ) → eqb (length r) 3 ≡ false → (n : ℕ) → n ≡ cond (not (valid_volume v)) 1 2
     → (n ≡ (examine_of v p b r).refusal) × (b ≡ (examine_of v p b r).buffer) × (r ≡ (examine_of v p b r).report)
 unfolding examine_of examine_rows

@@ -1,33 +1,24 @@
 -- Release: its refusals come to the rows of its table, and what its definition says in each of its cases.
 use mathlib.Core.Path.{◌≡◌, refl, ap, ◌∙◌}
-use mathlib.Core.Bool.{Bool, false, not, cond}
+use mathlib.Core.Bool.{false}
 use mathlib.Core.List.{List, []}
 use Prim.Native.Nat.{ℕ, ◌≤◌}
 use native.Mathlib.Omega.{arith}
-use lib.Dec.{ltb}
 use lib.ListN.{length, get_or}
 use borrow.Author.Tests.{eq-eqb, ne_eqb, eqb-false, not-false}
 use Rattle.laws.proofs.Tables.{none-at, within-bounds}
 use Rattle.laws.proofs.Places.{valid-facts}
 use Rattle.laws.proofs.WellFormed.{ready, holder-low, holder-high}
 use Rattle.state.proofs.Fits.{refusal-first, refusal-last}
-use Rattle.model.specs.Tables.{first_of, within}
+use Rattle.model.specs.Tables.{first_of}
 use Rattle.model.specs.Geometry.{geometry_of}
 use Rattle.model.specs.State.{frame_count, holder}
-use Rattle.model.specs.Refusals.{frame_blocked, state_rows, release_rows, release_tail}
+use Rattle.model.specs.Refusals.{state_rows, release_rows, release_tail}
 use Rattle.model.specs.Outcome.{reply_of, decided}
 use Rattle.model.specs.Effects.{with_frame, with_frames, release_done}
 use Rattle.model.specs.Calls.{release_of}
 use Rattle.model.specs.declared.{geometry.Geometry.Geometry, state.State.State, answer.Reply.Reply}
 use Rattle.model.specs.declared.answer.Answer.TheVariants.{Refused, Done}
-
--- the tests of the rows of Release's own
-pub release-own : (g : Geometry) (s : State) (page f : ℕ) (blocked : Bool) (a b k : ℕ) → blocked ≡ frame_blocked s f
-    → a ≡ cond blocked 10 0
-    → b ≡ cond (not (ltb 0 f)) 8 a
-    → k ≡ cond (not (within g.pages page)) 3 b
-    → k ≡ first_of (release_tail g s page f)
-release-own g s page f blocked a b k e ea eb ek = rw (ek, eb, ea, e)
 
 module _ (v m : List ℕ) (s : State) (page : ℕ) where
   -- the rows 1 and 2, then those

@@ -1,34 +1,25 @@
 -- Load's refusals: the code's tests come to the rows before the walk, and these with the walk's come to the table.
 use mathlib.Core.Path.{◌≡◌, refl, sym, ◌∙◌}
-use mathlib.Core.Bool.{Bool, not, cond}
+use mathlib.Core.Bool.{cond}
 use mathlib.Core.List.{List, []}
 use Prim.Native.Nat.{ℕ}
 use lib.Dec.{eqb}
 use lib.ListN.{length}
-use borrow.Author.Tests.{eqb-false, eq-eqb, ne_eqb}
-use Rattle.laws.proofs.Tables.{Numbered, when_true, when_false}
+use borrow.Author.Tests.{eqb-false, eqb-true, eq-eqb, ne_eqb}
+use Rattle.laws.proofs.Tables.{Numbered, by_cases, when_true, when_false}
 use Rattle.repair.proofs.Rows.{first_then}
 use Rattle.state.proofs.Fits.{refusal-first, refusal-last}
-use Rattle.load.specs.Rows.{early_rows}
-use Rattle.model.specs.Tables.{first_of, within}
+use Rattle.model.specs.Tables.{Row, first_of}
 use Rattle.model.specs.Geometry.{geometry_of}
-use Rattle.model.specs.Repair.{walk_of, is_broken, is_below, state_view}
-use Rattle.model.specs.State.{frame_count, held, blank}
-use Rattle.model.specs.Refusals.{frame_blocked, state_rows, load_rows, load_tail, walk_tail}
+use Rattle.model.specs.Repair.{walk_of, state_view}
+use Rattle.model.specs.State.{frame_count}
+use Rattle.model.specs.Refusals.{state_rows, load_rows, load_tail, walk_tail}
 use Rattle.model.specs.declared.{geometry.Geometry.Geometry, state.State.State, answer.Stop.Stop}
+use Rattle.model.specs.declared.answer.Stop.TheVariants.{Own, Backup, Format, Broken, Below}
 
--- the tests of the rows of Load's own
-pub own_is : (g : Geometry) (count : ℕ) (s : State) (page frame : ℕ) (none in_frame blocked : Bool) (b c d e k : ℕ)
-    → none ≡ blank s page
-    → in_frame ≡ held s page
-    → blocked ≡ frame_blocked s frame
-    → b ≡ cond blocked 10 0
-    → c ≡ cond in_frame 9 b
-    → d ≡ cond none 7 c
-    → e ≡ cond (not (within count frame)) 4 d
-    → k ≡ cond (not (within g.pages page)) 3 e
-    → k ≡ first_of (load_tail g count s page frame)
-own_is g count s page frame none in_frame blocked b c d e k en eh ef eb ec ed ee ek = rw (ek, ee, ed, ec, eb, ef, eh, en)
+-- Load's rows before the walk, with those of every call on the state
+unfoldable pub early_rows : List ℕ → List ℕ → State → ℕ → ℕ → List Row
+early_rows v m s page frame = state_rows v m s (load_tail (geometry_of v) (frame_count (length m)) s page frame)
 
 -- the rows 1 and 2, then those
 module _ (v m : List ℕ) (s : State) (n : ℕ) (e : n ≡ first_of (state_rows v m s [])) where
@@ -45,9 +36,15 @@ module _ (v m : List ℕ) (s : State) (n : ℕ) (e : n ≡ first_of (state_rows 
       refusal-last v m s (load_tail (geometry_of v) (frame_count (length m)) s page frame) n r e z (er ∙ rw (ec, eg, ← en))
 
 -- the rows behind the walk
-pub tail-is : (stop : Stop) (broken below : Bool) (a b : ℕ) → broken ≡ is_broken stop → below ≡ is_below stop → a ≡ cond below 23 0
-    → b ≡ cond broken 19 a → b ≡ first_of (walk_tail stop)
-tail-is stop broken below a b eo el ea eb = rw (eb, ea, eo, el)
+pub walk-clean : (stop : Stop) → (stop ≡ Broken → ⊥) → (stop ≡ Below → ⊥) → first_of (walk_tail stop) ≡ 0
+walk-clean Own b l = refl
+walk-clean Backup b l = refl
+walk-clean Format b l = refl
+walk-clean Broken b l = absurd (b refl)
+walk-clean Below b l = absurd (l refl)
+
+none-first : (n rest : ℕ) → cond (eqb n 0) rest n ≡ 0 → n ≡ 0
+none-first n rest h = by_cases (eqb n 0) (λ t. eqb-true n 0 t) (λ t. rw t at h)
 
 module _ (v m : List ℕ) (s : State) (page frame : ℕ) where
   pub early-numbered : Numbered (early_rows v m s page frame)
@@ -76,6 +73,9 @@ module _ (v m : List ℕ) (s : State) (page frame : ℕ) where
   -- a row before the walk refuses
   pub early-refuses : (n : ℕ) → n ≡ first_of (early_rows v m s page frame) → (n ≡ 0 → ⊥) → n ≡ first_of (load_rows v m s page frame)
   early-refuses n e ne = e ∙ sym (whole ∙ when_false _ _ (ne_eqb _ _ (λ z. ne (e ∙ z))))
+
+  pub early-none : first_of (load_rows v m s page frame) ≡ 0 → first_of (early_rows v m s page frame) ≡ 0
+  early-none z = none-first (first_of (early_rows v m s page frame)) (first_of (walk_tail stop_of)) (sym whole ∙ z)
 
   -- only the walk may refuse
   pub walk-decides : first_of (early_rows v m s page frame) ≡ 0 → first_of (load_rows v m s page frame) ≡ first_of (walk_tail stop_of)

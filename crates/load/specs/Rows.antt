@@ -1,10 +1,16 @@
--- Load's rows before the walk, with those of every call on the state.
-use Rattle.std.specs.Prelude.{ℕ, List, length}
-use Rattle.model.specs.Tables.{Row}
+-- What Load finds before it loads: the page's target by volume and state, and the walk of it.
+use Rattle.std.specs.Prelude.{ℕ, ◌≡◌, List}
 use Rattle.model.specs.Geometry.{geometry_of}
-use Rattle.model.specs.State.{frame_count}
-use Rattle.model.specs.Refusals.{state_rows, load_tail}
+use Rattle.model.specs.Index.{entry_of}
+use Rattle.model.specs.Scan.{first_held}
 use Rattle.model.specs.declared.state.State.{State}
+use Rattle.repair.specs.Walked.{walked_for}
+use Rattle.repair.specs.declared.Target.{Target}
+use Rattle.repair.specs.declared.walk.Walked.{Walked}
 
-unfoldable pub early_rows : List ℕ → List ℕ → State → ℕ → ℕ → List Row
-early_rows v m s page frame = state_rows v m s (load_tail (geometry_of v) (frame_count (length m)) s page frame)
+pub record Finds (v : List ℕ) (s : State) (page : ℕ) (t : Target) (w : Walked) : Type 0 where
+  pub volume : t.volume.bytes.now ≡ v
+  pub first : t.first ≡ first_held (geometry_of v) v s.durable
+  pub entry : t.entry ≡ entry_of s.index page
+  pub number : t.page ≡ page
+  pub walked : w ≡ walked_for t

@@ -1,14 +1,12 @@
 -- The records of a walk's chain: what a record that the walk read is known to be, and the walk by its step at each number.
 use Prim.Native.Nat.{ℕ, zero, suc, ◌≤◌, ◌<◌}
 use mathlib.Core.Path.{◌≡◌, refl, sym, ap, ◌∙◌}
-use mathlib.Core.Logic.{⊎_elim}
 use mathlib.Core.Bool.{Bool, true, false, cond, ◌||◌}
 use mathlib.Core.List.{List, [], ◌∷◌}
 use native.Mathlib.Omega.{arith}
 use lib.Dec.{eqb, ltb, leb}
-use lib.ListN.{length, get_or}
 use borrow.Author.Tests.{eqb-true, eq-eqb, ne_eqb, ltb-true, lt-ltb, le-ltb, leb-true}
-use Rattle.laws.proofs.Tables.{all-at, by_cases, or_cases, or-other, or-neither}
+use Rattle.laws.proofs.Tables.{all-at, by_cases, or-other}
 use Rattle.model.specs.Checksum.{sealed}
 use Rattle.model.specs.Item.{record_of, record_layout, is_format, first_is_format}
 use Rattle.model.specs.Repair.{Walk, stop_at, behind, chain_record, walk_from}
@@ -16,8 +14,8 @@ use Rattle.model.specs.declared.item.LogRecord.{LogRecord}
 use Rattle.model.specs.declared.answer.Stop.TheVariants.{Broken, Below}
 use Rattle.model.specs.declared.answer.Stop.TheVariants.{Own, Backup, Format}
 use Rattle.repair.specs.Walked.{step_of, Sound}
-use Rattle.repair.specs.declared.walk.Step.{Step}
-use Rattle.repair.specs.declared.walk.Step.TheVariants.{Halt, Read}
+use Rattle.std.specs.Prelude.{Result, Ok, Err}
+use Rattle.model.specs.declared.answer.Stop.{Stop}
 
 -- a record that the walk for page p may read at number n
 pub record Link (p n : ℕ) (r : List ℕ) : Type 0 where
@@ -37,30 +35,30 @@ pub link-back : (p n : ℕ) (r : List ℕ) → Link p n r → is_format (record_
 link-back p n r k e = leb-true _ _ (or-other (is_format (record_of r)) (leb 1 (record_of r).prev) k.first e)
 
 -- what a walk makes of a step at n, where k is the walk of what is left
-abbrev pub follow : Step → ℕ → (ℕ → Walk) → Walk
-follow (Halt s) n k = stop_at s []
-follow (Read prev true) n k = stop_at Format (n ∷ [])
-follow (Read prev false) n k = behind (n ∷ []) (k prev)
+abbrev pub follow : Result LogRecord Stop → ℕ → (ℕ → Walk) → Walk
+follow (Err s) n k = stop_at s []
+follow (Ok e) n k = cond (is_format e) (stop_at Format (n ∷ [])) (behind (n ∷ []) (k e.prev))
 
-pick-read : (z a b w o : Bool) (q p : ℕ) (f t : Bool)
-    → cond z (Halt Broken) (cond a (Halt Own) (cond b (Halt Backup) (cond w (Halt Below) (cond o (Read q f) (Halt Broken))))) ≡ Read p t
-    → (w ≡ false) × (o ≡ true) × (q ≡ p) × (f ≡ t)
-pick-read true a b w o q p f t h = (cc, cc, cc, cc)
-pick-read false true b w o q p f t h = (cc, cc, cc, cc)
-pick-read false false true w o q p f t h = (cc, cc, cc, cc)
-pick-read false false false true o q p f t h = (cc, cc, cc, cc)
-pick-read false false false false true q p f t h = (refl, refl, cc, cc)
-pick-read false false false false false q p f t h = (cc, cc, cc, cc)
+-- the steps that the tests may come to
+abbrev picked : (z a b w o : Bool) → LogRecord → Result LogRecord Stop
+picked z a b w o e =
+    cond z (Err Broken) (cond a (Err Own) (cond b (Err Backup) (cond w (Err Below) (cond o (Ok e) (Err Broken)))))
 
-pick-backup : (z a b w o : Bool) (q : ℕ) (f : Bool)
-    → cond z (Halt Broken)
-    (cond a (Halt Own) (cond b (Halt Backup) (cond w (Halt Below) (cond o (Read q f) (Halt Broken))))) ≡ Halt Backup → b ≡ true
-pick-backup true a b w o q f h = cc
-pick-backup false true b w o q f h = cc
-pick-backup false false true w o q f h = refl
-pick-backup false false false true o q f h = cc
-pick-backup false false false false true q f h = cc
-pick-backup false false false false false q f h = cc
+pick-read : (z a b w o : Bool) (q e : LogRecord) → picked z a b w o q ≡ Ok e → (o ≡ true) × (q ≡ e)
+pick-read true a b w o q e h = (cc, cc)
+pick-read false true b w o q e h = (cc, cc)
+pick-read false false true w o q e h = (cc, cc)
+pick-read false false false true o q e h = (cc, cc)
+pick-read false false false false true q e h = (refl, cc)
+pick-read false false false false false q e h = (cc, cc)
+
+pick-backup : (z a b w o : Bool) (q : LogRecord) → picked z a b w o q ≡ Err Backup → b ≡ true
+pick-backup true a b w o q h = cc
+pick-backup false true b w o q h = cc
+pick-backup false false true w o q h = refl
+pick-backup false false false true o q h = cc
+pick-backup false false false false true q h = cc
+pick-backup false false false false false q h = cc
 
 module _ (log : ℕ → List ℕ) (p : ℕ) where
   -- every number of a chain is that of a link, and is 1 to top
@@ -68,86 +66,67 @@ module _ (log : ℕ → List ℕ) (p : ℕ) where
   Linked top [] = Unit {0}
   Linked top (n ∷ ns) = (chain_record p n (log n) ≡ true) × (1 ≤ n) × (n ≤ top) × Linked top ns
 
-  pub linked-at : (top : ℕ) (l : List ℕ) → Linked top l → (j : ℕ) → j < length l
-      → (chain_record p (get_or l j 0) (log (get_or l j 0)) ≡ true) × (1 ≤ get_or l j 0) × (get_or l j 0 ≤ top)
-  linked-at top [] k j h = absurd (omega arith)
-  linked-at top (n ∷ ns) k zero h = (k.0, k.1, k.2)
-  linked-at top (n ∷ ns) k (suc j) h = linked-at top ns k.3 j (omega arith)
-
 module _ (log : ℕ → List ℕ) (first p own backup : ℕ) where
   -- a step that reads, reads a link
-  pub record Reads (n prev : ℕ) (format : Bool) : Type 0 where
+  pub record Reads (n : ℕ) (e : LogRecord) : Type 0 where
     pub link-is : chain_record p n (log n) ≡ true
-    pub prev-is : (record_of (log n)).prev ≡ prev
-    pub format-is : is_format (record_of (log n)) ≡ format
+    pub read-is : record_of (log n) ≡ e
 
-  pub step-reads : (n prev : ℕ) (format : Bool) → step_of log first p own backup n ≡ Read prev format → Reads n prev format
+  pub step-reads : (n : ℕ) (e : LogRecord) → step_of log first p own backup n ≡ Ok e → Reads n e
   unfolding step_of
-  step-reads n prev format h =
-      let k = pick-read (eqb n 0) (eqb own n) (eqb backup n) (ltb n first) (chain_record p n (log n)) (record_of (log n)).prev prev
-      (is_format (record_of (log n))) format h in
-      record { link-is = k.1; prev-is = k.2; format-is = k.3 }
+  step-reads n e h =
+      let k = pick-read (eqb n 0) (eqb own n) (eqb backup n) (ltb n first) (chain_record p n (log n)) (record_of (log n)) e h in
+      record { link-is = k.0; read-is = k.1 }
 
-  pub step-zero : step_of log first p own backup 0 ≡ Halt Broken
+  pub step-zero : step_of log first p own backup 0 ≡ Err Broken
   unfolding step_of
   step-zero = refl
 
-  pub step-none : (n : ℕ) → n ≡ 0 → Halt Broken ≡ step_of log first p own backup n
+  pub step-none : (n : ℕ) → n ≡ 0 → Err Broken ≡ step_of log first p own backup n
   unfolding step_of
   step-none n e = rw (eq-eqb n 0 e)
 
   module _ (n : ℕ) (some : n ≡ 0 → ⊥) where
-    pub step-own : own ≡ n → Halt Own ≡ step_of log first p own backup n
+    pub step-own : own ≡ n → Err Own ≡ step_of log first p own backup n
     unfolding step_of
     step-own e = rw (ne_eqb n 0 some, eq-eqb own n e)
 
     module _ (not_own : own ≡ n → ⊥) where
-      pub step-copy : backup ≡ n → Halt Backup ≡ step_of log first p own backup n
+      pub step-copy : backup ≡ n → Err Backup ≡ step_of log first p own backup n
       unfolding step_of
       step-copy e = rw (ne_eqb n 0 some, ne_eqb own n not_own, eq-eqb backup n e)
 
       module _ (not-backup : backup ≡ n → ⊥) where
-        pub step-below : n < first → Halt Below ≡ step_of log first p own backup n
+        pub step-below : n < first → Err Below ≡ step_of log first p own backup n
         unfolding step_of
         step-below l = rw (ne_eqb n 0 some, ne_eqb own n not_own, ne_eqb backup n not-backup, lt-ltb n first l)
 
-        module _ (held : first ≤ n) (r : List ℕ) (r-is : r ≡ log n) (sure : Bool) (sound : sure ≡ true → Sound log first p own backup n)
-            (b : Bool) (b-is : b ≡ (sure || chain_record p n r)) where
-          broken-by : chain_record p n r ≡ false → Halt Broken ≡ step_of log first p own backup n
+        module _ (held : first ≤ n) (r : List ℕ) (r-is : r ≡ log n) where
+          pub step-broken : chain_record p n r ≡ false → Err Broken ≡ step_of log first p own backup n
           unfolding step_of
-          broken-by z = rw (ne_eqb n 0 some, ne_eqb own n not_own, ne_eqb backup n not-backup, le-ltb n first held, ← r-is, z)
+          step-broken z = rw (ne_eqb n 0 some, ne_eqb own n not_own, ne_eqb backup n not-backup, le-ltb n first held, ← r-is, z)
 
-          pub step-broken : b ≡ false → Halt Broken ≡ step_of log first p own backup n
-          step-broken t = broken-by (or-neither sure (chain_record p n r) (sym b-is ∙ t)).1
-
-          -- a record that was not tested may be read
-          readable : b ≡ true → chain_record p n r ≡ true
-          readable t =
-              ⊎_elim (λ s. by_cases (chain_record p n r) (λ z. z) (λ z. absurd (some (sound s (sym (broken-by z)))))) (λ z. z)
-              (or_cases sure (chain_record p n r) (sym b-is ∙ t))
-
-          pub step-read : (e : LogRecord) → e ≡ record_of r → b ≡ true → Read e.prev (eqb e.kind 1) ≡ step_of log first p own backup n
+          pub step-read : (e : LogRecord) → e ≡ record_of r → chain_record p n r ≡ true → Ok e ≡ step_of log first p own backup n
           unfolding step_of
-          step-read e e-is t =
-              let z : chain_record p n r ≡ true = readable t in
+          step-read e e-is z =
               rw (ne_eqb n 0 some, ne_eqb own n not_own, ne_eqb backup n not-backup, le-ltb n first held, ← r-is, z, ← e-is)
 
-  pub step_falls : (n prev : ℕ) (format : Bool) → step_of log first p own backup n ≡ Read prev format → prev < n
-  step_falls n prev format h =
-      let r = step-reads n prev format h in
+          -- a record that was not tested may be read
+          pub sound-read : Sound log first p own backup n → chain_record p n r ≡ true
+          sound-read sound =
+              by_cases (chain_record p n r) (λ z. z) (λ z. absurd (some (sound (sym (step-broken z)))))
+
+  pub step_falls : (n : ℕ) (e : LogRecord) → step_of log first p own backup n ≡ Ok e → e.prev < n
+  step_falls n e h =
+      let r = step-reads n e h in
       let k = link p n (log n) r.link-is in
-      omega (arith, r.prev-is, k.falls)
+      omega (arith, ap (λ (q : LogRecord). q.prev) r.read-is, k.falls)
 
-  pub step_back : (n prev : ℕ) → step_of log first p own backup n ≡ Read prev false → 1 ≤ prev
-  step_back n prev h =
-      let r = step-reads n prev false h in
-      let k = link-back p n (log n) (link p n (log n) r.link-is) r.format-is in
-      omega (arith, r.prev-is, k)
-
-  format-follows : (f : Bool) (prev n : ℕ) (k : ℕ → Walk)
-      → cond f (stop_at Format (n ∷ [])) (behind (n ∷ []) (k prev)) ≡ follow (Read prev f) n k
-  format-follows true prev n k = refl
-  format-follows false prev n k = refl
+  pub step_back : (n : ℕ) (e : LogRecord) → step_of log first p own backup n ≡ Ok e → is_format e ≡ false → 1 ≤ e.prev
+  step_back n e h t =
+      let r = step-reads n e h in
+      let k = link-back p n (log n) (link p n (log n) r.link-is) (ap (λ (q : LogRecord). is_format q) r.read-is ∙ t) in
+      omega (arith, ap (λ (q : LogRecord). q.prev) r.read-is, k)
 
   pub walk_none : (n : ℕ) → walk_from 0 log first p own backup n ≡ stop_at Broken []
   unfolding walk_from
@@ -164,7 +143,7 @@ module _ (log : ℕ → List ℕ) (first p own backup : ℕ) where
       (λ a. rw a (by_cases (eqb backup n) (λ b. rw b)
       (λ b. rw b (by_cases (ltb n first) (λ w. rw w)
       (λ w. rw w (by_cases (chain_record p n (log n))
-      (λ o. rw o (format-follows (is_format (record_of (log n))) (record_of (log n)).prev n (λ q. walk_from f log first p own backup q)))
+      (λ o. rw o)
       (λ o. rw o))))))))
 
   pub walk-linked : (top f n : ℕ) → 1 ≤ n → n ≤ top → Linked log p top (walk_from f log first p own backup n).chain
@@ -172,27 +151,30 @@ module _ (log : ℕ → List ℕ) (first p own backup : ℕ) where
   walk-linked top (suc f) n h l = rw (walk-follows f n h) (go (λ q. walk-linked top f q) (step_of log first p own backup n) refl)
     where
       go : ((q : ℕ) → 1 ≤ q → q ≤ top → Linked log p top (walk_from f log first p own backup q).chain)
-          → (s : Step) → step_of log first p own backup n ≡ s
+          → (s : Result LogRecord Stop) → step_of log first p own backup n ≡ s
           → Linked log p top (follow s n (λ q. walk_from f log first p own backup q)).chain
-      go ih (Halt s) e = tt
-      go ih (Read prev true) e = ((step-reads n prev true e).link-is, h, l, tt)
-      go ih (Read prev false) e =
-          ((step-reads n prev false e).link-is, h, l, ih prev (step_back n prev e) (omega (arith, step_falls n prev false e)))
+      go ih (Err s) q = tt
+      go ih (Ok e) q =
+          by_cases (is_format e) (λ t. rw t ((step-reads n e q).link-is, h, l, tt))
+          (λ t. rw t ((step-reads n e q).link-is, h, l, ih e.prev (step_back n e q t) (omega (arith, step_falls n e q))))
 
   -- where the walk stops at the backup, there is one
-  step-backup : (n : ℕ) → step_of log first p own backup n ≡ Halt Backup → backup ≡ n
+  step-backup : (n : ℕ) → step_of log first p own backup n ≡ Err Backup → backup ≡ n
   unfolding step_of
   step-backup n h =
-      eqb-true backup n (pick-backup (eqb n 0) (eqb own n) (eqb backup n) (ltb n first) (chain_record p n (log n)) (record_of (log n)).prev
-      (is_format (record_of (log n))) h)
+      eqb-true backup n
+      (pick-backup (eqb n 0) (eqb own n) (eqb backup n) (ltb n first) (chain_record p n (log n)) (record_of (log n)) h)
 
   pub walk-backup : (f n : ℕ) → 1 ≤ n → (walk_from f log first p own backup n).stop ≡ Backup → 1 ≤ backup
   walk-backup zero n h e = absurd (let z : Broken ≡ Backup = rw (walk_none n) at e in let q : ◌≡◌ {A = ℕ} 0 1 = cc in omega arith)
   walk-backup (suc f) n h e = go (λ q. walk-backup f q) (step_of log first p own backup n) refl (rw (walk-follows f n h) at e)
     where
       go : ((q : ℕ) → 1 ≤ q → (walk_from f log first p own backup q).stop ≡ Backup → 1 ≤ backup)
-          → (s : Step) → step_of log first p own backup n ≡ s
+          → (s : Result LogRecord Stop) → step_of log first p own backup n ≡ s
           → (follow s n (λ q. walk_from f log first p own backup q)).stop ≡ Backup → 1 ≤ backup
-      go ih (Halt s) q t = let b : backup ≡ n = step-backup n (q ∙ ap Halt t) in omega arith
-      go ih (Read prev true) q t = let z : ◌≡◌ {A = ℕ} 0 1 = cc in absurd (omega arith)
-      go ih (Read prev false) q t = ih prev (step_back n prev q) t
+      go ih (Err s) q t =
+          let b : backup ≡ n = step-backup n (q ∙ ap {B = Result LogRecord Stop} Err t) in omega arith
+      go ih (Ok e) q t =
+          by_cases (is_format e)
+          (λ f. let z : Format ≡ Backup = rw f at t in let x : ◌≡◌ {A = ℕ} 0 1 = cc in absurd (omega arith))
+          (λ f. ih e.prev (step_back n e q f) (rw f at t))

@@ -1,29 +1,27 @@
 -- The replay as a loop makes it, from the end of the chain to its front, and the image that is built around it.
-use Prim.Native.Nat.{ℕ, zero, suc, ◌+◌, ◌-◌, ◌≤◌, ◌<◌}
-use mathlib.Core.Path.{◌≡◌, sym, ap, ◌∙◌, subst}
+use Prim.Native.Nat.{ℕ, zero, suc, ◌+◌, ◌≤◌, ◌<◌}
+use mathlib.Core.Path.{◌≡◌, refl, sym, ap, ◌∙◌, subst}
 use mathlib.Core.Bool.{Bool, true, false}
-use mathlib.Core.List.{List}
+use mathlib.Core.List.{List, [], ◌∷◌}
 use native.Mathlib.Omega.{arith}
-use native.Mathlib.Numerals.{add-one}
-use lib.ListN.{length, get_or, take, drop, length-take, length-drop}
-use lib.Seq.{drop-cons, drop-length, get_or-take, length-take-le}
+use lib.ListN.{length, take, drop, length-take, length-drop}
+use Rattle.std.specs.List.{push}
 use borrow.Rule.Slice.PartMut.{put_mid}
 use Rattle.laws.proofs.Chain.{chain-few}
-use Rattle.laws.proofs.Zeros.{zeros}
 use Rattle.laws.proofs.Parts.{splice-length, put-part, put-splice}
 use Rattle.model.specs.Bytes.{part}
-use Rattle.model.specs.Geometry.{page_at, slot_at, item}
-use Rattle.model.specs.Item.{image_lsn, image_body, valid_image, frame_image, record_layout, apply_record}
+use Rattle.model.specs.Geometry.{page_at, item}
+use Rattle.model.specs.Item.{image_lsn, valid_image, frame_image, record_layout, apply_record}
 use Rattle.model.specs.Repair.{class_of, is_broken, View, view_of, walk_from, walk_of, own_start, backup_start, replay_chain}
 use Rattle.model.specs.Repair.{start_body, rebuilt_body, rebuilt, repair_of}
 use Rattle.model.specs.declared.{answer.Stop.Stop, answer.Class.Class, answer.Repair.Repair, state.Entry.Entry}
 use Rattle.model.specs.declared.geometry.Geometry.{Geometry}
-use Rattle.model.specs.declared.answer.Stop.TheVariants.{Broken, Below}
-use Rattle.model.specs.declared.answer.Stop.TheVariants.{Own, Backup, Format}
+use Rattle.model.specs.declared.answer.Stop.TheVariants.{Broken}
+use Rattle.model.specs.declared.answer.Stop.TheVariants.{Backup}
 use Rattle.repair.specs.Walked.{Whole, log_of, counted, walked_of, repair_as, chain_from}
 use Rattle.repair.specs.declared.walk.Traced.{Traced}
 use Rattle.repair.specs.declared.walk.Walked.{Walked}
-use Rattle.repair.proofs.Links.{link, Linked, linked-at, walk_none, walk-linked, walk-backup}
+use Rattle.repair.proofs.Links.{link, Linked, walk_none, walk-linked, walk-backup}
 use Rattle.repair.proofs.Walks.{walk-chain}
 
 -- ---- a whole walk
@@ -78,75 +76,42 @@ module _ (g : Geometry) (p : ℕ) (w : View) where
 
 -- ---- the loop
 
--- a record that may be replayed
-pub record Replayed (log : ℕ → List ℕ) (top n : ℕ) : Type 0 where
-  pub layout : record_layout (log n) ≡ true
-  pub low : 1 ≤ n
-  pub high : n ≤ top
+-- a chain is taken from its end: the changes of the rest, made on the body as it is, give the whole
+module _ (log : ℕ → List ℕ) where
+  pub replay-last : (rest : List ℕ) (n : ℕ) (body : List ℕ)
+      → replay_chain log (push rest n) body ≡ replay_chain log rest (apply_record (log n) body)
+  unfolding replay_chain
+  replay-last [] n body = refl
+  replay-last (m ∷ rest) n body = ap (apply_record (log m)) (replay-last rest n body)
 
--- the changes from place i of a chain on
-pub replay-more : (log : ℕ → List ℕ) (c : List ℕ) (i : ℕ) (body : List ℕ) → i < length c
-    → apply_record (log (get_or c i 0)) (replay_chain log (drop (i + 1) c) body) ≡ replay_chain log (drop i c) body
-unfolding replay_chain
-replay-more log c i body h = rw (add-one, drop-cons c i 0 h)
+  pub replay-none : (rest body : List ℕ) → length rest ≡ 0 → replay_chain log rest body ≡ body
+  unfolding replay_chain
+  replay-none [] body e = refl
+  replay-none (m ∷ rest) body e = absurd (omega arith)
 
-pub replay-none : (log : ℕ → List ℕ) (c : List ℕ) (body : List ℕ) → body ≡ replay_chain log (drop (length c) c) body
-unfolding replay_chain
-replay-none log c body = rw (drop-length c)
+  pub linked-last : (p top : ℕ) (rest : List ℕ) (n : ℕ) → Linked log p top (push rest n)
+      → Linked log p top rest × (record_layout (log n) ≡ true)
+  linked-last p top [] n k = (tt, (link p n (log n) k.0).layout)
+  linked-last p top (m ∷ rest) n k =
+      let l = linked-last p top rest n k.3 in
+      ((k.0, k.1, k.2, l.0), l.1)
 
--- the chain is the first k numbers of an array, and the changes of its records from place i on are made
-pub record Replaying (log : ℕ → List ℕ) (k : ℕ) (lsns body₀ body : List ℕ) (i : ℕ) : Type 0 where
-  pub below : i ≤ k
-  pub held : k ≤ length lsns
-  pub made : body ≡ replay_chain log (drop i (take k lsns)) body₀
-  pub size : length body ≡ 244
+-- what is left to replay
+pub record Replaying (log : ℕ → List ℕ) (p top : ℕ) (whole body rest : List ℕ) : Type 0 where
+  pub linked : Linked log p top rest
+  pub same : replay_chain log rest body ≡ whole
 
-module _ (log : ℕ → List ℕ) (k : ℕ) (lsns : List ℕ) where
-  pub replaying-start : (body : List ℕ) → k ≤ length lsns → length body ≡ 244 → Replaying log k lsns body body k
-  replaying-start body h size =
-      let l : length (take k lsns) ≡ k = length-take-le k lsns h in
+pub replaying-on : (log : ℕ → List ℕ) (p top : ℕ) (whole body rest left : List ℕ) (n : ℕ) (r : List ℕ)
+    → Replaying log p top whole body rest → rest ≡ push left n → r ≡ log n
+    → (record_layout r ≡ true) × Replaying log p top whole (apply_record r body) left
+replaying-on log p top whole body rest left n r h e r-is =
+    let l = linked-last log p top left n (subst (Linked log p top) e h.linked) in (
+      ap record_layout r-is ∙ l.1,
       record {
-        below = omega arith;
-        held = h;
-        made = replay-none log (take k lsns) body ∙ ap (λ (x : ℕ). replay_chain log (drop x (take k lsns)) body) l;
-        size = size;
-      }
-
-  module _ (body₀ body : List ℕ) (i : ℕ) (some : 0 < i) (h : Replaying log k lsns body₀ body i) where
-    inside : i - 1 < length (take k lsns)
-    inside = omega (arith, h.below, length-take-le k lsns h.held)
-
-    number_is : get_or (take k lsns) (i - 1) 0 ≡ get_or lsns (i - 1) 0
-    number_is = get_or-take k lsns (i - 1) 0 (omega (arith, h.below))
-
-    pub replaying-on : (r x : List ℕ) → r ≡ log (get_or lsns (i - 1) 0) → x ≡ apply_record r body → length x ≡ length body
-        → Replaying log k lsns body₀ x (i - 1)
-    replaying-on r x r-is x-is l =
-        let e : i ≡ i - 1 + 1 = omega arith in
-        record {
-          below = omega (arith, h.below);
-          held = h.held;
-          made =
-              x-is ∙ ap (λ (y : List ℕ). apply_record y body) (r-is ∙ ap log (sym number_is))
-              ∙ ap (apply_record (log (get_or (take k lsns) (i - 1) 0)))
-              (h.made ∙ ap (λ (n : ℕ). replay_chain log (drop n (take k lsns)) body₀) e)
-              ∙ replay-more log (take k lsns) (i - 1) body₀ inside;
-          size = l ∙ h.size;
-        }
-
-    -- the record that the loop comes to
-    pub replayed : (p top : ℕ) → Linked log p top (take k lsns) → Replayed log top (get_or lsns (i - 1) 0)
-    replayed p top linked =
-        let f = linked-at log p top (take k lsns) linked (i - 1) inside in
-        subst (Replayed log top) number_is
-        (record {
-          layout = (link p (get_or (take k lsns) (i - 1) 0) (log (get_or (take k lsns) (i - 1) 0)) f.0).layout;
-          low = f.1;
-          high = f.2;
-        })
-
-    pub in_array : i - 1 < length lsns
-    in_array = omega (arith, h.below, h.held)
+        linked = l.0;
+        same = rw r-is (sym (replay-last log left n body) ∙ (rw e at h.same));
+      },
+    )
 
 -- ---- the image
 
@@ -174,25 +139,7 @@ built g p w c c-is dst first last out size len f l o =
     ∙ ap (replay_chain w.log (walk_of g p w).chain) s in
     o ∙ ap (frame_image p w.durable) (put-part dst 8 244 last len (omega (arith, size)) ∙ b)
 
--- ---- the start and the answer
-
-module _ (g : Geometry) (v : List ℕ) (f : ℕ) (e : Entry) (p : ℕ) (stop : Stop) (b : List ℕ) where
-  pub begun-own : (x : List ℕ) → stop ≡ Own → x ≡ item g v (page_at p) → b ≡ image_body x → b ≡ start_body stop (view_of g v f e p)
-  begun-own x s x-is b-is = rw s (b-is ∙ ap image_body x-is)
-
-  pub begun-backup : (x : List ℕ) → stop ≡ Backup → x ≡ item g v (slot_at e.slot) → b ≡ image_body x
-      → b ≡ start_body stop (view_of g v f e p)
-  begun-backup x s x-is b-is = rw s (b-is ∙ ap image_body x-is)
-
-  module _ (n : ℕ) (len : n ≡ 244) (b-is : b ≡ zeros n) where
-    pub begun-format : stop ≡ Format → b ≡ start_body stop (view_of g v f e p)
-    begun-format s = rw s (b-is ∙ ap zeros len)
-
-    pub begun-broken : stop ≡ Broken → b ≡ start_body stop (view_of g v f e p)
-    begun-broken s = rw s (b-is ∙ ap zeros len)
-
-    pub begun-below : stop ≡ Below → b ≡ start_body stop (view_of g v f e p)
-    begun-below s = rw s (b-is ∙ ap zeros len)
+-- ---- the answer
 
 pub answered : (g : Geometry) (p : ℕ) (w : View) (c : Walked) → c ≡ walked_of g p w → (r : Repair) → r ≡ repair_as c → r ≡ repair_of g p w
 unfolding repair_of walked_of

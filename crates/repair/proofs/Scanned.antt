@@ -25,12 +25,10 @@ module _ (v : List ℕ) (g : Geometry) (valid : valid_volume v ≡ true) (g-is :
   scanned-row p notes low = page-settles g v (sized v g valid g-is).pages log notes p low
 
   pub scanned-ready : (p : ℕ) → valid_notes g v ≡ true → 1 ≤ p → p ≤ g.pages
-      → Ready v g (first_held g v (durable_count g v)) (entry_of (index_of g v) p) p
+      → Ready g (first_held g v (durable_count g v)) (entry_of (index_of g v) p) p
   scanned-ready p notes low high =
       let r = scanned-row p notes low in
       record {
-        valid = valid;
-        geometry = g-is;
         low = low;
         high = high;
         durable = omega (arith, r.same, r.high, count_room g v);

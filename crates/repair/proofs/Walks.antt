@@ -2,22 +2,22 @@
 -- once more from number to number.
 use Prim.Native.Nat.{ℕ, zero, suc, ◌+◌, ◌-◌, ◌≤◌, ◌<◌}
 use mathlib.Core.Path.{◌≡◌, refl, sym, ap, ◌∙◌}
-use mathlib.Core.Bool.{Bool, true, false}
+use mathlib.Core.Bool.{true, false}
 use mathlib.Core.List.{List, [], ◌∷◌, ◌++◌, append-nil, append_assoc}
 use native.Mathlib.Omega.{arith}
 use native.Mathlib.Nat.{add-zero, zero-add}
 use native.Mathlib.Numerals.{add-one}
-use lib.ListN.{length, take, set}
-use lib.Seq.{take-suc-set}
-use Rattle.laws.proofs.Tables.{true-not-false}
-use Rattle.model.specs.Item.{record_of}
+use lib.ListN.{length, take, set, length-set}
+use lib.Seq.{take-suc-set, take-length}
+use Rattle.laws.proofs.Tables.{true-not-false, by_cases}
+use Rattle.model.specs.Item.{record_of, is_format}
 use Rattle.model.specs.Repair.{Walk, stop_at, walk_from, is_broken}
 use Rattle.model.specs.declared.{answer.Stop.Stop, answer.Stop.TheVariants.Broken}
 use Rattle.model.specs.declared.answer.Stop.TheVariants.{Format}
 use Rattle.repair.specs.Walked.{counted, step_of, Sound, chain_from}
 use Rattle.repair.specs.declared.walk.Traced.{Traced}
-use Rattle.repair.specs.declared.walk.Step.{Step}
-use Rattle.repair.specs.declared.walk.Step.TheVariants.{Halt, Read}
+use Rattle.std.specs.Prelude.{Result, Ok, Err}
+use Rattle.model.specs.declared.item.LogRecord.{LogRecord}
 use Rattle.repair.proofs.Links.{follow, walk_none, walk-follows, step-zero, step_falls, step_back, step-reads}
 
 -- a walk behind k records
@@ -43,7 +43,7 @@ module _ (log : ℕ → List ℕ) (first p own backup from : ℕ) where
 
   module _ (n count : ℕ) (d : Down n count) where
     -- the walk that is left, by its step
-    left_is : (s : Step) → 1 ≤ n → step_of log first p own backup n ≡ s
+    left_is : (s : Result LogRecord Stop) → 1 ≤ n → step_of log first p own backup n ≡ s
         → counted (walk_from from log first p own backup from)
         ≡ passed count (follow s n (λ q. walk_from (from - (count + 1)) log first p own backup q))
     left_is s h e =
@@ -51,7 +51,7 @@ module _ (log : ℕ → List ℕ) (first p own backup from : ℕ) where
         d.same
         ∙ ap (λ (f : ℕ). passed count (walk_from f log first p own backup n)) k
         ∙ ap (passed count) (walk-follows log first p own backup (from - (count + 1)) n h)
-        ∙ ap (λ (t : Step). passed count (follow t n (λ q. walk_from (from - (count + 1)) log first p own backup q))) e
+        ∙ ap (λ (t : Result LogRecord Stop). passed count (follow t n (λ q. walk_from (from - (count + 1)) log first p own backup q))) e
 
     -- a walk that is not broken comes to no record that it may not read
     pub down-sound : (1 ≤ from → is_broken (walk_from from log first p own backup from).stop ≡ false) → Sound log first p own backup n
@@ -60,34 +60,34 @@ module _ (log : ℕ → List ℕ) (first p own backup from : ℕ) where
         go : (m : ℕ) → n ≡ m → n ≡ 0
         go zero z = z
         go (suc m) z =
-            let t = ap (λ (w : Traced). is_broken w.stop) (left_is (Halt Broken) (omega arith) e) in
+            let t = ap (λ (w : Traced). is_broken w.stop) (left_is (Err Broken) (omega arith) e) in
             let f = whole (omega (arith, d.room)) in
             absurd (true-not-false t f)
 
     -- a record that is read, and the walk goes on
-    pub down-on : (prev : ℕ) (format : Bool) → step_of log first p own backup n ≡ Read prev format → format ≡ false → Down prev (count + 1)
-    down-on prev format q t =
-        let e : step_of log first p own backup n ≡ Read prev false = q ∙ ap (Read prev) t in
-        let f : prev < n = step_falls log first p own backup n prev false e in
-        let b : 1 ≤ prev = step_back log first p own backup n prev e in
-        let w = walk_from (from - (count + 1)) log first p own backup prev in
+    pub down-on : (e : LogRecord) → step_of log first p own backup n ≡ Ok e → is_format e ≡ false → Down e.prev (count + 1)
+    down-on e q t =
+        let f : e.prev < n = step_falls log first p own backup n e q in
+        let b : 1 ≤ e.prev = step_back log first p own backup n e q t in
+        let w = walk_from (from - (count + 1)) log first p own backup e.prev in
         let l : count + suc (length w.chain) ≡ count + 1 + length w.chain = omega arith in
         record {
           room = omega (arith, d.room);
           low = λ z. absurd (omega arith);
-          same = left_is (Read prev false) (omega arith) e ∙ ap (λ (k : ℕ). record { stop = w.stop; count = k }) l;
+          same =
+              left_is (Ok e) (omega arith) q
+              ∙ rw t (ap {B = Traced} (λ (k : ℕ). record { stop = w.stop; count = k }) l);
         }
 
     -- a format: the walk's end
-    pub down-format : (prev : ℕ) (format : Bool) → step_of log first p own backup n ≡ Read prev format → format ≡ true
+    pub down-format : (e : LogRecord) → step_of log first p own backup n ≡ Ok e → is_format e ≡ true
         → ◌≡◌ {A = Traced} (record { stop = Format; count = count + 1 }) (counted (walk_from from log first p own backup from))
-    down-format prev format q t =
-        let e : step_of log first p own backup n ≡ Read prev true = q ∙ ap (Read prev) t in
-        let f : prev < n = step_falls log first p own backup n prev true e in
-        sym (left_is (Read prev true) (omega arith) e)
+    down-format e q t =
+        let f : e.prev < n = step_falls log first p own backup n e q in
+        sym (left_is (Ok e) (omega arith) q ∙ rw t refl)
 
     -- the walk halts
-    pub down-halt : (s : Stop) → step_of log first p own backup n ≡ Halt s
+    pub down-halt : (s : Stop) → step_of log first p own backup n ≡ Err s
         → ◌≡◌ {A = Traced} (record { stop = s; count = count }) (counted (walk_from from log first p own backup from))
     down-halt s e = ap (λ (k : ℕ). record { stop = s; count = k }) (sym (add-zero count)) ∙ sym (go n refl)
       where
@@ -95,13 +95,13 @@ module _ (log : ℕ → List ℕ) (first p own backup from : ℕ) where
         go zero z =
             let f : from ≡ 0 = d.low z in
             let b : from - count ≡ 0 = omega arith in
-            let t : Halt Broken ≡ Halt s = sym (step-zero log first p own backup) ∙ ap (step_of log first p own backup) (sym z) ∙ e in
+            let t : ◌≡◌ {A = Result LogRecord Stop} (Err Broken) (Err s) = sym (step-zero log first p own backup) ∙ ap (step_of log first p own backup) (sym z) ∙ e in
             let q : Broken ≡ s = cc in
             d.same
             ∙ ap (λ (k : ℕ). passed count (walk_from k log first p own backup n)) b
             ∙ ap (passed count) (walk_none log first p own backup n)
             ∙ ap (λ (k : Stop). passed count (stop_at k [])) q
-        go (suc m) z = left_is (Halt s) (omega arith) e
+        go (suc m) z = left_is (Err s) (omega arith) e
 
 -- ---- the chain
 
@@ -115,47 +115,46 @@ walk-chain log first p own backup (suc f) n h =
   where
     go : ((q : ℕ) → 1 ≤ q
         → (walk_from f log first p own backup q).chain ≡ chain_from (length (walk_from f log first p own backup q).chain) log q)
-        → (s : Step) → step_of log first p own backup n ≡ s
+        → (s : Result LogRecord Stop) → step_of log first p own backup n ≡ s
         → (follow s n (λ q. walk_from f log first p own backup q)).chain
         ≡ chain_from (length (follow s n (λ q. walk_from f log first p own backup q)).chain) log n
-    go ih (Halt s) e = refl
-    go ih (Read prev true) e = refl
-    go ih (Read prev false) e =
-        let r = step-reads log first p own backup n prev false e in
-        ap (λ (l : List ℕ). n ∷ l) (ih prev (step_back log first p own backup n prev e)
-        ∙ ap (chain_from (length (walk_from f log first p own backup prev).chain) log) (sym r.prev-is))
+    go ih (Err s) q = refl
+    go ih (Ok e) q =
+        by_cases (is_format e) (λ t. rw t refl)
+        (λ t. rw t (let r = step-reads log first p own backup n e q in
+        ap (λ (l : List ℕ). n ∷ l) (ih e.prev (step_back log first p own backup n e q t)
+        ∙ ap (λ (k : LogRecord). chain_from (length (walk_from f log first p own backup e.prev).chain) log k.prev) (sym r.read-is))))
 
 -- the numbers of a chain as a loop collects them: i stand in the front of lsns, and the next is n
-pub record Collected (log : ℕ → List ℕ) (top count : ℕ) (lsns : List ℕ) (n i : ℕ) : Type 0 where
-  pub below : i ≤ count
-  pub room : count ≤ length lsns
-  pub same : take i lsns ++ chain_from (count - i) log n ≡ chain_from count log top
+pub record Collected (log : ℕ → List ℕ) (top : ℕ) (lsns : List ℕ) (n i : ℕ) : Type 0 where
+  pub below : i ≤ length lsns
+  pub same : take i lsns ++ chain_from (length lsns - i) log n ≡ chain_from (length lsns) log top
 
-module _ (log : ℕ → List ℕ) (top count : ℕ) where
-  pub collected-none : (lsns : List ℕ) → count ≤ length lsns → Collected log top count lsns top 0
-  collected-none lsns h = record { below = omega arith; room = h; same = (let z : count - 0 ≡ count = omega arith in rw z) }
+module _ (log : ℕ → List ℕ) (top : ℕ) where
+  pub collected-none : (lsns : List ℕ) → Collected log top lsns top 0
+  collected-none lsns = record { below = omega arith; same = (let z : length lsns - 0 ≡ length lsns = omega arith in rw z) }
 
-  pub collected-on : (lsns : List ℕ) (n i m : ℕ) → Collected log top count lsns n i → i < count → m ≡ (record_of (log n)).prev
-      → length (set lsns i n) ≡ length lsns → Collected log top count (set lsns i n) m (i + 1)
+  pub collected-on : (lsns : List ℕ) (n i m : ℕ) → Collected log top lsns n i → i < length lsns → m ≡ (record_of (log n)).prev
+      → Collected log top (set lsns i n) m (i + 1)
   unfolding chain_from
-  collected-on lsns n i m c h em l =
-      let k : count - i ≡ suc (count - (i + 1)) = omega arith in
-      let t : take (i + 1) (set lsns i n) ≡ take i lsns ++ (n ∷ []) = rw (add-one, take-suc-set lsns i n (omega (arith, c.room))) in
+  collected-on lsns n i m c h em =
+      let l : length (set lsns i n) ≡ length lsns = length-set lsns i n in
+      let k : length lsns - i ≡ suc (length lsns - (i + 1)) = omega (arith, h) in
+      let t : take (i + 1) (set lsns i n) ≡ take i lsns ++ (n ∷ []) = rw (add-one, take-suc-set lsns i n h) in
       record {
-        below = omega arith;
-        room = omega (arith, c.room);
+        below = omega (arith, l, h);
         same =
-            ap (λ (x : List ℕ). x ++ chain_from (count - (i + 1)) log m) t
-            ∙ append_assoc (take i lsns) (n ∷ []) (chain_from (count - (i + 1)) log m)
-            ∙ ap (λ (x : ℕ). take i lsns ++ (n ∷ chain_from (count - (i + 1)) log x)) em
+            rw l (ap (λ (x : List ℕ). x ++ chain_from (length lsns - (i + 1)) log m) t
+            ∙ append_assoc (take i lsns) (n ∷ []) (chain_from (length lsns - (i + 1)) log m)
+            ∙ ap (λ (x : ℕ). take i lsns ++ (n ∷ chain_from (length lsns - (i + 1)) log x)) em
             ∙ ap (λ (x : ℕ). take i lsns ++ chain_from x log n) (sym k)
-            ∙ c.same;
+            ∙ c.same);
       }
 
-  pub collected-all : (lsns : List ℕ) (n i : ℕ) → Collected log top count lsns n i → count ≤ i → take count lsns ≡ chain_from count log top
+  pub collected-all : (lsns : List ℕ) (n i : ℕ) → Collected log top lsns n i → length lsns ≤ i → lsns ≡ chain_from (length lsns) log top
   unfolding chain_from
   collected-all lsns n i c h =
-      let e : i ≡ count = omega (arith, c.below) in
-      let z : count - i ≡ 0 = omega arith in
-      ap (λ (x : ℕ). take x lsns) (sym e) ∙ sym (append-nil (take i lsns))
+      let e : i ≡ length lsns = omega (arith, c.below) in
+      let z : length lsns - i ≡ 0 = omega arith in
+      sym (take-length lsns) ∙ ap (λ (x : ℕ). take x lsns) (sym e) ∙ sym (append-nil (take i lsns))
       ∙ ap (λ (x : ℕ). take i lsns ++ chain_from x log n) (sym z) ∙ c.same

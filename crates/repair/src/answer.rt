@@ -13,9 +13,7 @@ fn start(stop: Stop) -> Start
     match stop {
         Stop::Own => Start::Own,
         Stop::Backup => Start::Backup,
-        Stop::Format => Start::Format,
-        Stop::Broken => Start::Format,
-        Stop::Below => Start::Format,
+        Stop::Format | Stop::Broken | Stop::Below => Start::Format,
     }
 }
 
@@ -24,12 +22,9 @@ fn start(stop: Stop) -> Start
 pub fn answer(w: Walked) -> Repair
     ensures { result ≡ repair_as w }
 {
-    let class = w.class;
-    let stop = w.stop;
-    let start = start(stop);
     Repair {
-        class,
-        start,
+        class: w.class,
+        start: start(w.stop),
         count: w.count,
     }
 }

@@ -1,28 +1,18 @@
 // The chain walk: from the newest durable number down, to the page's own image, the noted backup or a format; or below
 // the run.
-ghost use Rattle.std.specs.Prelude.{◌≡◌, true, false, cond, ◌&&◌, ◌||◌, ◌≤◌, eqb, length};
-ghost use Rattle.model.specs.Geometry.{geometry_of, valid_volume};
+ghost use Rattle.std.specs.Prelude.{◌≡◌, true, false, cond, ◌&&◌, ◌≤◌, eqb};
 ghost use Rattle.model.specs.Item.{image_lsn, valid_image};
-ghost use Rattle.model.specs.Repair.{view_of, backup_start, chain_record, walk_from, is_broken, is_below};
-ghost use Rattle.repair.specs.Walked.{Ready, Whole, Sound, log_of, counted, walked_of, step_of};
+ghost use Rattle.model.specs.Repair.{backup_start, chain_record, walk_from, is_broken, is_below};
+ghost use Rattle.repair.specs.Walked.{Whole, Sound, log_of, counted, view_for, walked_for, step_of};
 
-use crate::class;
+use crate::{Target, class};
 use codec::field;
 use item::{image, record};
 use model::answer::{Class, Stop};
 use model::geometry::Geometry;
-use model::state::Entry;
+use model::item::LogRecord;
 use sums::checksum;
-use volume::{Volume, place};
-
-// A page that is repaired: its volume's geometry and run start, its entry of the index, and its number.
-#[derive(Clone, Copy)]
-pub struct Target {
-    pub g: Geometry,
-    pub first: u64,
-    pub entry: Entry,
-    pub page: u32,
-}
+use volume::Volume;
 
 // What a walk goes by: the run start, the page, the numbers at which it may stop at the own image and at the backup (0
 // is none), and whether it is sure that the walk is not broken, so that no record is tested.
@@ -33,13 +23,6 @@ pub struct Course {
     pub own: u32,
     pub backup: u32,
     pub sure: bool,
-}
-
-// What the walk finds at a number: it halts there, or it reads the record, which names the one before it.
-#[derive(Clone, Copy)]
-pub enum Step {
-    Halt(Stop),
-    Read { prev: u32, format: bool },
 }
 
 // Where a walk stopped, and how many records are to be replayed.
@@ -77,7 +60,7 @@ pub fn numbered(g: Geometry, page: u32, n: u32, x: &[u8]) -> bool
     judge(g, page, x)
 }
 
-// The number at which the walk may stop at an own image of number n; 0 is none.
+// The number at which the walk may stop at an own image of number n; 0 is none, as `walk_from` takes it.
 pub fn own_number(valid: bool, n: u32) -> u32
     ensures { result ≡ cond valid n 0 }
 {
@@ -85,68 +68,51 @@ pub fn own_number(valid: bool, n: u32) -> u32
 }
 
 // The number at which the walk may stop at the noted backup; 0 is none, and slot 0 is no backup.
-fn backup_number(volume: &[u8], g: Geometry, first: u64, e: Entry, page: u32) -> u32
-    requires { Ready volume.now g first e page }
-    ensures { result ≡ backup_start g page (view_of g volume.now first e page) }
+fn backup_number(t: &Target<'_>) -> u32
+    ensures { result ≡ backup_start t.now.volume.geometry t.now.page (view_for t.now) }
 {
-    let slot = e.slot as u32;
-    if slot == 0 {
+    let e = t.entry;
+    if e.slot == 0 {
         return 0;
     }
-    let x = place::slot(volume, g, slot);
-    let noted = numbered(g, page, e.backup, x);
+    let x = t.volume.slot(u32::from(e.slot));
+    let noted = numbered(t.volume.geometry, t.page, e.backup, x);
     if noted { e.backup } else { 0 }
 }
 
 // The walk for the page may read this record at number n.
-fn readable(page: u32, n: u32, r: &[u8]) -> bool
-    requires { 60 ≤ length r.now }
+fn readable(page: u32, n: u32, r: &[u8; 64]) -> bool
     ensures { result ≡ chain_record page n r.now }
 {
     let e = record::read(r);
-    let owner = e.page as u32;
+    let owner = u32::from(e.page);
     let linked = (e.prev < n) & ((e.kind == 1) | (1 <= e.prev));
     checksum::holds(r, 60) & ((e.lsn == n) & ((owner == page) & (record::layout(r) & linked)))
 }
 
-// The walk goes on at a record: it may read it, which need not be tested where it is sure.
-fn passes(sure: bool, page: u32, n: u32, r: &[u8]) -> bool
-    requires { 60 ≤ length r.now }
-    ensures { result ≡ (sure || chain_record page n r.now) }
-{
-    if sure {
-        return true;
-    }
-    readable(page, n, r)
-}
-
-// The walk's step at number n: own image, else the backup, else the record, where the run holds it.
-fn look(volume: &[u8], g: Geometry, c: Course, n: u32) -> Step
-    requires volume_value { (valid_volume volume.now ≡ true) × (g ≡ geometry_of volume.now) }
-    requires sound { c.sure ≡ true → Sound (log_of g volume.now) c.first c.page c.own c.backup n }
-    ensures { result ≡ step_of (log_of g volume.now) c.first c.page c.own c.backup n }
+// The walk's step at number n: own image, else the backup, else the record, where the run holds it; where the walk is
+// sure, the record is not tested.
+fn look(v: &Volume<'_>, c: Course, n: u32) -> Result<LogRecord, Stop>
+    requires { c.sure ≡ true → Sound (log_of v.now.geometry v.now.bytes.now) c.first c.page c.own c.backup n }
+    ensures { result ≡ step_of (log_of v.now.geometry v.now.bytes.now) c.first c.page c.own c.backup n }
 {
     if n == 0 {
-        return Step::Halt(Stop::Broken);
+        return Err(Stop::Broken);
     }
     if c.own == n {
-        return Step::Halt(Stop::Own);
+        return Err(Stop::Own);
     }
     if c.backup == n {
-        return Step::Halt(Stop::Backup);
+        return Err(Stop::Backup);
     }
-    if (n as u64) < c.first {
-        return Step::Halt(Stop::Below);
+    if u64::from(n) < c.first {
+        return Err(Stop::Below);
     }
-    let r = place::record(volume, g, n);
-    if !passes(c.sure, c.page, n, r) {
-        return Step::Halt(Stop::Broken);
+    let r = v.record(n);
+    if c.sure || readable(c.page, n, r) {
+        return Ok(record::read(r));
     }
-    let e = record::read(r);
-    Step::Read {
-        prev: e.prev,
-        format: e.kind == 1,
-    }
+    Err(Stop::Broken)
 }
 
 // The chain walk from a number down.
@@ -161,14 +127,14 @@ pub fn trace(v: &Volume<'_>, c: Course, from: u32) -> Traced
     let mut n = from;
     let mut count: u32 = 0;
     let stop = loop {
-        match look(volume, g, c, n) {
-            Step::Halt(s) => break s,
-            Step::Read { prev, format } => {
+        match look(v, c, n) {
+            Err(stop) => break stop,
+            Ok(e) => {
                 count += 1;
-                if format {
+                if e.kind == 1 {
                     break Stop::Format;
                 }
-                n = prev;
+                n = e.prev;
             }
         }
     };
@@ -176,64 +142,48 @@ pub fn trace(v: &Volume<'_>, c: Course, from: u32) -> Traced
 }
 
 // The chain walk, from the newest durable number down; the own image is judged once, for the walk and for its class.
-fn descend(volume: &[u8], g: Geometry, first: u64, e: Entry, page: u32, sure: bool) -> Walked
-    requires ready { Ready volume.now g first e page }
-    requires whole { sure ≡ true → Whole g page (view_of g volume.now first e page) }
-    ensures { result ≡ walked_of g page (view_of g volume.now first e page) }
+fn descend(t: &Target<'_>, sure: bool) -> Walked
+    requires { sure ≡ true → Whole t.now.volume.geometry t.now.page (view_for t.now) }
+    ensures { result ≡ walked_for t.now }
 {
-    let x = place::page(volume, g, page);
-    let valid = judge(g, page, x);
+    let e = t.entry;
+    let x = t.volume.page(t.page);
+    let valid = judge(t.volume.geometry, t.page, x);
     let n = image::lsn(x);
     let own = own_number(valid, n);
-    let backup = backup_number(volume, g, first, e, page);
+    let backup = backup_number(t);
     let c = Course {
-        first,
-        page,
+        first: t.first,
+        page: t.page,
         own,
         backup,
         sure,
     };
-    let t = trace(volume, g, c, e.durable);
+    let found = trace(&t.volume, c, e.durable);
     let class = class::class(valid, n, e.durable, e.written);
-    let stop = t.stop;
     Walked {
-        stop,
-        count: t.count,
+        stop: found.stop,
+        count: found.count,
         class,
     }
 }
 
 // The chain walk on any volume: each record is tested. Ruled out: an older own image, or the backup, taken at a number
 // that is not its own (both tried); a format left out of the count.
-pub fn walk(volume: &[u8], g: Geometry, first: u64, e: Entry, page: u32) -> Walked
-    requires { Ready volume.now g first e page }
-    ensures { result ≡ walked_of g page (view_of g volume.now first e page) }
+pub fn walk(t: &Target<'_>) -> Walked
+    ensures { result ≡ walked_for t.now }
 {
-    descend(volume, g, first, e, page, false)
+    descend(t, false)
 }
 
-// The chain walk after a clean scan, which tested each record: no sum is taken again.
+// The chain walk after a clean scan, which tested each record: no sum is taken again. A name of its own, so that a call
+// says whether records are tested; the walk is one, `descend`.
 // Ruled out: what `walk` rules out; the records of a volume that was not scanned trusted (tried).
-pub fn follow(volume: &[u8], g: Geometry, first: u64, e: Entry, page: u32) -> Walked
-    requires ready { Ready volume.now g first e page }
-    requires whole { Whole g page (view_of g volume.now first e page) }
-    ensures { result ≡ walked_of g page (view_of g volume.now first e page) }
+pub fn follow(t: &Target<'_>) -> Walked
+    requires { Whole t.now.volume.geometry t.now.page (view_for t.now) }
+    ensures { result ≡ walked_for t.now }
 {
-    descend(volume, g, first, e, page, true)
-}
-
-// The walk met a record that it may not read.
-// Ruled out: no walk broken; a walk to a format taken as broken.
-pub fn broken(stop: Stop) -> bool
-    ensures { result ≡ is_broken stop }
-{
-    match stop {
-        Stop::Own => false,
-        Stop::Backup => false,
-        Stop::Format => false,
-        Stop::Broken => true,
-        Stop::Below => false,
-    }
+    descend(t, true)
 }
 
 // The walk went below the run.
@@ -241,11 +191,5 @@ pub fn broken(stop: Stop) -> bool
 pub fn below(stop: Stop) -> bool
     ensures { result ≡ is_below stop }
 {
-    match stop {
-        Stop::Own => false,
-        Stop::Backup => false,
-        Stop::Format => false,
-        Stop::Broken => false,
-        Stop::Below => true,
-    }
+    stop == Stop::Below
 }

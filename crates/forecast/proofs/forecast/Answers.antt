@@ -1,17 +1,19 @@
 -- `forecast::forecast` is its definition: the laws of Outcomes.antt say what each case is.
-use Rattle.forecast.proofs.Outcomes.{refused, indexed, done}
+use mathlib.Core.Path.{sym}
+use Rattle.reports_laws.proofs.Forecast.{scanned}
+use Rattle.repair.proofs.Rows.{refusal-some}
+use Rattle.forecast.proofs.Outcomes.{refused, restarts, indexed, done}
 use Rattle.forecast.proofs.forecast.Goals as goal
 
-pub returns-then-no-ne0 : goal.returns-then-no-ne0
-returns-then-no-ne0 c = refused _ _ c.scan-scanned.ensures.refusal c.if-no-ne0.true
+pub of-v-requires : goal.of-v-requires
+of-v-requires c = (scanned c.args.volume.now (restarts _ (sym c.in-Ok.ensures.refusal))).volume
 
 pub rows-requires : goal.rows-requires
-rows-requires c =
-    let s = c.scan-scanned in
-    indexed _ s.result _ s.ensures.refusal s.ensures.clean c.if-no-ne0.false c.geometry-g.ensures
+rows-requires c = indexed c.args.volume.now c.of-v.result c.of-v.ensures c.in-Ok.scanned c.in-Ok.ensures.refusal c.in-Ok.ensures.clean
 
-pub returns : goal.returns
-returns c =
-    let s = c.scan-scanned in
-    done _ s.result _ _ s.ensures.refusal s.ensures.clean c.if-no-ne0.false
-    c.geometry-g.ensures c.rows.ensures
+pub returns-in-Err : goal.returns-in-Err
+returns-in-Err c = rw c.from.ensures (refused _ _ c.in-Err.ensures.refusal (refusal-some _))
+
+pub returns-in-Ok : goal.returns-in-Ok
+returns-in-Ok c =
+    done c.args.volume.now c.of-v.result c.of-v.ensures c.in-Ok.scanned c.in-Ok.ensures.refusal c.in-Ok.ensures.clean _ c.rows.ensures

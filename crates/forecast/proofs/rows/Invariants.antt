@@ -1,13 +1,9 @@
 -- `forecast::rows` meets its contract: the loop fills the table row by row.
-use Prim.Native.Nat.{suc, ◌-◌, ◌≤◌}
+use Prim.Native.Nat.{suc}
 use Rattle.reports.specs.Forecast.{counted}
 use Rattle.forecast.specs.Figures.{figure_for}
 use Rattle.forecast.proofs.Fills.{Filling}
 use Rattle.forecast.proofs.rows.Given as goal
 
 abbrev pub invariant-loop-i : goal.invariant-loop-i
-invariant-loop-i l =
-    (l.i ≤ l.count) × Filling (λ k. figure_for l.g l.volume l.first l.index (suc k)) (counted 0) 64 l.pages l.i
-
-abbrev pub decreases-loop-i : goal.decreases-loop-i
-decreases-loop-i l = l.count - l.i
+invariant-loop-i l = Filling (λ k. figure_for l.v.geometry l.v.bytes.now l.first l.index (suc k)) (counted 0) 64 l.pages l.i

@@ -1,53 +1,53 @@
 -- `load::load` is its definition: the laws of Outcomes.antt say what each case is.
-use mathlib.Core.Path.{refl, sym, ◌∙◌}
-use Rattle.state.proofs.Slots.{any_memory}
-use Rattle.load.proofs.Outcomes.{refused, Open, opened, stopped, done}
-use Rattle.load.proofs.load.Goals.{After-entry-e}
+use mathlib.Core.Path.{◌≡◌, refl, sym}
+use mathlib.Core.Bool.{not}
+use borrow.Author.Rules.{rules}
+use Rattle.model.specs.Effects.{is_good}
+use Rattle.model.specs.Outcome.{reply_of}
+use Rattle.model.specs.Calls.{load_of}
+use Rattle.model.specs.declared.answer.Reply.{Reply}
+use Rattle.model.specs.declared.answer.Answer.TheVariants.{Repaired}
+use Rattle.repair.proofs.Rows.{refusal-some}
+use Rattle.load.proofs.Rows.{early-none}
+use Rattle.load.proofs.Outcomes.{Open, opened, refused, done}
+use Rattle.load.proofs.load.Goals.{In-Ok, After-loaded}
 use Rattle.load.proofs.load.Goals as goal
 
--- past the rows before the walk: what that tells
-known : (c : goal.After-entry-e) → Open c.args.volume.now
-    c.args.memory.now c.args.s c.args.page c.args.frame c.geometry-g.result c.entry-e.result
-known c =
-    opened _ _ _ _ _ _ _ c.geometry-g.ensures c.entry-e.ensures
-    (sym (c.refusal-no.ensures c.args.memory.now refl) ∙ c.if-no-ne0.false)
+-- past the rows before the walk
+past : (c : In-Ok) → Open c.args.volume.now c.args.memory.now c.args.s c.args.page c.args.frame
+past c =
+    let a = c.args in
+    opened a.volume.now a.memory.now a.s a.page a.frame
+    (early-none a.volume.now a.memory.now a.s a.page a.frame (sym (c.in-Ok.ensures.refusal a.memory.now refl)))
 
-pub refusal-no-requires : goal.refusal-no-requires
-refusal-no-requires c = any_memory _ c.args.memory.now _ _ c.requires
+pub returns-in-Err-clause-reply : goal.returns-in-Err-clause-reply
+returns-in-Err-clause-reply c =
+    (refused _ _ _ _ _ _ _ c.from.ensures (c.in-Err.ensures.refusal c.args.memory.now refl) (refusal-some _)).0
 
-pub returns-then-no-ne0 : goal.returns-then-no-ne0
-returns-then-no-ne0 c =
-    let k = refused c.args.volume.now c.args.memory.now c.args.s c.args.page c.args.frame _
-    (c.refusal-no.ensures c.args.memory.now refl) c.if-no-ne0.true in
-    record { reply = k.0; memory = k.1 }
-
-pub first-first-requires : goal.first-first-requires
-first-first-requires c = (known c).sized
-
-pub walk-walked-requires : goal.walk-walked-requires
-walk-walked-requires c = (known (goal.at.walk-walked-requires c).After-entry-e).ready _ c.first-first.ensures
-
-pub returns-then-stopped-ne0 : goal.returns-then-stopped-ne0
-returns-then-stopped-ne0 c =
-    let k = stopped _ _ _ _ _ _ _ (known (goal.at.returns-then-stopped-ne0 c).After-entry-e) _ c.first-first.ensures _ _
-    c.walk-walked.ensures c.walk_refusal-stopped.ensures c.if-stopped-ne0.true in
-    record { reply = k.0; memory = k.1 }
+pub returns-in-Err-clause-memory : goal.returns-in-Err-clause-memory
+returns-in-Err-clause-memory c =
+    (refused _ _ _ _ _ _ _ c.from.ensures (c.in-Err.ensures.refusal c.args.memory.now refl) (refusal-some _)).1
 
 pub restore-repair-requires : goal.restore-repair-requires
-restore-repair-requires c = let k = known (goal.at.restore-repair-requires c).After-entry-e in
-    record { ready_for = k.ready _ c.first-first.ensures; w_value = (c.walk-walked.ensures, k.room) }
+restore-repair-requires c =
+    (c.in-Ok.ensures.found.walked, (past (goal.at.restore-repair-requires c).In-Ok).room)
 
 pub loaded-requires : goal.loaded-requires
-loaded-requires c = let k = known (goal.at.loaded-requires c).After-entry-e in
-    (k.page-high, k.frame-low, k.frame-high)
+loaded-requires c =
+    let o = past (goal.at.loaded-requires c).In-Ok in
+    (o.page-high, o.frame-low, o.frame-high)
 
-pub returns : goal.returns
-returns c =
-    let k = done _ _ _ _ _ _ _ (known (goal.at.returns c).After-entry-e) _
-    c.first-first.ensures _ _ _ _ _ _
-    c.walk-walked.ensures
-    c.walk_refusal-stopped.ensures
-    c.if-stopped-ne0.false
-    c.restore-repair.ensures.answer c.restore-repair.ensures.memory
-    c.clean-dirty.ensures c.loaded.ensures in
-    record { reply = k.0; memory = k.1 }
+-- what the call leaves
+left : (c : After-loaded) → ◌≡◌ {A = Reply} (record { answer = Repaired c.restore-repair.result; state = c.loaded.result })
+    (reply_of (load_of c.args.volume.now c.args.memory.now c.args.s c.args.page c.args.frame))
+    × (c.restore-repair.new.memory ≡ (load_of c.args.volume.now c.args.memory.now c.args.s c.args.page c.args.frame).memory)
+left c =
+    let dirty : c.ne-dirty.result ≡ not (is_good c.restore-repair.result.class) = search rules in
+    done _ _ _ _ _ _ _ c.in-Ok.ensures.found (c.in-Ok.ensures.refusal c.args.memory.now refl) _ _ _ _
+    c.restore-repair.ensures.answer c.restore-repair.ensures.memory dirty c.loaded.ensures
+
+pub returns-clause-reply : goal.returns-clause-reply
+returns-clause-reply c = (left (goal.at.returns-clause-reply c).After-loaded).0
+
+pub returns-clause-memory : goal.returns-clause-memory
+returns-clause-memory c = (left (goal.at.returns-clause-memory c).After-loaded).1

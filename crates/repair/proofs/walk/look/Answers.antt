@@ -1,9 +1,7 @@
 -- `repair::walk::look` meets its contract: one law of Links for each answer.
-use mathlib.Core.Path.{ap}
-use lib.ListN.{length}
-use native.Mathlib.Omega.{arith}
-use Rattle.repair.proofs.Links.{step-none, step-own, step-copy, step-below, step-broken, step-read}
-use Rattle.repair.proofs.Starts.{sized, record-fits, record-length}
+use mathlib.Core.Path.{sym, ◌∙◌}
+use Rattle.repair.proofs.Links.{step-none, step-own, step-copy, step-below, step-broken, step-read, sound-read}
+use Rattle.repair.proofs.walk.look.Goals.{then-c-via-then-c, then-c-via-else-c+then-readable}
 use Rattle.repair.proofs.walk.look.Goals as goal
 
 pub returns-then-n-eq0 : goal.returns-then-n-eq0
@@ -15,34 +13,21 @@ returns-then-c-n c = step-own _ _ _ _ _ _ c.if-n-eq0.false c.if-c-n.true
 pub returns-then-c-n-2 : goal.returns-then-c-n-2
 returns-then-c-n-2 c = step-copy _ _ _ _ _ _ c.if-n-eq0.false c.if-c-n.false c.if-c-n-2.true
 
-pub returns-then-n-c : goal.returns-then-n-c
-returns-then-n-c c =
-    step-below _ _ _ _ _ _ c.if-n-eq0.false
-    c.if-c-n.false c.if-c-n-2.false c.if-n-c.true
+pub returns-then-from-c : goal.returns-then-from-c
+returns-then-from-c c =
+    step-below _ _ _ _ _ _ c.if-n-eq0.false c.if-c-n.false c.if-c-n-2.false (rw c.from.ensures at c.if-from-c.true)
 
-pub record-r-requires : goal.record-r-requires
-record-r-requires c =
-    let h = c.requires.volume_value in
-    ((sized _ _ h.0 h.1).some, record-fits _ _ h.0 h.1 _)
-
-pub passes-requires : goal.passes-requires
-passes-requires c =
-    let s = c in
-    let h = s.requires.volume_value in
-    omega (arith, ap length c.record-r.ensures, record-length _ _ h.0 h.1 s.args.n)
-
-pub returns-then-not-passes : goal.returns-then-not-passes
-returns-then-not-passes c =
-    let s = c in
-    step-broken _ _ _ _ _ _ c.if-n-eq0.false
-    c.if-c-n.false
-    c.if-c-n-2.false c.if-n-c.false _ c.record-r.ensures _
-    s.requires.sound _ c.passes.ensures c.if-not-passes.true
+pub returns-then-c : goal.returns-then-c
+returns-then-c c =
+    let held = rw c.from.ensures at c.if-from-c.false in
+    step-read _ _ _ _ _ _ c.if-n-eq0.false c.if-c-n.false c.if-c-n-2.false held _ c.record-r.ensures _ c.read.ensures
+    (elim c.then-c.branch [
+      | then-c-via-then-c w ↦
+          sound-read _ _ _ _ _ _ c.if-n-eq0.false c.if-c-n.false c.if-c-n-2.false held _ c.record-r.ensures (c.requires w.if-c.true)
+      | then-c-via-else-c+then-readable w ↦ sym w.readable.ensures ∙ w.if-readable.true
+    ])
 
 pub returns : goal.returns
 returns c =
-    let s = c in
-    step-read _ _ _ _ _ _ c.if-n-eq0.false c.if-c-n.false
-    c.if-c-n-2.false c.if-n-c.false _
-    c.record-r.ensures _ s.requires.sound _ c.passes.ensures
-    _ c.read-e.ensures c.if-not-passes.false
+    step-broken _ _ _ _ _ _ c.if-n-eq0.false c.if-c-n.false c.if-c-n-2.false (rw c.from.ensures at c.if-from-c.false) _
+    c.record-r.ensures (sym c.readable.ensures ∙ c.if-readable.false)

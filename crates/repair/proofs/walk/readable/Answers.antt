@@ -4,5 +4,4 @@ use Rattle.repair.proofs.walk.readable.Goals as goal
 
 pub returns : goal.returns
 unfolding chain_record
-returns c =
-    rw (c.layout.ensures, c.holds.ensures, c.read-e.ensures)
+returns c = rw (c.layout.ensures, c.holds.ensures, c.from-owner.ensures, c.read-e.ensures)

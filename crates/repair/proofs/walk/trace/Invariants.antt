@@ -3,8 +3,8 @@ use Rattle.repair.specs.Walked.{log_of}
 use Rattle.repair.proofs.Walks.{Down}
 use Rattle.repair.proofs.walk.trace.Given as goal
 
-abbrev pub invariant-loop-s : goal.invariant-loop-s
-invariant-loop-s l = Down (log_of l.g l.volume) l.c.first l.c.page l.c.own l.c.backup l.initial.n l.n l.count
+abbrev pub invariant-loop-stop : goal.invariant-loop-stop
+invariant-loop-stop l = Down (log_of l.v.geometry l.v.bytes.now) l.c.first l.c.page l.c.own l.c.backup l.initial.n l.n l.count
 
-abbrev pub decreases-loop-s : goal.decreases-loop-s
-decreases-loop-s l = l.n
+abbrev pub decreases-loop-stop : goal.decreases-loop-stop
+decreases-loop-stop l = l.n
