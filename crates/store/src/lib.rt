@@ -14,8 +14,8 @@ ghost use Rattle.model.specs.Tables.{first_of};
 ghost use Rattle.store.specs.Store.{wrapped, performed};
 ghost use Rattle.model.specs.declared.geometry.Heading.TheVariants.{First, Second};
 ghost use Rattle.model.specs.Outcome.{reply_of, volume_after};
-ghost use Rattle.model.specs.Calls.{begin_of, load_of, change_call, force_of, write_of, backup_of, release_of, note_call};
-ghost use Rattle.model.specs.Calls.{start_carry_of, restamp_of, finish_carry_of};
+ghost use Rattle.model.specs.Calls.{begin_of, load_of, change_call, force_of, write_of, backup_of, release_of};
+ghost use Rattle.model.specs.Calls.{note_call, start_carry_of, restamp_of, finish_carry_of};
 ghost use Rattle.model.specs.Restart.{make_of, restart_of, inspect_of};
 
 use model::answer::{Answer, Refusal, Reply};

@@ -1,5 +1,6 @@
 -- `force::force` is its definition: the laws of Outcomes.antt say what each case is.
-use mathlib.Core.Path.{◌≡◌, sym, ◌∙◌}
+use mathlib.Core.Path.{◌≡◌, sym, ap, ◌∙◌}
+use Rattle.model.specs.Refused.{error_number}
 use mathlib.Core.List.{[]}
 use native.Mathlib.Omega.{arith}
 use Rattle.model.specs.Tables.{first_of}
@@ -11,18 +12,18 @@ use Rattle.force.proofs.force.Goals as goal
 
 pub returns-in-Err : goal.returns-in-Err
 returns-in-Err c =
-    let k = force-refused _ _ _ _ (rw c.in-Err.is at c.requires) (number-some _) in
+    let k = force-refused _ _ _ _ (sym (ap error_number c.in-Err.is) ∙ c.requires) (number-some _) in
     record { reply = c.refused.ensures ∙ k.0; volume = k.1 }
 
 pub returns-then-s-eq0 : goal.returns-then-s-eq0
 returns-then-s-eq0 c =
-    let k = force-idle _ _ _ (sym (rw c.in_default.is at c.requires)) c.if-s-eq0.true in
+    let k = force-idle _ _ _ (sym c.requires ∙ ap error_number c.in_default.is) c.if-s-eq0.true in
     record { reply = c.nothing.ensures ∙ k.0; volume = k.1 }
 
 -- past the tests: the call is not refused, a record is pending
 calm : (c : After-geometry-g) → first_of
     (state_rows c.args.volume.now c.args.memory.now c.args.s []) ≡ 0
-calm c = sym (rw c.in_default.is at c.requires)
+calm c = sym c.requires ∙ ap error_number c.in_default.is
 
 -- and the parts are within the volume and the memory
 bounds : (c : After-geometry-g) → Room c.args.volume.now c.args.memory.now c.args.s

@@ -1,5 +1,6 @@
 -- `persist::note::note` is its definition: the laws of Outcomes.antt say what each case is.
-use mathlib.Core.Path.{◌≡◌, sym, ◌∙◌}
+use mathlib.Core.Path.{◌≡◌, sym, ap, ◌∙◌}
+use Rattle.model.specs.Refused.{error_number}
 use mathlib.Core.List.{[]}
 use native.Mathlib.Omega.{arith}
 use Rattle.model.specs.Tables.{first_of}
@@ -13,7 +14,7 @@ use Rattle.persist.proofs.note.note.Goals as goal
 
 -- past the test: rows 1 and 2 do not hold
 none : (c : In_default) → first_of (state_rows c.args.volume.now c.args.memory.now c.args.s []) ≡ 0
-none c = sym (rw c.in_default.is at c.requires)
+none c = sym c.requires ∙ ap error_number c.in_default.is
 
 -- a note is pending
 known : (c : After-geometry-g) → first_of (state_rows c.args.volume.now c.args.memory.now c.args.s []) ≡ 0
@@ -22,7 +23,7 @@ known c e = note-room c.args.volume.now c.args.memory.now c.args.s _ _ c.geometr
 
 pub returns-in-Err : goal.returns-in-Err
 returns-in-Err c =
-    let k = note-refused c.args.volume.now c.args.memory.now c.args.s _ (rw c.in-Err.is at c.requires) (number-some _) in
+    let k = note-refused c.args.volume.now c.args.memory.now c.args.s _ (sym (ap error_number c.in-Err.is) ∙ c.requires) (number-some _) in
     record { reply = c.refused.ensures ∙ k.0; volume = k.1 }
 
 pub returns-in_default-note : goal.returns-in_default-note
