@@ -12,18 +12,20 @@ use Rattle.laws.proofs.Tables.{by_cases, when_true, when_false}
 use Rattle.laws.proofs.Gives.{Gives, gives-is, refused, passed, idle}
 use Rattle.laws.proofs.Parts.{put_item, part-lent, part_length}
 use Rattle.laws.proofs.Items.{seal_image-length}
-use Rattle.model.specs.Tables.{first_of}
+use Rattle.model.specs.Tables.{Row, first_of}
+use Rattle.model.specs.Refused.{refusal_number}
 use Rattle.model.specs.Bytes.{part, splice}
 use Rattle.model.specs.Checksum.{seal_image}
 use Rattle.model.specs.Geometry.{tag_of, carry_tag, start, item, store, store_heading, geometry_of}
 use Rattle.model.specs.Passes.{image_count, image_place, first_old}
 use Rattle.model.specs.Refusals.{start_carry_rows, restamp_rows, finish_carry_rows}
-use Rattle.model.specs.Outcome.{one_item, new_heading, unchanged, decided, storing, volume_after}
+use Rattle.model.specs.Outcome.{Outcome, one_item, new_heading, unchanged, decided, storing, volume_after}
 use Rattle.model.specs.Effects.{restamp_done}
 use Rattle.model.specs.Calls.{start_carry_of, restamp_of, finish_carry_of}
-use Rattle.model.specs.declared.{geometry.Geometry.Geometry, state.State.State}
+use Rattle.model.specs.declared.{geometry.Geometry.Geometry, state.State.State, answer.Answer.Answer, answer.Refusal.Refusal}
 use Rattle.model.specs.declared.geometry.Heading.TheVariants.{First, Second}
 use Rattle.model.specs.declared.answer.Answer.TheVariants.{Refused, Nothing, Done}
+use Rattle.convert.proofs.Refused.{refusal-some}
 use Rattle.convert.proofs.Rows.{heading_rows}
 use Rattle.convert.proofs.Places.{image-read}
 
@@ -32,10 +34,16 @@ unfolding volume_after
 headed-done v m s tag w e = (refl, e)
 
 module _ (v m : List ℕ) (s : State) where
+  -- a call that its rows refuse
+  refused-by : (rows : List Row) (done : Outcome) (a : Answer) (r : Refusal) → a ≡ Refused (refusal_number r)
+      → refusal_number r ≡ first_of rows → Gives v a s v (decided rows m s done)
+  refused-by rows done a r ea e = rw ea (refused v m s rows done (refusal_number r) e (refusal-some r))
+
   -- ---- Start
-  pub start-refused : (n : ℕ) → n ≡ first_of (heading_rows (tag_of First) v m s []) → (n ≡ 0 → ⊥) → Gives v (Refused n) s v (start_carry_of v m s)
+  pub start-refused : (a : Answer) (r : Refusal) → a ≡ Refused (refusal_number r)
+      → refusal_number r ≡ first_of (heading_rows (tag_of First) v m s []) → Gives v a s v (start_carry_of v m s)
   unfolding decided start_carry_rows
-  start-refused n = refused v m s (start_carry_rows v m s) _ n
+  start-refused = refused-by (start_carry_rows v m s) _
 
   pub start-done : (w : List ℕ) → first_of (heading_rows (tag_of First) v m s []) ≡ 0 → w ≡ store_heading v carry_tag
       → Gives v Done s w (start_carry_of v m s)
@@ -43,9 +51,10 @@ module _ (v m : List ℕ) (s : State) where
   start-done w e ew = gives-is v Done s w _ _ (passed v m s (start_carry_rows v m s) _ e) (headed-done v m s carry_tag w ew)
 
   -- ---- Finish
-  pub finish-refused : (n : ℕ) → n ≡ first_of (finish_carry_rows v m s) → (n ≡ 0 → ⊥) → Gives v (Refused n) s v (finish_carry_of v m s)
+  pub finish-refused : (a : Answer) (r : Refusal) → a ≡ Refused (refusal_number r)
+      → refusal_number r ≡ first_of (finish_carry_rows v m s) → Gives v a s v (finish_carry_of v m s)
   unfolding decided
-  finish-refused n = refused v m s (finish_carry_rows v m s) _ n
+  finish-refused = refused-by (finish_carry_rows v m s) _
 
   pub finish-done : (w : List ℕ) → first_of (finish_carry_rows v m s) ≡ 0 → w ≡ store_heading v (tag_of Second)
       → Gives v Done s w (finish_carry_of v m s)
@@ -53,9 +62,10 @@ module _ (v m : List ℕ) (s : State) where
   finish-done w e ew = gives-is v Done s w _ _ (passed v m s (finish_carry_rows v m s) _ e) (headed-done v m s (tag_of Second) w ew)
 
   -- ---- Restamp
-  pub restamp-refused : (n : ℕ) → n ≡ first_of (heading_rows carry_tag v m s []) → (n ≡ 0 → ⊥) → Gives v (Refused n) s v (restamp_of v m s)
+  pub restamp-refused : (a : Answer) (r : Refusal) → a ≡ Refused (refusal_number r)
+      → refusal_number r ≡ first_of (heading_rows carry_tag v m s []) → Gives v a s v (restamp_of v m s)
   unfolding decided restamp_done restamp_rows
-  restamp-refused n = refused v m s (restamp_rows v m s) _ n
+  restamp-refused = refused-by (restamp_rows v m s) _
 
   abbrev first : ℕ
   first = first_old (geometry_of v) v s.index
@@ -77,7 +87,7 @@ module _ (v m : List ℕ) (s : State) where
     test-is : ltb first (image_count (geometry_of v)) ≡ ltb i (g.pages + g.slots)
     test-is = rw (ei, eg)
 
-    pub restamp-idle : g.pages + g.slots ≤ i → Gives v Nothing s v (restamp_of v m s)
+    pub restamp-idle : i ≡ image_count g → Gives v Nothing s v (restamp_of v m s)
     unfolding volume_after
     restamp-idle b =
         let t : ltb i (g.pages + g.slots) ≡ false = by_cases (ltb i (g.pages + g.slots))

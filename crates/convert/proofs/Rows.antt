@@ -2,12 +2,13 @@
 use mathlib.Core.Path.{◌≡◌, refl, sym, ◌∙◌}
 use mathlib.Core.Bool.{Bool, true, false, not, cond}
 use mathlib.Core.List.{List, [], ◌∷◌}
-use Prim.Native.Nat.{ℕ, ◌+◌, ◌≤◌}
+use Prim.Native.Nat.{ℕ, ◌≤◌, ◌<◌}
 use native.Mathlib.Omega.{arith}
 use lib.Dec.{ltb}
 use lib.ListN.{length}
-use borrow.Author.Tests.{eqb-false}
+use borrow.Author.Tests.{eqb-false, lt-ltb, ltb-true}
 use Rattle.laws.proofs.Places.{valid-facts}
+use Rattle.laws.proofs.Tables.{by_cases}
 use Rattle.laws.proofs.Search.{found_some}
 use Rattle.laws.proofs.WellFormed.{ready-behind}
 use Rattle.state.proofs.Fits.{refusal-first, refusal-last}
@@ -50,6 +51,9 @@ pub finish-valid : (v m : List ℕ) (s : State) → first_of (finish_carry_rows 
 unfolding finish_carry_rows
 finish-valid v m s h = (ready-behind (not (headed carry_tag v)) v m s ((old_left (geometry_of v) v s.index, 20) ∷ []) h).1.volume
 
+ltb-same : (n : ℕ) → ltb n n ≡ false
+ltb-same n = by_cases (ltb n n) (λ t. absurd (let l : n < n = ltb-true n n t in omega arith)) (λ t. t)
+
 -- an image is left exactly if the search finds one
 left-found : (g : Geometry) (v : List ℕ) (s : State) → old_left g v s.index ≡ ltb (first_old g v s.index) (image_count g)
 unfolding old_left first_old
@@ -60,10 +64,18 @@ module _ (v m : List ℕ) (s : State) (n : ℕ) (e : n ≡ first_of (heading_row
   unfolding finish_carry_rows
   finish-first ne = behind-first (not (headed carry_tag v)) v m s ((old_left (geometry_of v) v s.index, 20) ∷ []) n e ne
 
-  pub finish-rows : (g : Geometry) (i r : ℕ) → n ≡ 0 → g ≡ geometry_of v → i ≡ first_old g v s.index
-      → r ≡ cond (ltb i (g.pages + g.slots)) 20 0
-      → r ≡ first_of (finish_carry_rows v m s)
+  pub finish-left : (g : Geometry) (i : ℕ) → n ≡ 0 → g ≡ geometry_of v → i ≡ first_old g v s.index → i < image_count g
+      → 20 ≡ first_of (finish_carry_rows v m s)
   unfolding finish_carry_rows
-  finish-rows g i r z eg ei er =
-      let t : ltb i (g.pages + g.slots) ≡ old_left (geometry_of v) v s.index = rw (left-found (geometry_of v) v s, ei, eg) in
-      behind-last (not (headed carry_tag v)) v m s ((old_left (geometry_of v) v s.index, 20) ∷ []) n r e z (er ∙ rw t)
+  finish-left g i z eg ei h =
+      let t : old_left (geometry_of v) v s.index ≡ true =
+      left-found (geometry_of v) v s ∙ rw (← eg, ← ei) (lt-ltb i (image_count g) h) in
+      behind-last (not (headed carry_tag v)) v m s ((old_left (geometry_of v) v s.index, 20) ∷ []) n 20 e z (rw t)
+
+  pub finish-none : (g : Geometry) → n ≡ 0 → g ≡ geometry_of v → first_old g v s.index ≡ image_count g
+      → 0 ≡ first_of (finish_carry_rows v m s)
+  unfolding finish_carry_rows
+  finish-none g z eg ei =
+      let t : old_left (geometry_of v) v s.index ≡ false =
+      left-found (geometry_of v) v s ∙ rw (← eg, ei) (ltb-same (image_count g)) in
+      behind-last (not (headed carry_tag v)) v m s ((old_left (geometry_of v) v s.index, 20) ∷ []) n 0 e z (rw t)

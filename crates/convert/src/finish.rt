@@ -9,22 +9,25 @@ ghost use Rattle.model.specs.Calls.{finish_carry_of};
 use crate::{heading, images};
 use model::answer::{Answer, Refusal, Reply};
 use model::state::State;
+use volume::Volume;
 use volume::heading::{CARRY, SECOND};
-use volume::rows;
 
 // The refusal, the lowest that holds; 20 where an image is left that passes only the old sum.
-fn refusal(s: State, checked: Result<(), Refusal>, volume: &[u8], memory: &[u8]) -> u32
+fn refusal(
+    s: State,
+    checked: Result<(), Refusal>,
+    volume: &[u8],
+    memory: &[u8],
+) -> Result<(), Refusal>
     requires { error_number checked ≡ first_of (state_rows volume.now memory.now s []) }
-    ensures { result ≡ first_of (finish_carry_rows volume.now memory.now s) }
+    ensures { error_number result ≡ first_of (finish_carry_rows volume.now memory.now s) }
 {
-    let no = heading::refusal(volume, CARRY, no);
-    if no != 0 {
-        return no;
+    heading::refusal(volume, CARRY, checked)?;
+    let v = Volume::of(volume);
+    match images::first_old(&v, s.index) {
+        Some(_) => Err(Refusal::OldImage),
+        None => Ok(()),
     }
-    let g = volume::heading::geometry(volume);
-    let index = s.index;
-    let i = images::first_old(volume, g, index);
-    rows::first(i < g.pages + g.slots, 20, 0)
 }
 
 // Stores the second heading; from then on an image passes under the byte sum alone.
@@ -36,10 +39,9 @@ pub fn finish(s: State, checked: Result<(), Refusal>, volume: &mut [u8], memory:
     ensures volume { volume.new
         ≡ volume_after volume.old (finish_carry_of volume.old memory.now s).stored }
 {
-    let no = refusal(s, no, volume, memory);
-    if no != 0 {
+    if let Err(refusal) = refusal(s, checked, volume, memory) {
         return Reply {
-            answer: Answer::Refused(no),
+            answer: Answer::from(refusal),
             state: s,
         };
     }

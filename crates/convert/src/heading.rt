@@ -1,16 +1,20 @@
-// The rows that the three calls start with, and a heading stored.
+// The row that the three calls start with, and a heading stored.
 ghost use Rattle.std.specs.Prelude.{◌≡◌, not, cond, ◌≤◌, length};
 ghost use Rattle.model.specs.Bytes.{splice, starts_with};
+ghost use Rattle.model.specs.Refused.{error_number};
 
 use codec::part;
-use volume::{heading, rows};
+use model::answer::Refusal;
+use volume::heading;
 
-// The refusal of a call with this heading of its own; no is that of the rows 1 and 2.
-pub fn refusal(volume: &[u8], magic: [u8; 4], no: u32) -> u32
-    ensures { result ≡ cond (not (starts_with magic volume.now)) 1 no }
+// The refusal of a call with this heading of its own: another heading comes before what the rows 1 and 2 gave.
+pub fn refusal(volume: &[u8], magic: [u8; 4], checked: Result<(), Refusal>) -> Result<(), Refusal>
+    ensures { error_number result ≡ cond (not (starts_with magic volume.now)) 1 (error_number checked) }
 {
-    let headed = heading::headed(volume, magic);
-    rows::first(!headed, 1, no)
+    if !heading::headed(volume, magic) {
+        return Err(Refusal::BadVolume);
+    }
+    checked
 }
 
 // Stores a heading.

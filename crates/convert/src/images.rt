@@ -1,6 +1,6 @@
 // The images of a volume in order, pages before slots, and the first that passes only the old sum.
-ghost use Rattle.std.specs.Prelude.{◌≡◌, true, ◌<◌};
-ghost use Rattle.model.specs.Geometry.{start, geometry_of, valid_volume};
+ghost use Rattle.std.specs.Prelude.{◌≡◌, ◌<◌, MatchOption};
+ghost use Rattle.model.specs.Geometry.{start, item};
 ghost use Rattle.model.specs.Passes.{image_count, image_place, old_at, first_old};
 
 use crate::passes;
@@ -20,28 +20,41 @@ pub fn image_at(g: Geometry, i: u32) -> usize
     place::slot_at(g, i - g.pages + 1)
 }
 
-// Image i passes only the old sum: in its place by words, and not by bytes.
-fn old_at(volume: &[u8], g: Geometry, index: [Entry; 64], i: u32) -> bool
-    requires { (valid_volume volume.now ≡ true) × (g ≡ geometry_of volume.now) × (i < image_count g) }
-    ensures { result ≡ old_at g volume.now index i }
+// Image i.
+pub fn image<'a>(v: &Volume<'a>, i: u32) -> &'a [u8; 256]
+    requires { i < image_count v.now.geometry }
+    ensures { result.now ≡ item v.now.geometry v.now.bytes.now (image_place v.now.geometry i) }
 {
-    let x = place::part(volume, image_at(g, i), 256);
+    let pages = v.geometry.pages;
+    if i < pages {
+        return v.page(i + 1);
+    }
+    v.slot(i - pages + 1)
+}
+
+// Image i passes only the old sum: in its place by words, and not by bytes.
+fn old_at(v: &Volume<'_>, index: [Entry; 64], i: u32) -> bool
+    requires { i < image_count v.now.geometry }
+    ensures { result ≡ old_at v.now.geometry v.now.bytes.now index i }
+{
+    let g = v.geometry;
+    let x = image(v, i);
     let words = passes::passes(passes::under(g, FIRST_TAG), index, i, x);
     let bytes = passes::passes(passes::under(g, SECOND_TAG), index, i, x);
     words & !bytes
 }
 
-// The first image that passes only the old sum; the count of images where none does.
-pub fn first_old(v: &Volume<'_>, index: [Entry; 64]) -> u32
-    ensures { result ≡ first_old v.now.geometry v.now.bytes.now index }
+// The first image that passes only the old sum; None, for which the definition has the count of images, where none
+// does.
+pub fn first_old(v: &Volume<'_>, index: [Entry; 64]) -> Option<u32>
+    ensures { MatchOption result (first_old v.now.geometry v.now.bytes.now index ≡ image_count v.now.geometry)
+        (λ i. (i ≡ first_old v.now.geometry v.now.bytes.now index) × (i < image_count v.now.geometry)) }
 {
-    let count = g.pages + g.slots;
-    let mut i: u32 = 0;
-    while i < count {
-        if old_at(volume, g, index, i) {
-            return i;
+    let count = v.geometry.pages + v.geometry.slots;
+    for i in 0..count {
+        if old_at(v, index, i) {
+            return Some(i);
         }
-        i += 1;
     }
-    count
+    None
 }

@@ -1,5 +1,5 @@
 // Whether an image passes in its place, by the sum that the geometry's tag names.
-ghost use Rattle.std.specs.Prelude.{◌≡◌, ◌&&◌, ◌<◌, eqb};
+ghost use Rattle.std.specs.Prelude.{◌≡◌, ◌<◌};
 ghost use Rattle.model.specs.Geometry.{with_tag, slot_at};
 ghost use Rattle.model.specs.Item.{valid_image, valid_somewhere};
 ghost use Rattle.model.specs.Passes.{valid_as_noted, passes_at, image_count, image_place};
@@ -14,36 +14,17 @@ use model::state::Entry;
 pub fn under(g: Geometry, tag: u8) -> Geometry
     ensures { result ≡ with_tag g tag }
 {
-    Geometry {
-        tag,
-        pages: g.pages,
-        slots: g.slots,
-        records: g.records,
-        notes: g.notes,
-    }
+    Geometry { tag, ..g }
 }
 
-// The slot that the index gives the page is this one, and the image is valid as the page's.
-fn given(g: Geometry, own: u32, slot: u32, page: u32, x: &[u8]) -> bool
-    ensures { result ≡ (eqb own slot && valid_image g page x.now) }
-{
-    if own != slot {
-        return false;
-    }
-    image::valid(g, page, x)
-}
-
-// The image is valid as a page to which the index gives the slot.
+// The image is valid as a page to which the index gives the slot. A sum is slow: the slot is compared first.
 fn noted(g: Geometry, slot: u32, x: &[u8], index: [Entry; 64]) -> bool
     ensures { result ≡ valid_as_noted g slot x.now 0 index }
 {
-    let mut i: usize = 0;
-    while i < 64 {
-        let e = index[i];
-        if given(g, e.slot as u32, slot, i as u32 + 1, x) {
+    for (i, e) in index.iter().enumerate() {
+        if u32::from(e.slot) == slot && image::valid(g, i as u32 + 1, x) {
             return true;
         }
-        i += 1;
     }
     false
 }
@@ -52,7 +33,7 @@ fn noted(g: Geometry, slot: u32, x: &[u8], index: [Entry; 64]) -> bool
 fn somewhere(g: Geometry, x: &[u8]) -> bool
     ensures { result ≡ valid_somewhere g x.now }
 {
-    let page = field::u16_at(x, 0) as u32;
+    let page = u32::from(field::u16_at(x, 0));
     let valid = image::valid(g, page, x);
     ((1 <= page) & (page <= g.pages)) & valid
 }

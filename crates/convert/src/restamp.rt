@@ -10,6 +10,7 @@ use crate::{heading, images};
 use item::image;
 use model::answer::{Answer, Refusal, Reply};
 use model::state::State;
+use volume::Volume;
 use volume::heading::CARRY;
 
 // Sets the byte sum of the first image, pages before slots, that passes only the old sum, the rest of it as it lies;
@@ -21,22 +22,20 @@ pub fn restamp(s: State, checked: Result<(), Refusal>, volume: &mut [u8], memory
     ensures volume { volume.new
         ≡ volume_after volume.old (restamp_of volume.old memory.now s).stored }
 {
-    let no = heading::refusal(volume, CARRY, no);
-    if no != 0 {
+    if let Err(refusal) = heading::refusal(volume, CARRY, checked) {
         return Reply {
-            answer: Answer::Refused(no),
+            answer: Answer::from(refusal),
             state: s,
         };
     }
-    let g = volume::heading::geometry(volume);
-    let index = s.index;
-    let i = images::first_old(volume, g, index);
-    if g.pages + g.slots <= i {
+    let v = Volume::of(volume);
+    let g = v.geometry;
+    let Some(i) = images::first_old(&v, s.index) else {
         return Reply {
             answer: Answer::Nothing,
             state: s,
         };
-    }
+    };
     let at = images::image_at(g, i);
     let end = at + 256;
     let old = &mut volume[at..end];

@@ -19,10 +19,9 @@ pub fn start(s: State, checked: Result<(), Refusal>, volume: &mut [u8], memory: 
     ensures volume { volume.new
         ≡ volume_after volume.old (start_carry_of volume.old memory.now s).stored }
 {
-    let no = heading::refusal(volume, FIRST, no);
-    if no != 0 {
+    if let Err(refusal) = heading::refusal(volume, FIRST, checked) {
         return Reply {
-            answer: Answer::Refused(no),
+            answer: Answer::from(refusal),
             state: s,
         };
     }

@@ -1,13 +1,13 @@
--- The policy in the parts that the code takes it in, and what each part is handed.
-use Rattle.std.specs.Prelude.{ℕ, suc, ◌+◌, ◌-◌, ◌≤◌, ◌≡◌, Bool, true, false, cond, ◌&&◌, ◌||◌, not, List}
+-- The policy in the parts that the code takes it in.
+use Rattle.std.specs.Prelude.{ℕ, suc, ◌+◌, ◌-◌, Bool, true, false, cond, ◌&&◌, ◌||◌, not, List}
 use Rattle.model.specs.Tables.{larger}
-use Rattle.model.specs.Geometry.{geometry_of, valid_volume}
+use Rattle.model.specs.Geometry.{geometry_of}
 use Rattle.model.specs.Index.{entry_of}
 use Rattle.model.specs.Scan.{first_held}
 use Rattle.model.specs.State.{held}
 use Rattle.model.specs.Repair.{state_view, class_in}
 use Rattle.model.specs.Calls.{no_payload}
-use Rattle.model.specs.declared.{geometry.Geometry.Geometry, state.Entry.Entry, state.State.State}
+use Rattle.model.specs.declared.{geometry.Geometry.Geometry, state.State.State}
 use Rattle.upkeep_policy.specs.Upkeep.{renew}
 use Rattle.upkeep_policy.specs.declared.upkeep.Advised.{Advised}
 use Rattle.upkeep_policy.specs.declared.upkeep.Upkeep.{Upkeep}
@@ -17,15 +17,6 @@ use Rattle.mend_policy.specs.Mend.{stands, reaches, margin, may_write, is_ahead,
 use Rattle.mend_policy.specs.Mend.{Mending, whole, single, ahead, mending}
 use Rattle.mend_policy.specs.declared.mending.Mended.{Mended}
 use Rattle.mend_policy.specs.declared.mending.Mend.TheVariants.{Refused, Whole, Lost, Full, Make}
-
--- what each part is handed: a valid volume with its geometry, a page of it, and the page's entry within the counts
-pub record Fits (v : List ℕ) (s : State) (g : Geometry) (p : ℕ) (e : Entry) : Type 0 where
-  pub valid : valid_volume v ≡ true
-  pub geometry : g ≡ geometry_of v
-  pub low : 1 ≤ p
-  pub high : p ≤ g.pages
-  pub entry : e ≡ entry_of s.index p
-  pub slot : e.slot ≤ g.slots
 
 -- where the run starts once a quarter of the log more is stored behind d durable records
 abbrev pub start_at : Geometry → List ℕ → ℕ → ℕ

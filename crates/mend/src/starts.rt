@@ -1,19 +1,18 @@
 // A page's two starts: its noted backup, and its own image or a format in the log.
-ghost use Rattle.std.specs.Prelude.{◌≡◌, true, not, ◌-◌, ◌≤◌};
-ghost use Rattle.model.specs.Geometry.{geometry_of, valid_volume};
-ghost use Rattle.model.specs.Scan.{first_held};
-ghost use Rattle.model.specs.Repair.{view_of, own_start, class_in, walk_from, is_below};
+ghost use Rattle.std.specs.Prelude.{◌≡◌, not};
+ghost use Rattle.model.specs.Repair.{state_view, own_start, class_in, walk_from, is_below};
 ghost use Rattle.repair.specs.Walked.{log_of};
-ghost use Rattle.mend_policy.specs.Mend.{stands, may_write, is_ahead, is_stale};
+ghost use Rattle.mend_policy.specs.Mend.{stands, may_write};
 ghost use Rattle.mend.specs.Parts.{start_at};
 
+use crate::Target;
 use item::image;
-use model::answer::Class;
+use model::answer::{Class, Stop};
 use model::geometry::Geometry;
 use model::state::Entry;
 use repair::walk::Course;
 use repair::{class, walk};
-use volume::place;
+use volume::Volume;
 
 // The number at which a walk may stop at the own image, 0 where it is none, and the image's class.
 #[derive(Clone, Copy)]
@@ -23,14 +22,15 @@ pub struct OwnImage {
 }
 
 // The own image, judged once.
-pub fn judge(volume: &[u8], g: Geometry, e: Entry, page: u32) -> OwnImage
-    requires { (valid_volume volume.now ≡ true) × (g ≡ geometry_of volume.now) × (1 ≤ page)
-        × (page ≤ g.pages) }
-    ensures number { result.number ≡ own_start g page (view_of g volume.now 0 e page) }
-    ensures class { result.class ≡ class_in g page (view_of g volume.now 0 e page) }
+pub fn judge(t: &Target<'_>) -> OwnImage
+    ensures number { result.number ≡ own_start t.now.volume.geometry t.now.page
+        (state_view t.now.volume.geometry t.now.volume.bytes.now t.now.state t.now.page) }
+    ensures class { result.class ≡ class_in t.now.volume.geometry t.now.page
+        (state_view t.now.volume.geometry t.now.volume.bytes.now t.now.state t.now.page) }
 {
-    let x = place::page(volume, g, page);
-    let valid = walk::judge(g, page, x);
+    let e = t.entry;
+    let x = t.volume.page(t.page);
+    let valid = walk::judge(t.volume.geometry, t.page, x);
     let n = image::lsn(x);
     let number = walk::own_number(valid, n);
     let class = class::class(valid, n, e.durable, e.written);
@@ -38,83 +38,47 @@ pub fn judge(volume: &[u8], g: Geometry, e: Entry, page: u32) -> OwnImage
 }
 
 // No backup is noted, or its slot's image is valid as the page's with the noted number.
-pub fn stands(volume: &[u8], g: Geometry, e: Entry, page: u32) -> bool
-    requires { (valid_volume volume.now ≡ true) × (g ≡ geometry_of volume.now) × (e.slot ≤ g.slots) }
-    ensures { result ≡ stands g volume.now e page }
+pub fn stands(t: &Target<'_>) -> bool
+    ensures { result ≡ stands t.now.volume.geometry t.now.volume.bytes.now t.now.entry t.now.page }
 {
-    let slot = e.slot as u32;
+    let e = t.entry;
+    let slot = u32::from(e.slot);
     if slot == 0 {
         return true;
     }
-    walk::numbered(g, page, e.backup, place::slot(volume, g, slot))
-}
-
-// a less b, or 0.
-fn less(a: u64, b: u64) -> u64
-    ensures { result ≡ a - b }
-{
-    if a <= b { 0 } else { a - b }
+    walk::numbered(t.volume.geometry, t.page, e.backup, t.volume.slot(slot))
 }
 
 // Where the run starts once a quarter of the log more is stored, with d durable records.
-pub fn after(volume: &[u8], g: Geometry, d: u32) -> u64
-    requires { (valid_volume volume.now ≡ true) × (g ≡ geometry_of volume.now) }
-    ensures { result ≡ start_at g volume.now d }
+pub fn after(v: &Volume<'_>, d: u32) -> u64
+    ensures { result ≡ start_at v.now.geometry v.now.bytes.now d }
 {
-    let first = log_scan::first(volume, g, d);
-    let margin = g.records / 4;
-    let later = less(d as u64 + margin as u64 + 1, g.records as u64);
-    if first <= later { later } else { first }
+    let records = u64::from(v.geometry.records);
+    let margin = records / 4;
+    let later = u64::from(d) + margin + 1;
+    log_scan::first(v, d).max(later.saturating_sub(records))
 }
 
 // The walk that takes no backup, on a run that starts there, does not go below it.
-pub fn reaches(volume: &[u8], g: Geometry, page: u32, own: u32, durable: u32, start: u64) -> bool
-    requires { (valid_volume volume.now ≡ true) × (g ≡ geometry_of volume.now) }
-    ensures { result ≡ not (is_below (walk_from durable (log_of g volume.now) start page own 0 durable).stop) }
+pub fn reaches(t: &Target<'_>, own: u32, start: u64) -> bool
+    ensures { result ≡ not (is_below (walk_from t.now.entry.durable
+        (log_of t.now.volume.geometry t.now.volume.bytes.now) start t.now.page own 0 t.now.entry.durable).stop) }
 {
     let c = Course {
         first: start,
-        page,
+        page: t.page,
         own,
         backup: 0,
         sure: false,
     };
-    let t = walk::trace(volume, g, c, durable);
-    let stop = t.stop;
-    !walk::below(stop)
+    walk::trace(&t.volume, c, t.entry.durable).stop != Stop::Below
 }
 
 // The page has a written note, or the volume has room for two notes of every page and the records between.
 pub fn may_write(g: Geometry, e: Entry) -> bool
     ensures { result ≡ may_write g e }
 {
-    let pages = g.pages as u64;
-    let twofold = (2 * pages + 2 <= g.notes as u64) & (4 * pages <= g.records as u64);
-    !(e.written == 0) | twofold
-}
-
-// The image's number is above the page's newest durable one.
-pub fn ahead(c: Class) -> bool
-    ensures { result ≡ is_ahead c }
-{
-    match c {
-        Class::Good => false,
-        Class::Behind => false,
-        Class::Stale => false,
-        Class::Failed => false,
-        Class::Ahead => true,
-    }
-}
-
-// The image is older than the last written note says.
-pub fn stale(c: Class) -> bool
-    ensures { result ≡ is_stale c }
-{
-    match c {
-        Class::Good => false,
-        Class::Behind => false,
-        Class::Stale => true,
-        Class::Failed => false,
-        Class::Ahead => false,
-    }
+    let pages = u64::from(g.pages);
+    let twofold = (2 * pages + 2 <= u64::from(g.notes)) & (4 * pages <= u64::from(g.records));
+    (e.written != 0) | twofold
 }

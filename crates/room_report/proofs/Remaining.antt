@@ -16,23 +16,12 @@ use Rattle.model.specs.State.{last_number, log_full, notes_full}
 use Rattle.model.specs.Restart.{restart_state}
 use Rattle.reports.specs.Reading as reading
 use Rattle.model.specs.declared.{geometry.Geometry.Geometry, item.LogRecord.LogRecord, item.Note.Note}
-use Rattle.model.specs.declared.state.State.{State}
+use Rattle.model.specs.declared.{answer.Refusal.Refusal, state.State.State}
+use Rattle.model.specs.Refused.{refusal_number}
+use Rattle.room_report.proofs.Refused.{refusal-some}
 use Rattle.index.specs.Scanned.{scan_rows, scan_refusal, scanned_of}
 use Rattle.index.specs.declared.Scanned.{Scanned}
-use Rattle.reports.specs.Room.{
-  after_records,
-  log_full_after,
-  records_left,
-  log_page,
-  log_space,
-  after_notes,
-  notes_full_after,
-  notes_left,
-  note_page,
-  note_space,
-  no_space,
-  room_of,
-}
+use Rattle.reports.specs.Room.{after_records, log_full_after, log_page, log_space, after_notes, notes_full_after, note_page, note_space, no_space, room_of}
 use Rattle.state.specs.Resumed.{resumed_state}
 use Rattle.reports.specs.declared.reading.Space.{Space}
 use Rattle.reports.specs.declared.reading.Room.{Room}
@@ -77,10 +66,6 @@ module _ (g : Geometry) (v : List ℕ) (s : State) where
   -- what the test of the state i records on tells
   pub log-tested : (i : ℕ) (t : State) (r b : Bool) → t ≡ after_records s i → r ≡ log_full g v t → r ≡ b → log_full_after g v s i ≡ b
   log-tested i t r b et ef eb = ap (λ (x : State). log_full g v x) (sym et) ∙ sym ef ∙ eb
-
-  pub log-space : (i : ℕ) (t : State) (p : ℕ) → i ≡ records_left g v s → t ≡ after_records s i → p ≡ log_page g v t
-      → ◌≡◌ {A = Space} (record { count = i; page = p }) (log_space g v s)
-  log-space i t p ei et ep = rw (ep, et, ei)
 
   -- ---- the notes
 
@@ -128,32 +113,27 @@ module _ (g : Geometry) (v : List ℕ) (s : State) where
   pub note-tested : (i : ℕ) (t : State) (r b : Bool) → t ≡ after_notes s i → r ≡ notes_full g v t → r ≡ b → notes_full_after g v s i ≡ b
   note-tested i t r b et ef eb = ap (λ (x : State). notes_full g v x) (sym et) ∙ sym ef ∙ eb
 
-  pub note-space : (i : ℕ) (t : State) (p : ℕ) → i ≡ notes_left g v s → t ≡ after_notes s i → p ≡ note_page g v t
-      → ◌≡◌ {A = Space} (record { count = i; page = p }) (note_space g v s)
-  note-space i t p ei et ep = rw (ep, et, ei)
-
 -- ---- the call
 
 module _ (v : List ℕ) where
   -- a scan that refuses is the call's refusal
-  pub refused : (n : ℕ) → n ≡ scan_refusal v → (n ≡ 0 → ⊥)
-      → ◌≡◌ {A = Room} (record { refusal = n; log = no_space; notes = no_space }) (room_of v)
+  pub refused : (r : Refusal) → refusal_number r ≡ scan_refusal v
+      → ◌≡◌ {A = Room} (record { refusal = refusal_number r; log = no_space; notes = no_space }) (room_of v)
   unfolding room_of scan_rows
-  refused n e ne = rw (← e, ne_eqb n 0 ne)
+  refused r e = rw (← e, ne_eqb (refusal_number r) 0 (refusal-some r))
 
-  clean : scan_refusal v ≡ 0 → first_of (reading.scan_rows v) ≡ 0
+  clean : 0 ≡ scan_refusal v → first_of (reading.scan_rows v) ≡ 0
   unfolding scan_rows
-  clean h = h
+  clean h = sym h
 
-  pub valid : (n : ℕ) → n ≡ scan_refusal v → n ≡ 0 → valid_volume v ≡ true
-  valid n e z = (scanned v (clean (sym e ∙ z))).volume
+  pub valid : 0 ≡ scan_refusal v → valid_volume v ≡ true
+  valid e = (scanned v (clean e)).volume
 
-  pub done : (x : Scanned) (g : Geometry) (s : State) (a b : Space) → x.refusal ≡ scan_refusal v
-      → (x.refusal ≡ 0 → x ≡ scanned_of v) → x.refusal ≡ 0
+  pub done : (x : Scanned) (g : Geometry) (s : State) (a b : Space) → 0 ≡ scan_refusal v → x ≡ scanned_of v
       → g ≡ geometry_of v → s ≡ resumed_state x → a ≡ log_space g v s → b ≡ note_space g v s
       → ◌≡◌ {A = Room} (record { refusal = 0; log = a; notes = b }) (room_of v)
   unfolding room_of restart_state
-  done x g s a b er ex z eg es ea eb =
-      let no : first_of (reading.scan_rows v) ≡ 0 = clean (sym er ∙ z) in
-      let es' : s ≡ restart_state v = es ∙ ap resumed_state (ex z) in
+  done x g s a b z ex eg es ea eb =
+      let no : first_of (reading.scan_rows v) ≡ 0 = clean z in
+      let es' : s ≡ restart_state v = es ∙ ap resumed_state ex in
       rw (ea, eb, eg, es', no)

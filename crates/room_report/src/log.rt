@@ -1,64 +1,58 @@
 // How many more records the log has room for.
-ghost use Rattle.std.specs.Prelude.{◌≡◌, true, ◌+◌, ◌≤◌};
-ghost use Rattle.model.specs.Geometry.{geometry_of, valid_volume};
+ghost use Rattle.std.specs.Prelude.{◌≡◌, ◌+◌, ◌≤◌};
 ghost use Rattle.reports.specs.Room.{after_records, records_left, log_page, log_space};
 
 use item::record;
-use model::geometry::Geometry;
 use model::state::State;
 use reports::reading::Space;
 use room::log;
-use volume::{place, ring};
+use volume::{Volume, ring};
 
 // The state i records on, each of them forced.
 fn after(s: State, i: u32) -> State
     requires { s.durable + i ≤ 4294967295 }
     ensures { result ≡ after_records s i }
 {
-    let mut t = s;
-    t.durable = s.durable + i;
-    t
+    State {
+        durable: s.durable + i,
+        ..s
+    }
 }
 
 // How many records are appended before the next one is refused; a whole turn at most.
-fn count(s: State, volume: &[u8], g: Geometry) -> u32
-    requires { (valid_volume volume.now ≡ true) × (g ≡ geometry_of volume.now) }
-    ensures { (result ≡ records_left g volume.now s) × (s.durable + result ≤ 4294967295) }
+fn count(s: State, v: &Volume<'_>) -> u32
+    ensures { (result ≡ records_left v.now.geometry v.now.bytes.now s) × (s.durable + result ≤ 4294967295) }
 {
-    let slots = g.records;
-    let mut i: u32 = 0;
-    while i < slots {
-        if log::full(after(s, i), volume, g) {
+    let slots = v.geometry.records;
+    for i in 0..slots {
+        if log::full(after(s, i), v) {
             return i;
         }
-        i += 1;
     }
-    i
+    slots
 }
 
 // The page in the way of a full log: that of the record that the next one would displace. 0 where there is none, or the
 // last number is given.
-fn page(s: State, volume: &[u8], g: Geometry) -> u32
-    requires { (valid_volume volume.now ≡ true) × (g ≡ geometry_of volume.now) }
-    ensures { result ≡ log_page g volume.now s }
+fn page(s: State, v: &Volume<'_>) -> u32
+    ensures { result ≡ log_page v.now.geometry v.now.bytes.now s }
 {
-    let last = s.durable as u64 + s.pending as u64;
-    let left = last < ring::most(g) as u64;
-    if !(left & log::full(s, volume, g)) {
+    let last = u64::from(s.durable) + u64::from(s.pending);
+    let left = last < u64::from(ring::most(v.geometry));
+    if !(left & log::full(s, v)) {
         return 0;
     }
-    let oldest = (last + 1 - g.records as u64) as u32;
-    record::read(place::record(volume, g, oldest)).page as u32
+    let oldest = (last + 1 - u64::from(v.geometry.records)) as u32;
+    u32::from(record::read(v.record(oldest)).page)
 }
 
 // How many more records, and the page in the way then.
-pub fn left(s: State, volume: &[u8], g: Geometry) -> Space
-    requires { (valid_volume volume.now ≡ true) × (g ≡ geometry_of volume.now) }
-    ensures { result ≡ log_space g volume.now s }
+pub fn left(s: State, v: &Volume<'_>) -> Space
+    ensures { result ≡ log_space v.now.geometry v.now.bytes.now s }
 {
-    let count = count(s, volume, g);
+    let count = count(s, v);
     Space {
         count,
-        page: page(after(s, count), volume, g),
+        page: page(after(s, count), v),
     }
 }

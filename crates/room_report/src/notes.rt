@@ -1,63 +1,57 @@
 // How many more notes there is room for.
-ghost use Rattle.std.specs.Prelude.{◌≡◌, true, ◌+◌, ◌≤◌};
-ghost use Rattle.model.specs.Geometry.{geometry_of, valid_volume};
+ghost use Rattle.std.specs.Prelude.{◌≡◌, ◌+◌, ◌≤◌};
 ghost use Rattle.reports.specs.Room.{after_notes, notes_left, note_page, note_space};
 
-use model::geometry::Geometry;
 use model::state::State;
 use reports::reading::Space;
 use room::notes;
-use volume::ring;
+use volume::{Volume, ring};
 
 // The state i notes on.
 fn after(s: State, i: u32) -> State
     requires { s.notes + i ≤ 4294967295 }
     ensures { result ≡ after_notes s i }
 {
-    let mut t = s;
-    t.notes = s.notes + i;
-    t
+    State {
+        notes: s.notes + i,
+        ..s
+    }
 }
 
 // How many notes are stored before the next one is refused; a whole turn at most.
-fn count(s: State, volume: &[u8], g: Geometry) -> u32
-    requires { (valid_volume volume.now ≡ true) × (g ≡ geometry_of volume.now) }
-    ensures { (result ≡ notes_left g volume.now s) × (s.notes + result ≤ 4294967295) }
+fn count(s: State, v: &Volume<'_>) -> u32
+    ensures { (result ≡ notes_left v.now.geometry v.now.bytes.now s) × (s.notes + result ≤ 4294967295) }
 {
-    let slots = g.notes;
-    let mut i: u32 = 0;
-    while i < slots {
-        if notes::full(after(s, i), volume, g) {
+    let slots = v.geometry.notes;
+    for i in 0..slots {
+        if notes::full(after(s, i), v) {
             return i;
         }
-        i += 1;
     }
-    i
+    slots
 }
 
 // The page in the way where the notes are full: that of the note that the next one would displace. 0 where there is
 // none, or the last number is given.
-fn page(s: State, volume: &[u8], g: Geometry) -> u32
-    requires { (valid_volume volume.now ≡ true) × (g ≡ geometry_of volume.now) }
-    ensures { result ≡ note_page g volume.now s }
+fn page(s: State, v: &Volume<'_>) -> u32
+    ensures { result ≡ note_page v.now.geometry v.now.bytes.now s }
 {
     let last = s.notes;
-    let slots = g.notes;
-    let left = (0 < slots) & (last < ring::most_notes(g));
-    if !(left & notes::full(s, volume, g)) {
+    let slots = v.geometry.notes;
+    let left = (0 < slots) & (last < ring::most_notes(v.geometry));
+    if !(left & notes::full(s, v)) {
         return 0;
     }
-    notes::stored(volume, g, last + 1 - slots).page as u32
+    u32::from(notes::stored(v, last + 1 - slots).page)
 }
 
 // How many more notes, and the page in the way then.
-pub fn left(s: State, volume: &[u8], g: Geometry) -> Space
-    requires { (valid_volume volume.now ≡ true) × (g ≡ geometry_of volume.now) }
-    ensures { result ≡ note_space g volume.now s }
+pub fn left(s: State, v: &Volume<'_>) -> Space
+    ensures { result ≡ note_space v.now.geometry v.now.bytes.now s }
 {
-    let count = count(s, volume, g);
+    let count = count(s, v);
     Space {
         count,
-        page: page(after(s, count), volume, g),
+        page: page(after(s, count), v),
     }
 }

@@ -1,6 +1,6 @@
 -- The advice, case by case: what the code answers is the policy's.
-use mathlib.Core.Path.{◌≡◌, sym, ap, ◌∙◌}
-use mathlib.Core.Bool.{Bool, true, false, cond, ◌||◌, not}
+use mathlib.Core.Path.{◌≡◌, refl, sym, ap, ◌∙◌}
+use mathlib.Core.Bool.{Bool, true, false, cond, not}
 use mathlib.Core.List.{List, [], ◌∷◌}
 use Prim.Native.Nat.{ℕ, ◌+◌, ◌/◌, ◌≤◌, ◌<◌}
 use native.Mathlib.Omega.{arith}
@@ -10,24 +10,25 @@ use borrow.Author.Tests.{eq-eqb, ne_eqb, le-leb, lt-leb, lt-ltb, le-ltb}
 use Rattle.laws.proofs.Tables.{when_true, when_false}
 use Rattle.laws.proofs.Parts.{part_at}
 use Rattle.laws.proofs.WellFormed.{ready}
-use Rattle.state.proofs.Fits.{refusal-then}
-use Rattle.model.specs.Tables.{first_of, within}
+use Rattle.state.proofs.Fits.{refusal-first, refusal-last}
+use Rattle.upkeep.proofs.Refused.{refusal-some}
+use Rattle.model.specs.Tables.{Row, first_of, within}
+use Rattle.model.specs.Refused.{refusal_number}
 use Rattle.model.specs.Bytes.{byte_at}
 use Rattle.model.specs.Geometry.{ring, geometry_of, valid_volume}
 use Rattle.model.specs.Scan.{log_record, note_record}
-use Rattle.model.specs.State.{frame_count, frame_at, frame_bytes, frame_of, log_full, notes_full, note_pending, holder, held}
-use Rattle.model.specs.Refusals.{state_rows, load_rows}
+use Rattle.model.specs.State.{frame_count, frame_at, frame_bytes, frame_of, log_full, note_pending, holder, held}
+use Rattle.model.specs.Refusals.{state_rows}
 use Rattle.model.specs.Calls.{no_payload}
 use Rattle.upkeep_policy.specs.Upkeep.{Advice, make, note_position, log_position, first_needed_note, first_needed_log}
-use Rattle.upkeep_policy.specs.Upkeep.{free_slot}
 use Rattle.upkeep_policy.specs.Upkeep.{bring_in, back_up, write_out, renew, upkeep_of, advised_by, advise_rows, advise_of}
 use Rattle.model.specs.declared.{change.Change.TheVariants.Put, geometry.Geometry.Geometry, state.Frame.Frame}
-use Rattle.model.specs.declared.state.State.{State}
-use Rattle.model.specs.declared.command.Command.TheVariants.{Load, Force, Write}
-use Rattle.model.specs.declared.command.Command.TheVariants.{Change, Backup, Note}
+use Rattle.model.specs.declared.{answer.Refusal.Refusal, state.State.State}
+use Rattle.model.specs.declared.command.Command.TheVariants.{Force}
+use Rattle.model.specs.declared.command.Command.TheVariants.{Change, Note}
 use Rattle.upkeep_policy.specs.declared.upkeep.Advised.{Advised}
 use Rattle.upkeep_policy.specs.declared.upkeep.Upkeep.{Upkeep}
-use Rattle.upkeep_policy.specs.declared.upkeep.Upkeep.TheVariants.{Refused, Idle, Stuck, Make}
+use Rattle.upkeep_policy.specs.declared.upkeep.Upkeep.TheVariants.{Refused, Idle, Make}
 use Rattle.upkeep.specs.Parts.{ring_advice}
 use Rattle.model.specs.declared.item.Note.{Note as NoteFields}
 
@@ -42,52 +43,15 @@ chosen t a b x h e = e ∙ sym (ap advised_by (when_true a b h))
 other : (t : Bool) (a b : Advice) (x : Advised) → t ≡ false → x ≡ advised_by b → x ≡ advised_by (cond t a b)
 other t a b x h e = e ∙ sym (ap advised_by (when_false a b h))
 
--- R1
-module _ (v m : List ℕ) (s : State) (r p : ℕ) (x : Advised) (n : ℕ) (en : n ≡ first_of (load_rows v m s p r)) where
-  pub bring-stuck : n ≡ 23 → x ≡ bare (Stuck p) → x ≡ advised_by (bring_in v m s r p)
-  bring-stuck h e = chosen _ _ _ x (eq-eqb _ 23 (sym en ∙ h)) e
-
-  pub bring-load : (n ≡ 23 → ⊥) → x ≡ bare (Make (Load p r)) → x ≡ advised_by (bring_in v m s r p)
-  bring-load h e = other _ _ _ x (ne_eqb _ 23 (λ z. h (en ∙ z))) e
-
--- R2
-module _ (v : List ℕ) (s : State) (p : ℕ) (x : Advised) (g : Geometry) (eg : g ≡ geometry_of v) (slot : ℕ) (full : Bool)
-    (es : slot ≡ free_slot g s) (ef : full ≡ notes_full g v s) where
-  same : (ltb g.slots slot || full)
-      ≡ (ltb (geometry_of v).slots (free_slot (geometry_of v) s) || notes_full (geometry_of v) v s)
-  same = rw (es, ef, eg)
-
-  pub back-stuck : (ltb g.slots slot || full) ≡ true → x ≡ bare (Stuck p) → x ≡ advised_by (back_up v s p)
-  back-stuck h e = chosen _ _ _ x (sym same ∙ h) e
-
-  pub back-makes : (ltb g.slots slot || full) ≡ false → x ≡ bare (Make (Backup p slot))
-      → x ≡ advised_by (back_up v s p)
-  back-makes h e =
-      other _ _ _ x (sym same ∙ h)
-      (e ∙ ap (λ (b : ℕ). bare (Make (Backup p b))) (es ∙ ap (λ (k : Geometry). free_slot k s) eg))
-
 -- R3 and R4
 module _ (v m : List ℕ) (s : State) (p : ℕ) (x : Advised) (g : Geometry) (eg : g ≡ geometry_of v) (f : ℕ) (row : Frame)
     (eh : f ≡ holder s p) (er : row ≡ frame_of s f) (full : Bool) where
   dirty : row.dirty ≡ (frame_of s (holder s p)).dirty
   dirty = ap (λ (w : Frame). w.dirty) (er ∙ ap (frame_of s) eh)
 
-  module _ (d : row.dirty ≡ true) (ef : full ≡ notes_full g v s) where
-    notes : full ≡ notes_full (geometry_of v) v s
-    notes = ef ∙ ap (λ (k : Geometry). notes_full k v s) eg
-
-    pub write-stuck : full ≡ true → x ≡ bare (Stuck p) → x ≡ advised_by (write_out v m s p)
-    write-stuck h e = chosen _ _ _ x (sym dirty ∙ d) (chosen _ _ _ x (sym notes ∙ h) e)
-
-    pub write-makes : full ≡ false → x ≡ bare (Make (Write p)) → x ≡ advised_by (write_out v m s p)
-    write-makes h e = chosen _ _ _ x (sym dirty ∙ d) (other _ _ _ x (sym notes ∙ h) e)
-
   module _ (d : row.dirty ≡ false) (ef : full ≡ log_full g v s) where
     log : full ≡ log_full (geometry_of v) v s
     log = ef ∙ ap (λ (k : Geometry). log_full k v s) eg
-
-    pub put-stuck : full ≡ true → x ≡ bare (Stuck p) → x ≡ advised_by (write_out v m s p)
-    put-stuck h e = other _ _ _ x (sym dirty ∙ d) (chosen _ _ _ x (sym log ∙ h) e)
 
     pub put-makes : (at b : ℕ) → full ≡ false → at ≡ frame_at f → b ≡ byte_at m (at + 8)
         → x ≡ record { upkeep = Make (Change p (Put 0 1)); payload = b ∷ replicate 43 0 }
@@ -180,13 +144,18 @@ module _ (v m : List ℕ) (s : State) (r : ℕ) (x : Advised) where
 
 -- ---- the rows
 
-pub refusal_is : (v m : List ℕ) (s : State) (n size count r rest k : ℕ) → n ≡ first_of (state_rows v m s [])
-    → count ≡ frame_count size
-    → length m ≡ size → rest ≡ cond (not (within count r)) 4 0 → k ≡ cond (not (eqb n 0)) n rest
-    → k ≡ first_of (advise_rows v m s r)
-unfolding advise_rows
-refusal_is v m s n size count r rest k e ec em er ek =
-    ek ∙ refusal-then v m s ((not (within (frame_count (length m)) r), 4) ∷ []) n rest e (er ∙ rw (ec, ← em))
+module _ (v m : List ℕ) (s : State) (r : ℕ) where
+  abbrev own : List Row
+  own = (not (within (frame_count (length m)) r), 4) ∷ []
+
+  pub rows-first : (k : Refusal) → refusal_number k ≡ first_of (state_rows v m s []) → refusal_number k ≡ first_of (advise_rows v m s r)
+  unfolding advise_rows
+  rows-first k e = refusal-first v m s own _ e (refusal-some k)
+
+  pub rows-last : (count : ℕ) → 0 ≡ first_of (state_rows v m s []) → count ≡ frame_count (length m)
+      → cond (not (within count r)) 4 0 ≡ first_of (advise_rows v m s r)
+  unfolding advise_rows
+  rows-last count e ec = refusal-last v m s own 0 _ e refl (rw ec)
 
 module _ (v m : List ℕ) (s : State) (r k : ℕ) (en : k ≡ first_of (advise_rows v m s r)) (x : Advised) where
   pub advise-refused : (k ≡ 0 → ⊥) → x ≡ bare (Refused k) → x ≡ advise_of v m s r

@@ -8,13 +8,10 @@ use lib.Dec.{ltb}
 use borrow.Author.Tests.{ltb-true, lt-ltb, le-ltb}
 use Rattle.laws.proofs.Tables.{and_left}
 use Rattle.laws.proofs.Search.{first-from}
-use Rattle.model.specs.Geometry.{item, log_slot}
-use Rattle.model.specs.Item.{record_of}
 use Rattle.model.specs.Passes.{first_from}
-use Rattle.model.specs.Scan.{log_record}
 use Rattle.model.specs.State.{record_needed}
-use Rattle.upkeep_policy.specs.Upkeep.{log_position, log_ahead, first_needed_log}
-use Rattle.model.specs.declared.{geometry.Geometry.Geometry, item.LogRecord.LogRecord, state.State.State}
+use Rattle.upkeep_policy.specs.Upkeep.{log_ahead, first_needed_log}
+use Rattle.model.specs.declared.{geometry.Geometry.Geometry, state.State.State}
 use Rattle.upkeep.proofs.Search.{first-start}
 
 module _ (g : Geometry) (v : List ℕ) (s : State) where
@@ -34,11 +31,6 @@ module _ (g : Geometry) (v : List ℕ) (s : State) where
   pub log-number : (i : ℕ) → log_ahead g v s i ≡ true → g.records < s.durable + i
   unfolding log_ahead
   log-number i h = ltb-true g.records (s.durable + i) (and_left (ltb g.records (s.durable + i)) _ h)
-
-  pub log-page : (i : ℕ) (r : List ℕ) (e : LogRecord) → r ≡ item g v (log_slot g (s.durable + i - g.records))
-      → e ≡ record_of r
-      → e.page ≡ (log_record g v (log_position g s i)).page
-  log-page i r e er ee = rw (ee, er)
 
   -- the search from 1 on
   pub log-start : (half : ℕ) → half ≡ g.records / 2

@@ -1,22 +1,12 @@
 -- The one pass over the notes: what it has seen so far of a note, and what that comes to where it ends.
 use mathlib.Core.Path.{◌≡◌, sym, ◌∙◌}
-use mathlib.Core.Bool.{Bool, false, ◌&&◌, ◌||◌, not, and-true, and_assoc}
+use mathlib.Core.Bool.{Bool, false, ◌&&◌, not, and-true, and_assoc}
 use mathlib.Core.List.{List}
 use Prim.Native.Nat.{ℕ, suc, ◌+◌, ◌-◌, ◌≤◌, ◌<◌}
 use native.Mathlib.Decide.{dec_lt}
 use native.Mathlib.Omega.{arith}
-use lib.Dec.{eqb, ltb}
-use borrow.Author.Tests.{lt-ltb}
-use Rattle.laws.proofs.Tables.{
-  and_left,
-  and_right,
-  and_both,
-  or-neither,
-  by_cases,
-  true-not-false,
-  every-at,
-  every-all,
-}
+use lib.Dec.{eqb}
+use Rattle.laws.proofs.Tables.{and_left, and_right, and_both, by_cases, true-not-false, every-at, every-all}
 use Rattle.model.specs.Tables.{every}
 use Rattle.model.specs.Scan.{note_record}
 use Rattle.model.specs.State.{note_whole, note_needed}
@@ -33,10 +23,6 @@ fails_more w p i n b h =
     (and_both (and_left w (every n p) t)
     (every-all p i (λ a l. every-at p n (and_right w (every n p) t) a (omega arith)))) h))
     (λ f. f)
-
--- where the loop ends before the last note, neither note is needed
-pub spent : (i n : ℕ) (a b : Bool) → (ltb i n && (a || b)) ≡ false → i < n → (a ≡ false) × (b ≡ false)
-spent i n a b h l = or-neither a b (rw (lt-ltb i n l) at h)
 
 -- ---- the pass
 

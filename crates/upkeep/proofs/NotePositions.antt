@@ -21,6 +21,9 @@ use borrow.Author.Tests.{
   eqb-false,
   ne_eqb,
 }
+use Rattle.std.specs.Prelude.{Option, None, Some}
+use Rattle.std.specs.Option.{option_eq}
+use Rattle.upkeep.specs.Parts.{FirstNote}
 use Rattle.laws.proofs.Tables.{and_left, or-neither, by_cases, true-not-false}
 use Rattle.laws.proofs.Search.{first-from}
 use Rattle.laws.proofs.Places.{total, valid-facts}
@@ -58,11 +61,6 @@ unfolding note_needed every
 only-needed g v k n r e whole one b er ee ew =
     let z : k - n ≡ 0 = omega arith in
     rw (ew, ee, er, z, only-slot g one n) (sym (and-true _))
-
--- the numbers of the two oldest notes, said in two ways
-pub same-notes : (g : Geometry) (v : List ℕ) (k i j i' j' : ℕ) (a b : Bool) → i ≡ i' → j ≡ j'
-    → (a ≡ note_needed g v k i) × (b ≡ note_needed g v k j) → (a ≡ note_needed g v k i') × (b ≡ note_needed g v k j')
-same-notes g v k i j i' j' a b ei ej h = rw (← ei, ← ej) h
 
 module _ (g : Geometry) (v : List ℕ) (s : State) where
   -- the first of two
@@ -110,6 +108,11 @@ module _ (g : Geometry) (v : List ℕ) (s : State) where
   first-is-one : eqb (first_needed_note g v s) 1 ≡ note_ahead g v s 1
   first-is-one = by_cases (note_ahead g v s 1) (λ t. rw (t, ← first_one t))
       (λ t. by_cases (note_ahead g v s 2) (λ u. rw (t, ← first_two t u)) (λ u. rw (t, ← first-none t u)))
+
+  -- the code's test of that
+  pub one-given : (o : Option ℕ) → FirstNote o g v s → option_eq eqb o (Some 1) ≡ eqb (first_needed_note g v s) 1
+  one-given None h = rw h
+  one-given (Some i) h = rw h.0
 
   -- row 14
   pub full_is : (top i : ℕ) → ring g ≡ true → top ≡ most_notes g → i ≡ first_needed_note g v s

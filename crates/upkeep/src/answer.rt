@@ -9,42 +9,12 @@ use model::change::Change;
 use model::command::Command;
 use upkeep_policy::upkeep::{Advised, Upkeep};
 
-// Refused.
-pub fn refused(no: u32) -> Advised
-    ensures { result ≡ record { upkeep = says.Refused no; payload = no_payload } }
+// Without a payload.
+pub fn plain(upkeep: Upkeep) -> Advised
+    ensures { result ≡ record { upkeep = upkeep; payload = no_payload } }
 {
     Advised {
-        upkeep: Upkeep::Refused(no),
-        payload: [0; 44],
-    }
-}
-
-// Nothing to do.
-pub fn idle() -> Advised
-    ensures { result ≡ record { upkeep = says.Idle; payload = no_payload } }
-{
-    Advised {
-        upkeep: Upkeep::Idle,
-        payload: [0; 44],
-    }
-}
-
-// Stuck at a page.
-pub fn stuck(page: u32) -> Advised
-    ensures { result ≡ record { upkeep = says.Stuck page; payload = no_payload } }
-{
-    Advised {
-        upkeep: Upkeep::Stuck(page),
-        payload: [0; 44],
-    }
-}
-
-// A call without payload.
-pub fn make(c: Command) -> Advised
-    ensures { result ≡ record { upkeep = says.Make c; payload = no_payload } }
-{
-    Advised {
-        upkeep: Upkeep::Make(c),
+        upkeep,
         payload: [0; 44],
     }
 }

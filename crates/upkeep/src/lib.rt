@@ -8,73 +8,71 @@ mod notes;
 pub mod renewal;
 
 ghost use Rattle.std.specs.Prelude.{◌≡◌, true};
+ghost use Rattle.model.specs.Refused.{error_number};
 ghost use Rattle.model.specs.Tables.{first_of};
-ghost use Rattle.model.specs.Geometry.{ring, geometry_of, valid_volume};
+ghost use Rattle.model.specs.Geometry.{ring};
 ghost use Rattle.upkeep_policy.specs.Upkeep.{advised_by, advise_rows, advise_of, upkeep_of};
 ghost use Rattle.upkeep.specs.Parts.{ring_advice};
 
+use crate::renewal::Renewal;
+use model::answer::Refusal;
 use model::command::Command;
-use model::geometry::Geometry;
 use model::state::State;
-use upkeep_policy::upkeep::Advised;
-use volume::{heading, memory, ring, rows};
+use upkeep_policy::upkeep::{Advised, Upkeep};
+use volume::{Volume, memory, ring};
+
+// State, volume, memory and frame are one struct from where it is known whether the notes are full (`Renewal`); the few
+// functions before that pass them on.
 
 // The refusal: as a call on the state, and 4 where the frame is none of the memory's.
-fn refusal(s: State, volume: &[u8], memory: &[u8], frame: u32) -> u32
-    ensures { result ≡ first_of (advise_rows volume.now memory.now s frame) }
+fn refusal(s: State, volume: &[u8], memory: &[u8], frame: u32) -> Result<(), Refusal>
+    ensures { error_number result ≡ first_of (advise_rows volume.now memory.now s frame) }
 {
-    let no = state::refusal::refusal(s, volume, memory.len());
+    state::refusal::refusal(s, volume, memory.len())?;
     let count = memory::frames(memory.len());
-    let outside = !((1 <= frame) & (frame as usize <= count));
-    let rest = rows::first(outside, 4, 0);
-    rows::first(no != 0, no, rest)
+    if !((1 <= frame) & (frame as usize <= count)) {
+        return Err(Refusal::NoSuchFrame);
+    }
+    Ok(())
 }
 
 // In a ring, with nothing pending: the first needed note position, then the first needed log position.
-fn renewed(s: State, volume: &[u8], memory: &[u8], g: Geometry, frame: u32) -> Advised
-    requires { (valid_volume volume.now ≡ true) × (g ≡ geometry_of volume.now) × (ring g ≡ true) }
-    ensures { result ≡ advised_by (ring_advice volume.now memory.now s frame) }
+fn renewed(s: State, v: &Volume<'_>, memory: &[u8], frame: u32) -> Advised
+    requires { ring v.now.geometry ≡ true }
+    ensures { result ≡ advised_by (ring_advice v.now.bytes.now memory.now s frame) }
 {
-    let i = notes::first(s, volume, g);
-    let full = notes::full(s, g, i);
-    if i <= 2 {
-        let n = notes::at(s, volume, g, i);
-        return renewal::renew(
-            s,
-            volume,
-            memory,
-            g,
-            frame,
-            n.page as u32,
-            n.kind == 1,
-            full,
-        );
+    let first = notes::first(s, v);
+    let renewal = Renewal {
+        state: s,
+        volume: *v,
+        memory,
+        frame,
+        full: notes::full(s, v, first),
+    };
+    if let Some(i) = first {
+        let n = notes::at(s, v, i);
+        return renewal.renew(u32::from(n.page), n.kind == 1);
     }
-    let j = log::first(s, volume, g);
-    if j <= g.records / 2 {
-        let page = log::page(s, volume, g, j);
-        return renewal::renew(s, volume, memory, g, frame, page, false, full);
+    if let Some(j) = log::first(s, v) {
+        return renewal.renew(log::page(s, v, j), false);
     }
-    answer::idle()
+    answer::plain(Upkeep::Idle)
 }
 
 // The policy, on a sound state.
-fn policy(s: State, volume: &[u8], memory: &[u8], g: Geometry, frame: u32) -> Advised
-    requires { (valid_volume volume.now ≡ true) × (g ≡ geometry_of volume.now) }
-    ensures { result ≡ advised_by (upkeep_of volume.now memory.now s frame) }
+fn policy(s: State, v: &Volume<'_>, memory: &[u8], frame: u32) -> Advised
+    ensures { result ≡ advised_by (upkeep_of v.now.bytes.now memory.now s frame) }
 {
-    let pending = s.note;
-    match pending {
-        Some(_) => return answer::make(Command::Note),
-        None => {}
+    if let Some(_) = s.note {
+        return answer::plain(Upkeep::Make(Command::Note));
     }
     if 0 < s.pending {
-        return answer::make(Command::Force);
+        return answer::plain(Upkeep::Make(Command::Force));
     }
-    if !ring::ring(g) {
-        return answer::idle();
+    if !ring::ring(v.geometry) {
+        return answer::plain(Upkeep::Idle);
     }
-    renewed(s, volume, memory, g, frame)
+    renewed(s, v, memory, frame)
 }
 
 // The next call, or that there is nothing to do, or the page that upkeep is stuck at; frame is left to upkeep.
@@ -83,10 +81,8 @@ fn policy(s: State, volume: &[u8], memory: &[u8], g: Geometry, frame: u32) -> Ad
 pub fn advise(s: State, volume: &[u8], memory: &[u8], frame: u32) -> Advised
     ensures { result ≡ advise_of volume.now memory.now s frame }
 {
-    let no = refusal(s, volume, memory, frame);
-    if no != 0 {
-        return answer::refused(no);
+    if let Err(refusal) = refusal(s, volume, memory, frame) {
+        return answer::plain(Upkeep::Refused(u32::from(refusal)));
     }
-    let g = heading::geometry(volume);
-    policy(s, volume, memory, g, frame)
+    policy(s, &Volume::of(volume), memory, frame)
 }

@@ -1,51 +1,48 @@
 // The log positions: position i is the record that the i-th next one displaces.
-ghost use Rattle.std.specs.Prelude.{◌≡◌, true, ◌≤◌};
-ghost use Rattle.model.specs.Geometry.{geometry_of, valid_volume};
+ghost use Rattle.std.specs.Prelude.{◌≡◌, true, ◌+◌, ◌≤◌, MatchOption};
 ghost use Rattle.model.specs.Scan.{log_record};
-ghost use Rattle.upkeep_policy.specs.Upkeep.{log_position, log_ahead, first_needed_log};
+ghost use Rattle.upkeep_policy.specs.Upkeep.{log_position, log_ahead, reserve, first_needed_log};
 
 use item::record;
-use model::geometry::Geometry;
 use model::state::State;
-use volume::place;
+use volume::Volume;
 
 // Log position i is needed.
-fn ahead(s: State, volume: &[u8], g: Geometry, i: u32) -> bool
-    requires { (valid_volume volume.now ≡ true) × (g ≡ geometry_of volume.now) × (i ≤ g.records) }
-    ensures { result ≡ log_ahead g volume.now s i }
+fn ahead(s: State, v: &Volume<'_>, i: u32) -> bool
+    requires { i ≤ v.now.geometry.records }
+    ensures { result ≡ log_ahead v.now.geometry v.now.bytes.now s i }
 {
-    let slots = g.records as u64;
-    let number = s.durable as u64 + i as u64;
+    let slots = u64::from(v.geometry.records);
+    let number = u64::from(s.durable) + u64::from(i);
     if number <= slots {
         return false;
     }
-    room::log::needed(s, volume, g, (number - slots) as u32)
+    room::log::needed(s, v, (number - slots) as u32)
 }
 
-// The first of the positions in half the log that is needed; the number behind them where none is.
-pub fn first(s: State, volume: &[u8], g: Geometry) -> u32
-    requires { (valid_volume volume.now ≡ true) × (g ≡ geometry_of volume.now) }
-    ensures { result ≡ first_needed_log g volume.now s }
+// The first of the positions in half the log that is needed; None, for which the definition has the number behind them,
+// where none is.
+pub fn first(s: State, v: &Volume<'_>) -> Option<u32>
+    ensures { MatchOption result
+        (first_needed_log v.now.geometry v.now.bytes.now s ≡ reserve v.now.geometry + 1)
+        (λ i. (i ≡ first_needed_log v.now.geometry v.now.bytes.now s) × (i ≤ reserve v.now.geometry)) }
 {
-    let half = g.records / 2;
-    let mut i: u32 = 1;
-    while i <= half {
-        if ahead(s, volume, g, i) {
-            return i;
+    let half = v.geometry.records / 2;
+    for i in 1..half + 1 {
+        if ahead(s, v, i) {
+            return Some(i);
         }
-        i += 1;
     }
-    i
+    None
 }
 
 // The page of the record at a position.
-pub fn page(s: State, volume: &[u8], g: Geometry, i: u32) -> u32
-    requires { (valid_volume volume.now ≡ true) × (g ≡ geometry_of volume.now) × (i ≤ g.records)
-        × (log_ahead g volume.now s i ≡ true) }
-    ensures { result ≡ (log_record g volume.now (log_position g s i)).page }
+pub fn page(s: State, v: &Volume<'_>, i: u32) -> u32
+    requires { (i ≤ v.now.geometry.records) × (log_ahead v.now.geometry v.now.bytes.now s i ≡ true) }
+    ensures { result ≡ (log_record v.now.geometry v.now.bytes.now (log_position v.now.geometry s i)).page }
 {
-    let slots = g.records as u64;
-    let number = s.durable as u64 + i as u64;
-    let e = record::read(place::record(volume, g, (number - slots) as u32));
-    e.page as u32
+    let slots = u64::from(v.geometry.records);
+    let number = u64::from(s.durable) + u64::from(i);
+    let e = record::read(v.record((number - slots) as u32));
+    u32::from(e.page)
 }

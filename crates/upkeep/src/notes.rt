@@ -1,20 +1,21 @@
 // The note positions: position i is the note that the i-th next one displaces. One pass over the notes tells which of
 // positions 1 and 2 is the first that is needed, and so whether the notes are full.
-ghost use Rattle.std.specs.Prelude.{◌≡◌, true, ◌&&◌, List, eqb, ℕ, ◌+◌, ◌-◌, ◌≤◌, ◌<◌};
-ghost use Rattle.model.specs.Geometry.{ring, geometry_of, valid_volume};
+ghost use Rattle.std.specs.Prelude.{◌≡◌, true, ◌&&◌, eqb, ◌+◌, ◌-◌, ◌≤◌, ◌<◌, MatchOption};
+ghost use Rattle.model.specs.Geometry.{ring};
 ghost use Rattle.model.specs.Scan.{note_record};
 ghost use Rattle.model.specs.State.{note_needed, notes_full};
 ghost use Rattle.upkeep_policy.specs.Upkeep.{note_position, note_ahead, first_needed_note};
+ghost use Rattle.upkeep.specs.Parts.{FirstNote};
 
 use item::note;
-use model::geometry::Geometry;
 use model::item::Note;
 use model::state::State;
 use room::notes;
 use sums::checksum;
-use volume::{place, ring};
+use volume::{Volume, place, ring};
 
-// Whether the note is needed that the next one displaces, and the one that the note after that displaces.
+// Whether the note is needed that the next one displaces, and the one that the note after that displaces: each may be
+// so without the other, so that these are two flags and no Option.
 #[derive(Clone, Copy)]
 pub struct Oldest {
     pub first: bool,
@@ -28,95 +29,94 @@ fn like(a: Note, b: Note) -> bool
     (a.page == b.page) & (a.kind == b.kind)
 }
 
-// The one pass: notes j - 1 and j, of k, against the notes after them, until neither is needed.
-fn pass(volume: &[u8], g: Geometry, k: u32, j: u32) -> Oldest
-    requires { (valid_volume volume.now ≡ true) × (g ≡ geometry_of volume.now) × (1 ≤ g.notes) × (1 ≤ j)
-        × (j ≤ k) }
-    ensures { (result.first ≡ note_needed g volume.now k (j - 1))
-        × (result.second ≡ note_needed g volume.now k j) }
+// The one pass: notes j - 1 and j, of k, against the notes after them, until neither is needed. The turns are counted,
+// and not the numbers: k may be the last number, which no range can end behind.
+fn pass(v: &Volume<'_>, k: u32, j: u32) -> Oldest
+    requires { (1 ≤ v.now.geometry.notes) × (1 ≤ j) × (j ≤ k) }
+    ensures { (result.first ≡ note_needed v.now.geometry v.now.bytes.now k (j - 1))
+        × (result.second ≡ note_needed v.now.geometry v.now.bytes.now k j) }
 {
-    let a = notes::stored(volume, g, j - 1);
-    let b = notes::stored(volume, g, j);
-    let mut second = notes::whole(volume, g, j);
-    let mut first = notes::whole(volume, g, j - 1) & !(second & like(b, a));
-    let later = k - j;
-    let mut i: u32 = 0;
-    while (i < later) & (first | second) {
+    let a = notes::stored(v, j - 1);
+    let b = notes::stored(v, j);
+    let mut second = notes::whole(v, j);
+    let mut first = notes::whole(v, j - 1) & !(second & like(b, a));
+    for i in 0..k - j {
+        if !(first | second) {
+            return Oldest { first, second };
+        }
         let n = j + i + 1;
-        let e = notes::stored(volume, g, n);
-        let whole = notes::whole(volume, g, n);
+        let e = notes::stored(v, n);
+        let whole = notes::whole(v, n);
         first = first & !(whole & like(e, a));
         second = second & !(whole & like(e, b));
-        i += 1;
     }
     Oldest { first, second }
 }
 
 // With one slot: note k, and, since the next note is in its own way, note k + 1.
-fn only(volume: &[u8], g: Geometry, k: u32) -> Oldest
-    requires { (valid_volume volume.now ≡ true) × (g ≡ geometry_of volume.now) × (g.notes ≡ 1) }
-    ensures { (result.first ≡ note_needed g volume.now k k)
-        × (result.second ≡ note_needed g volume.now k (k + 1)) }
+fn only(v: &Volume<'_>, k: u32) -> Oldest
+    requires { v.now.geometry.notes ≡ 1 }
+    ensures { (result.first ≡ note_needed v.now.geometry v.now.bytes.now k k)
+        × (result.second ≡ note_needed v.now.geometry v.now.bytes.now k (k + 1)) }
 {
-    let r = place::note(volume, g, 1);
+    let r = v.note(1);
     let e = note::read(r);
     let whole = checksum::holds(r, 12);
     Oldest {
         first: whole & (e.number == k),
-        second: whole & (e.number as u64 == k as u64 + 1),
+        second: whole & (u64::from(e.number) == u64::from(k) + 1),
     }
 }
 
 // The notes of positions 1 and 2, of k, where position 2 has a number.
-fn positions(volume: &[u8], g: Geometry, k: u32) -> Oldest
-    requires { (valid_volume volume.now ≡ true) × (g ≡ geometry_of volume.now) × (1 ≤ g.notes)
-        × (g.notes < k + 2) }
-    ensures { (result.first ≡ note_needed g volume.now k (k + 1 - g.notes))
-        × (result.second ≡ note_needed g volume.now k (k + 2 - g.notes)) }
+fn positions(v: &Volume<'_>, k: u32) -> Oldest
+    requires { (1 ≤ v.now.geometry.notes) × (v.now.geometry.notes < k + 2) }
+    ensures { (result.first ≡ note_needed v.now.geometry v.now.bytes.now k (k + 1 - v.now.geometry.notes))
+        × (result.second ≡ note_needed v.now.geometry v.now.bytes.now k (k + 2 - v.now.geometry.notes)) }
 {
-    let slots = g.notes;
+    let slots = v.geometry.notes;
     if slots == 1 {
-        return only(volume, g, k);
+        return only(v, k);
     }
-    pass(volume, g, k, k - (slots - 2))
+    pass(v, k, k - (slots - 2))
 }
 
-// The first of note positions 1 and 2 that is needed; 3 where none is.
-pub fn first(s: State, volume: &[u8], g: Geometry) -> u32
-    requires { (valid_volume volume.now ≡ true) × (g ≡ geometry_of volume.now) }
-    ensures { result ≡ first_needed_note g volume.now s }
+// The first of note positions 1 and 2 that is needed; None, for which the definition has 3, where none is.
+pub fn first(s: State, v: &Volume<'_>) -> Option<u32>
+    ensures { FirstNote result v.now.geometry v.now.bytes.now s }
 {
-    let k = s.notes as u64;
-    let slots = g.notes as u64;
+    let k = u64::from(s.notes);
+    let slots = u64::from(v.geometry.notes);
     if (slots == 0) | (k + 2 <= slots) {
-        return 3;
+        return None;
     }
-    let x = positions(volume, g, s.notes);
+    let x = positions(v, s.notes);
     if (slots <= k) & x.first {
-        return 1;
+        return Some(1);
     }
     if x.second {
-        return 2;
+        return Some(2);
     }
-    3
+    None
 }
 
 // The notes are full: no slot, or the last number is given, or position 1 is needed, which the first needed tells.
-pub fn full(s: State, g: Geometry, first: u32) -> bool
-    requires { ring g ≡ true }
-    ensures { (v : List ℕ) → first ≡ first_needed_note g v s → result ≡ notes_full g v s }
+pub fn full(s: State, v: &Volume<'_>, first: Option<u32>) -> bool
+    requires ring { ring v.now.geometry ≡ true }
+    requires first { FirstNote first v.now.geometry v.now.bytes.now s }
+    ensures { result ≡ notes_full v.now.geometry v.now.bytes.now s }
 {
-    (g.notes == 0) | ((ring::most_notes(g) <= s.notes) | (first == 1))
+    let g = v.geometry;
+    (g.notes == 0) | ((ring::most_notes(g) <= s.notes) | (first == Some(1)))
 }
 
 // The note at a position that is needed.
-pub fn at(s: State, volume: &[u8], g: Geometry, i: u32) -> Note
-    requires { (valid_volume volume.now ≡ true) × (g ≡ geometry_of volume.now) × (1 ≤ i)
-        × (note_ahead g volume.now s i ≡ true) }
-    ensures { result ≡ note_record g volume.now (note_position g s i) }
+pub fn at(s: State, v: &Volume<'_>, i: u32) -> Note
+    requires { (1 ≤ i) × (note_ahead v.now.geometry v.now.bytes.now s i ≡ true) }
+    ensures { result ≡ note_record v.now.geometry v.now.bytes.now (note_position v.now.geometry s i) }
 {
-    let slots = g.notes as u64;
-    let number = s.notes as u64 + i as u64;
+    let slots = u64::from(v.geometry.notes);
+    let number = u64::from(s.notes) + u64::from(i);
     let n = (number - slots - 1) % slots;
-    note::read(place::part(volume, place::note_at(g, n as u32 + 1), 16))
+    note::read(place::part(v.bytes, place::note_at(v.geometry, n as u32 + 1), 16))
 }

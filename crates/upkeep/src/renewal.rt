@@ -1,100 +1,108 @@
 // The renewal of a note, or of a record, of a page: one call nearer to it.
-ghost use Rattle.std.specs.Prelude.{◌≡◌, true};
-ghost use Rattle.model.specs.Geometry.{geometry_of, valid_volume};
+ghost use Rattle.std.specs.Prelude.{◌≡◌, ◌+◌, ◌≤◌, MatchOption};
 ghost use Rattle.model.specs.State.{notes_full};
 ghost use Rattle.upkeep_policy.specs.Upkeep.{free_slot, bring_in, back_up, write_out, renew, advised_by};
 
 use crate::answer;
 use codec::field;
+use load::probe;
+use model::answer::Refusal;
 use model::command::Command;
-use model::geometry::Geometry;
 use model::state::State;
 use room::log;
 use state::frames;
-use upkeep_policy::upkeep::Advised;
-use volume::memory;
+use upkeep_policy::upkeep::{Advised, Upkeep};
+use volume::{Volume, memory};
 
-// The lowest slot outside the index; the number behind the slots where there is none.
-fn free_slot(s: State, volume: &[u8], g: Geometry) -> u32
-    requires { (valid_volume volume.now ≡ true) × (g ≡ geometry_of volume.now) }
-    ensures { result ≡ free_slot g s }
-{
-    let index = s.index;
-    let slots = g.slots;
-    let mut b: u32 = 1;
-    while b <= slots {
-        if !index_rows::entries::used(index, b) {
-            return b;
+// What a renewal goes by: the state, the volume and the memory, the frame that is left to upkeep, and whether there is
+// no room for a note.
+#[derive(Clone, Copy)]
+pub struct Renewal<'a> {
+    pub state: State,
+    pub volume: Volume<'a>,
+    pub memory: &'a [u8],
+    pub frame: u32,
+    pub full: bool,
+    pub ghost told: { full ≡ notes_full volume.geometry volume.bytes.now state },
+}
+
+impl<'a> Renewal<'a> {
+    // The lowest slot outside the index; None, for which the definition has the number behind the slots, where there is
+    // none.
+    fn free_slot(&self) -> Option<u32>
+        ensures { MatchOption result
+            (free_slot self.now.volume.geometry self.now.state ≡ self.now.volume.geometry.slots + 1)
+            (λ b. (b ≡ free_slot self.now.volume.geometry self.now.state)
+            × (b ≤ self.now.volume.geometry.slots)) }
+    {
+        let index = self.state.index;
+        let slots = self.volume.geometry.slots;
+        for b in 1..slots + 1 {
+            if !index_rows::entries::used(index, b) {
+                return Some(b);
+            }
         }
-        b += 1;
+        None
     }
-    b
-}
 
-// The page is in no frame: a Load, unless the page is lost.
-fn bring_in(s: State, volume: &[u8], memory: &[u8], frame: u32, page: u32) -> Advised
-    ensures { result ≡ advised_by (bring_in volume.now memory.now s frame page) }
-{
-    let no = load::probe::refusal(s, volume, memory, page, frame);
-    if no == 23 {
-        return answer::stuck(page);
-    }
-    answer::make(Command::Load { page, frame })
-}
-
-// A backup note, or a record: a Backup into the lowest free slot.
-fn back_up(s: State, volume: &[u8], g: Geometry, page: u32, full: bool) -> Advised
-    requires { (valid_volume volume.now ≡ true) × (g ≡ geometry_of volume.now)
-        × (full ≡ notes_full g volume.now s) }
-    ensures { result ≡ advised_by (back_up volume.now s page) }
-{
-    let slot = free_slot(s, volume, g);
-    if (g.slots < slot) | full {
-        return answer::stuck(page);
-    }
-    answer::make(Command::Backup { page, slot })
-}
-
-// A written note: a Write where the page is dirty, else the refreshing put that makes it so.
-fn write_out(s: State, volume: &[u8], memory: &[u8], g: Geometry, page: u32, full: bool) -> Advised
-    requires { (valid_volume volume.now ≡ true) × (g ≡ geometry_of volume.now)
-        × (full ≡ notes_full g volume.now s) }
-    ensures { result ≡ advised_by (write_out volume.now memory.now s page) }
-{
-    let f = frames::holder(s, page);
-    let row = frames::frame(s, f);
-    if row.dirty {
-        if full {
-            return answer::stuck(page);
+    // The page is in no frame: a Load, unless the page is lost.
+    fn bring_in(&self, page: u32) -> Advised
+        ensures { result
+            ≡ advised_by (bring_in self.now.volume.bytes.now self.now.memory.now self.now.state self.now.frame page) }
+    {
+        let frame = self.frame;
+        if probe::refusal(self.state, self.volume.bytes, self.memory, page, frame)
+            == Err(Refusal::PageLost)
+        {
+            return answer::plain(Upkeep::Stuck(page));
         }
-        return answer::make(Command::Write { page });
+        answer::plain(Upkeep::Make(Command::Load { page, frame }))
     }
-    if log::full(s, volume, g) {
-        return answer::stuck(page);
-    }
-    answer::put(page, field::byte(memory, memory::frame_at(f) + 8))
-}
 
-// The next call of the renewal of the page's note, written or backup; full: there is no room for a note.
-pub fn renew(
-    s: State,
-    volume: &[u8],
-    memory: &[u8],
-    g: Geometry,
-    frame: u32,
-    page: u32,
-    written: bool,
-    full: bool,
-) -> Advised
-    requires { (valid_volume volume.now ≡ true) × (g ≡ geometry_of volume.now)
-        × (full ≡ notes_full g volume.now s) }
-    ensures { result ≡ advised_by (renew volume.now memory.now s frame page written) }
-{
-    if !frames::held(s, page) {
-        return bring_in(s, volume, memory, frame, page);
+    // A backup note, or a record: a Backup into the lowest free slot.
+    fn back_up(&self, page: u32) -> Advised
+        ensures { result ≡ advised_by (back_up self.now.volume.bytes.now self.now.state page) }
+    {
+        if self.full {
+            return answer::plain(Upkeep::Stuck(page));
+        }
+        match self.free_slot() {
+            Some(slot) => answer::plain(Upkeep::Make(Command::Backup { page, slot })),
+            None => answer::plain(Upkeep::Stuck(page)),
+        }
     }
-    if written {
-        return write_out(s, volume, memory, g, page, full);
+
+    // A written note: a Write where the page is dirty, else the refreshing put that makes it so.
+    fn write_out(&self, page: u32) -> Advised
+        ensures { result
+            ≡ advised_by (write_out self.now.volume.bytes.now self.now.memory.now self.now.state page) }
+    {
+        let f = frames::holder(self.state, page);
+        let row = frames::frame(self.state, f);
+        if row.dirty {
+            if self.full {
+                return answer::plain(Upkeep::Stuck(page));
+            }
+            return answer::plain(Upkeep::Make(Command::Write { page }));
+        }
+        if log::full(self.state, &self.volume) {
+            return answer::plain(Upkeep::Stuck(page));
+        }
+        answer::put(page, field::byte(self.memory, memory::frame_at(f) + 8))
     }
-    back_up(s, volume, g, page, full)
+
+    // The next call of the renewal of the page's note, written or backup.
+    pub fn renew(&self, page: u32, written: bool) -> Advised
+        ensures { result
+            ≡ advised_by (renew self.now.volume.bytes.now self.now.memory.now self.now.state self.now.frame page
+            written) }
+    {
+        if !frames::held(self.state, page) {
+            return self.bring_in(page);
+        }
+        if written {
+            return self.write_out(page);
+        }
+        self.back_up(page)
+    }
 }

@@ -1,13 +1,18 @@
--- `mend::advise` meets its contract.
-use mathlib.Core.Path.{sym, ◌∙◌}
-use Rattle.mend.proofs.Cases.{advise-refused, advise-open, fits}
+-- `mend::advise`: refused by its rows, else the policy's.
+use mathlib.Core.Path.{refl}
+use Rattle.upkeep.proofs.Refused.{refusal-some}
+use Rattle.mend.proofs.Cases.{advise-refused, advise-open}
 use Rattle.mend.proofs.advise.Goals as goal
 
-pub returns-then-no-ne0 : goal.returns-then-no-ne0
-returns-then-no-ne0 c = let a = c.args in advise-refused a.volume.now a.memory.now a.s a.frame a.page _ c.refusal-no.ensures _ c.if-no-ne0.true c.refused.ensures
+pub returns-in-Ok : goal.returns-in-Ok
+returns-in-Ok c =
+    let a = c.args in
+    let p = c.in-Ok.ensures.page in
+    advise-open a.volume.now a.memory.now a.s a.frame a.page 0 c.in-Ok.ensures.refusal _ refl
+    (rw (p.0, p.1, p.2, p.3, p.4) at c.policy.ensures)
 
-pub policy-requires : goal.policy-requires
-policy-requires c = let a = c.args in fits a.volume.now a.memory.now a.s a.frame a.page _ c.geometry-g.ensures (sym c.refusal-no.ensures ∙ c.if-no-ne0.false)
-
-pub returns : goal.returns
-returns c = let a = c.args in advise-open a.volume.now a.memory.now a.s a.frame a.page _ c.refusal-no.ensures _ c.if-no-ne0.false c.policy.ensures
+pub returns-in-Err : goal.returns-in-Err
+returns-in-Err c =
+    let a = c.args in
+    advise-refused a.volume.now a.memory.now a.s a.frame a.page _ c.in-Err.ensures.refusal _ (refusal-some _)
+    (rw c.from.ensures at c.plain.ensures)

@@ -1,24 +1,18 @@
--- `upkeep::advise` meets its contract.
-use mathlib.Core.Path.{sym, ◌∙◌}
+-- `upkeep::advise`: refused by its rows, else the policy's.
+use mathlib.Core.Path.{refl, sym}
+use Rattle.upkeep.proofs.Refused.{refusal-some}
 use Rattle.upkeep.proofs.Advice.{advise-refused, advise-open, advise-valid}
 use Rattle.upkeep.proofs.advise.Goals as goal
 
-pub returns-then-no-ne0 : goal.returns-then-no-ne0
-returns-then-no-ne0 c =
+pub returns-in-Err : goal.returns-in-Err
+returns-in-Err c =
     let a = c.args in
-    advise-refused a.volume.now a.memory.now a.s a.frame _ c.refusal-no.ensures _
-    c.if-no-ne0.true c.refused.ensures
+    advise-refused a.volume.now a.memory.now a.s a.frame _ c.in-Err.ensures _ (refusal-some _) (rw c.from.ensures at c.plain.ensures)
 
-pub policy-requires : goal.policy-requires
-policy-requires c =
-    let a = c.args in (
-      advise-valid a.volume.now a.memory.now a.s a.frame (sym c.refusal-no.ensures
-          ∙ c.if-no-ne0.false),
-      c.geometry-g.ensures,
-    )
+pub of-requires : goal.of-requires
+of-requires c = let a = c.args in advise-valid a.volume.now a.memory.now a.s a.frame (sym c.in_default.ensures)
 
 pub returns : goal.returns
 returns c =
     let a = c.args in
-    advise-open a.volume.now a.memory.now a.s a.frame _ c.refusal-no.ensures
-    _ c.if-no-ne0.false c.policy.ensures
+    advise-open a.volume.now a.memory.now a.s a.frame 0 c.in_default.ensures _ refl (rw c.of.ensures at c.policy.ensures)

@@ -1,61 +1,44 @@
--- `upkeep::renewed` meets its contract.
+-- `upkeep::renewed`: the first needed note position, then the first needed log position.
+use mathlib.Core.Path.{refl}
+use Prim.Native.Nat.{◌/◌, ◌<◌}
 use native.Mathlib.Omega.{arith}
+use Rattle.upkeep_policy.specs.Upkeep.{first_needed_note, first_needed_log}
 use Rattle.upkeep.proofs.NotePositions.{note-hit}
 use Rattle.upkeep.proofs.LogPositions.{log-hit}
 use Rattle.upkeep.proofs.Advice.{ring-note, ring-log, ring-idle}
 use Rattle.upkeep.proofs.renewed.Goals as goal
 
-pub full-full-requires : goal.full-full-requires
-full-full-requires c = c.requires.2
-
 pub at-n-requires : goal.at-n-requires
 at-n-requires c =
+    let v = c.args.v.now in
+    let h = note-hit v.geometry v.bytes.now c.args.s _ c.in-Some.ensures.0 c.in-Some.ensures.2 in
+    (h.0, h.1)
+
+pub returns-in-Some : goal.returns-in-Some
+returns-in-Some c =
+    let v = c.args.v.now in
     let a = c.args in
-    let p = c.requires in
-    let h = note-hit a.g a.volume.now a.s _ c.first-i.ensures c.if-i-le2.true in
-    (p.0, p.1, h.0, h.1)
+    ring-note v.bytes.now a.memory.now a.s a.frame _ v.geometry v.read _ c.in-Some.ensures.0 _ c.in-Some.ensures.2
+    c.at-n.ensures (rw c.from.ensures at c.renew.ensures)
 
-pub renew-requires : goal.renew-requires
-renew-requires c =
-    let q = c in
-    let p = c.requires in
-    (p.0, p.1, q.full-full.ensures _ q.first-i.ensures)
+pub page-requires : goal.page-requires
+page-requires c =
+    let v = c.args.v.now in
+    let f = c.in-Some-first.ensures in
+    (omega (arith, f.1), log-hit v.geometry v.bytes.now c.args.s _ f.0 f.1)
 
-pub returns-then-i-le2 : goal.returns-then-i-le2
-returns-then-i-le2 c =
-    let q = c in
+pub returns-in-Some-first : goal.returns-in-Some-first
+returns-in-Some-first c =
+    let v = c.args.v.now in
     let a = c.args in
-    let p = c.requires in
-    ring-note a.volume.now a.memory.now a.s a.frame _ a.g p.1 _
-    q.first-i.ensures _ q.if-i-le2.true q.at-n.ensures c.renew.ensures
-
-pub page-page-requires : goal.page-page-requires
-page-page-requires c =
-    let a = c.args in
-    let p = c.requires in
-    let h = log-hit a.g a.volume.now a.s _ c.first-j.ensures c.if-j-g.true in
-    (p.0, p.1, omega (arith, c.if-j-g.true), h)
-
-pub renew-requires-then-j-g : goal.renew-requires-then-j-g
-renew-requires-then-j-g c =
-    let q = c in
-    let p = c.requires in
-    (p.0, p.1, q.full-full.ensures _ q.first-i.ensures)
-
-pub returns-then-j-g : goal.returns-then-j-g
-returns-then-j-g c =
-    let q = c in
-    let a = c.args in
-    let p = c.requires in
-    ring-log a.volume.now a.memory.now a.s a.frame _ a.g p.1 _
-    q.first-i.ensures q.if-i-le2.false _ q.first-j.ensures _
-    c.if-j-g.true c.page-page.ensures c.renew-then-j-g.ensures
+    let past : 2 < first_needed_note v.geometry v.bytes.now a.s = omega (arith, c.in_default.ensures) in
+    ring-log v.bytes.now a.memory.now a.s a.frame _ v.geometry v.read _ refl past _ c.in-Some-first.ensures.0 _
+    c.in-Some-first.ensures.1 c.page.ensures c.renew-in-Some-first.ensures
 
 pub returns : goal.returns
 returns c =
-    let q = c in
+    let v = c.args.v.now in
     let a = c.args in
-    let p = c.requires in
-    ring-idle a.volume.now a.memory.now a.s a.frame _ a.g p.1 _
-    q.first-i.ensures q.if-i-le2.false _ q.first-j.ensures c.if-j-g.false
-    c.idle.ensures
+    let past : 2 < first_needed_note v.geometry v.bytes.now a.s = omega (arith, c.in_default.ensures) in
+    let none : v.geometry.records / 2 < first_needed_log v.geometry v.bytes.now a.s = omega (arith, c.in_default-first.ensures) in
+    ring-idle v.bytes.now a.memory.now a.s a.frame _ v.geometry v.read _ refl past _ refl none c.plain.ensures

@@ -1,16 +1,16 @@
 -- `failing::failing` is its definition.
-use mathlib.Core.Path.{sym, ◌∙◌}
+use mathlib.Core.Path.{◌∙◌}
+use Rattle.laws.proofs.Tables.{by_cases}
+use Rattle.model.specs.Geometry.{valid_volume}
+use Rattle.convert.proofs.Refused.{refusal-some}
 use Rattle.convert.proofs.Places.{failing-none, failing-some}
 use Rattle.convert.proofs.failing.failing.Goals as goal
 
-pub returns-then-not-valid : goal.returns-then-not-valid
-returns-then-not-valid c = failing-none _ _ _ c.valid.ensures c.if-not-valid.true
+pub returns-in-Ok : goal.returns-in-Ok
+returns-in-Ok c = let v = c.in-Ok.v in failing-some _ _ _ _ _ c.in-Ok.ensures.bytes v.valid v.read c.count.ensures
 
-pub count-requires : goal.count-requires
-count-requires c =
-    (sym c.valid.ensures ∙ c.if-not-valid.false, c.geometry-g.ensures)
-
-pub returns : goal.returns
-returns c =
-    failing-some _ _ _ _ _ c.valid.ensures c.if-not-valid.false
-    c.geometry-g.ensures c.count.ensures
+pub returns-in-Err : goal.returns-in-Err
+returns-in-Err c =
+    failing-none _ _ (by_cases (valid_volume c.args.volume.now)
+    (λ t. absurd (refusal-some _ (c.in-Err.ensures.refusal ∙ rw t)))
+    (λ t. t))

@@ -2,7 +2,6 @@
 use Rattle.model.specs.Item.{valid_somewhere}
 use Rattle.convert.proofs.passes.somewhere.Goals as goal
 
--- src/passes.rt:54:1
 pub returns : goal.returns
 unfolding valid_somewhere
-returns c = rw (c.valid-valid.ensures, c.u16_at-page.ensures)
+returns c = rw (c.valid-valid.ensures, c.from-page.ensures, c.u16_at.ensures)

@@ -1,42 +1,33 @@
--- `room_report::notes::count` meets its contract: what is left of the search gives the whole.
-use Prim.Native.Nat.{ℕ, ◌-◌}
-use mathlib.Core.Path.{◌≡◌, sym, ap, ◌∙◌}
+-- `room_report::notes::count`: what is left of the search gives the whole.
+use mathlib.Core.Path.{◌≡◌, sym, ◌∙◌}
 use mathlib.Core.Bool.{true, false}
 use native.Mathlib.Omega.{arith}
 use Rattle.laws.proofs.Search.{first-here, first_on, first-end}
-use Rattle.state.proofs.Slots.{most-notes-high}
-use Rattle.model.specs.Passes.{first_from}
-use Rattle.reports.specs.Room.{after_notes, notes_full_after}
+use Rattle.volume.proofs.Slots.{most-notes-high}
+use Rattle.reports.specs.Room.{after_notes}
 use Rattle.room_report.proofs.Remaining.{note-numbers, note-tested}
-use borrow.Author.Rules.{rules}
 use Rattle.room_report.proofs.notes.count.Goals as goal
-
-pub loop-i-init : goal.loop-i-init
-loop-i-init c =
-    let a = c.args in
-    let n = a.g.notes in
-    let e : n - 0 ≡ n = omega arith in
-    (search rules, search rules, ap (λ (k : ℕ). first_from k (notes_full_after a.g a.volume.now a.s) 0) e)
 
 pub returns-then-full : goal.returns-then-full
 returns-then-full c =
-    let a = c.args in
-    let h = note-tested a.g a.volume.now a.s c.loop-i.i _ _ true c.after.ensures c.full.ensures
-    c.if-full.true in
-    (sym (first-here _ _ _ c.loop-i-test.true h) ∙ c.loop-i.invariant.2, c.loop-i.invariant.0)
+    let v = c.args.v.now in
+    let l = c.loop-i in
+    let h = note-tested v.geometry v.bytes.now c.args.s l.i _ _ true c.after.ensures c.full.ensures c.if-full.true in
+    (sym (first-here _ _ _ c.loop-i-test.true h) ∙ l.invariant.1, l.invariant.0)
 
 pub loop-i-preserved : goal.loop-i-preserved
 loop-i-preserved c =
-    let a = c.args in
-    let p = c.requires in
-    let h = note-tested a.g a.volume.now a.s c.loop-i.i _ _ false c.after.ensures
-    c.full.ensures
-    c.if-full.false in
-    let n = note-numbers a.g a.volume.now (after_notes a.s c.loop-i.i) h in
-    let m = most-notes-high a.volume.now a.g p.0 p.1 in
-    (omega (arith, n, m), search rules, sym (first_on _ _ _ c.loop-i-test.true h) ∙ c.loop-i.invariant.2)
+    let v = c.args.v.now in
+    let s = c.args.s in
+    let l = c.loop-i in
+    let h = note-tested v.geometry v.bytes.now s l.i _ _ false c.after.ensures c.full.ensures c.if-full.false in
+    let n = note-numbers v.geometry v.bytes.now (after_notes s l.i) h in
+    let m = most-notes-high v.bytes.now v.geometry v.valid v.read in
+    (omega (arith, n, m), sym (first_on _ _ _ c.loop-i-test.true h) ∙ l.invariant.1)
 
 pub returns : goal.returns
 returns c =
+    let v = c.args.v.now in
     let l = c.loop-i in
-    (sym (first-end _ _ l.i (omega arith)) ∙ l.invariant.2, l.invariant.0)
+    let e : v.geometry.notes ≡ l.i = omega arith in
+    (e ∙ (sym (first-end _ _ l.i (omega arith)) ∙ l.invariant.1), omega (arith, l.invariant.0))

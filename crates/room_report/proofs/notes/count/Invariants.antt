@@ -1,4 +1,4 @@
--- `room_report::notes::count` meets its contract: what is left of the search gives the whole.
+-- `room_report::notes::count`: what is left of the search gives the whole.
 use Prim.Native.Nat.{◌+◌, ◌-◌, ◌≤◌}
 use mathlib.Core.Path.{◌≡◌}
 use Rattle.model.specs.Passes.{first_from}
@@ -7,7 +7,5 @@ use Rattle.room_report.proofs.notes.count.Given as goal
 
 abbrev pub invariant-loop-i : goal.invariant-loop-i
 invariant-loop-i l =
-    (l.s.notes + l.i ≤ 4294967295) × (l.i ≤ l.slots) × (first_from (l.slots - l.i) (notes_full_after l.g l.volume l.s) l.i ≡ notes_left l.g l.volume l.s)
-
-abbrev pub decreases-loop-i : goal.decreases-loop-i
-decreases-loop-i l = l.slots - l.i
+    (l.s.notes + l.i ≤ 4294967295)
+    × (first_from (l.slots - l.i) (notes_full_after l.v.geometry l.v.bytes.now l.s) l.i ≡ notes_left l.v.geometry l.v.bytes.now l.s)

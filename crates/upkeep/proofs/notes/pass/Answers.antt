@@ -1,89 +1,51 @@
--- `upkeep::notes::pass` meets its contract.
-use mathlib.Core.Path.{◌≡◌, refl}
-use mathlib.Core.Bool.{Bool, true, ◌&&◌, ◌||◌}
-use Prim.Native.Nat.{ℕ, suc, ◌+◌, ◌-◌, ◌≤◌, ◌<◌}
+-- `upkeep::notes::pass`: what the pass has seen of the two notes.
+use mathlib.Core.Path.{refl}
+use Prim.Native.Nat.{suc, ◌+◌, ◌-◌}
 use native.Mathlib.Omega.{arith}
-use lib.Dec.{ltb}
-use borrow.Author.Tests.{ltb-true}
-use Rattle.laws.proofs.Tables.{and_left}
-use Rattle.upkeep.proofs.NotePass.{spent, pass-start, pass_on, pass-end}
+use Rattle.laws.proofs.Tables.{or-neither}
+use Rattle.upkeep.proofs.NotePass.{pass-start, pass_on, pass-end}
 use Rattle.upkeep.proofs.notes.pass.Goals as goal
-
--- a turn of the loop
-in-loop : (i n : ℕ) (a b : Bool) → (ltb i n && (a || b)) ≡ true → i < n
-in-loop i n a b h = ltb-true i n (and_left (ltb i n) (a || b) h)
 
 pub loop-i-init : goal.loop-i-init
 loop-i-init c =
-    let q = c in
-    let d = c.args in (
-      omega arith,
-      pass_on d.g d.volume.now (d.j - 1) 0 1 d.j _ _ _ _ _ refl
-          (omega (arith, c.requires.3))
-          (pass-start d.g d.volume.now (d.j - 1) _ c.whole.ensures) q.whole-second.ensures
-          q.stored-a.ensures q.stored-b.ensures c.like.ensures,
-      pass-start d.g d.volume.now d.j _ q.whole-second.ensures,
+    let v = c.args.v.now in
+    let j = c.args.j in (
+      pass_on v.geometry v.bytes.now (j - 1) 0 1 j _ _ _ _ _ refl (omega (arith, c.requires.1))
+          (pass-start v.geometry v.bytes.now (j - 1) _ c.whole.ensures) c.whole-second.ensures
+          c.stored-a.ensures c.stored-b.ensures c.like.ensures,
+      pass-start v.geometry v.bytes.now j _ c.whole-second.ensures,
     )
 
-pub overflow_add-n : goal.overflow_add-n
-overflow_add-n c =
+pub returns-then-not-first-second : goal.returns-then-not-first-second
+returns-then-not-first-second c =
+    let v = c.args.v.now in
+    let k = c.args.k in
+    let j = c.args.j in
     let l = c.loop-i in
-    let d = c.args in
-    omega (arith, in-loop l.i (d.k - d.j) l.first l.second c.loop-i-test.true)
-
-pub overflow_add-n-in-loop-i : goal.overflow_add-n-in-loop-i
-overflow_add-n-in-loop-i c =
-    let l = c.loop-i in
-    let d = c.args in
-    omega (arith, in-loop l.i (d.k - d.j) l.first l.second c.loop-i-test.true)
-
-pub overflow_add-i : goal.overflow_add-i
-overflow_add-i c =
-    let l = c.loop-i in
-    let d = c.args in
-    omega (
-      arith,
-      in-loop l.i (d.k - d.j) l.first l.second
-          c.loop-i-test.true,
-    )
-
-pub loop-i-smaller : goal.loop-i-smaller
-loop-i-smaller c =
-    let l = c.loop-i in
-    let d = c.args in
-    omega (
-      arith,
-      in-loop l.i (d.k - d.j) l.first l.second
-          c.loop-i-test.true,
+    let neither = or-neither l.first l.second c.if-not-first-second.true in (
+      pass-end v.geometry v.bytes.now k (j - 1) (suc l.i) l.first l.invariant.0 (omega (arith, c.requires)) (λ h. neither.0),
+      pass-end v.geometry v.bytes.now k j l.i l.second l.invariant.1 (omega (arith, c.requires)) (λ h. neither.1),
     )
 
 pub loop-i-preserved : goal.loop-i-preserved
 loop-i-preserved c =
-    let l = c.loop-i in
-    let q = c in
-    let d = c.args in
-    let below =
-    in-loop l.i (d.k - d.j) l.first l.second c.loop-i-test.true in
-    let one : 1 ≤ d.j =
-    c.requires.3 in (
-      omega (arith, below),
-      pass_on d.g d.volume.now (d.j - 1) (suc l.i) (suc (l.i + 1)) (d.j + l.i + 1) _ _ _ _ _
-          (omega arith) (omega (arith, one)) l.invariant.1 c.whole-whole.ensures
-          q.stored-a.ensures c.stored-e.ensures
-          c.like-in-loop-i.ensures,
-      pass_on d.g d.volume.now d.j l.i (l.i + 1) (d.j + l.i + 1) _ _ _ _ _
-          (omega arith) (omega arith) l.invariant.2 c.whole-whole.ensures
-          q.stored-b.ensures c.stored-e.ensures c.like-in-loop-i-2.ensures,
+    let v = c.args.v.now in
+    let j = c.args.j in
+    let l = c.loop-i in (
+      pass_on v.geometry v.bytes.now (j - 1) (suc l.i) (suc (l.i + 1)) (j + l.i + 1) _ _ _ _ _
+          (omega arith) (omega (arith, c.requires.1)) l.invariant.0 c.whole-whole.ensures
+          c.stored-a.ensures c.stored-e.ensures c.like-in-loop-i.ensures,
+      pass_on v.geometry v.bytes.now j l.i (l.i + 1) (j + l.i + 1) _ _ _ _ _
+          (omega arith) (omega arith) l.invariant.1 c.whole-whole.ensures
+          c.stored-b.ensures c.stored-e.ensures c.like-in-loop-i-2.ensures,
     )
 
 pub returns : goal.returns
 returns c =
-    let l = c.loop-i in
-    let d = c.args in
-    let one : 1 ≤ d.j = c.requires.3 in
-    let high : d.j ≤ d.k = c.requires.4 in
-    let over = spent l.i (d.k - d.j) l.first l.second c.loop-i-test.false in (
-      pass-end d.g d.volume.now d.k (d.j - 1) (suc l.i) l.first l.invariant.1
-          (omega (arith, one, high, l.invariant.0)) (λ h. (over (omega (arith, one, high, h))).0),
-      pass-end d.g d.volume.now d.k d.j l.i l.second l.invariant.2 l.invariant.0 (λ h. (over h).1),
+    let v = c.args.v.now in
+    let k = c.args.k in
+    let j = c.args.j in
+    let l = c.loop-i in (
+      pass-end v.geometry v.bytes.now k (j - 1) (suc l.i) l.first l.invariant.0 (omega (arith, c.requires)) (λ h. absurd (omega (arith, c.requires))),
+      pass-end v.geometry v.bytes.now k j l.i l.second l.invariant.1 (omega arith) (λ h. absurd (omega arith)),
     )
