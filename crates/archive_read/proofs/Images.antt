@@ -87,6 +87,19 @@ module _ (a : List ℕ) (rs : List (List ℕ)) (body₀ body : List ℕ) (left f
             made = ap (replay_records rest) m ∙ sym (ap (λ (l : List (List ℕ)). replay_records l body) (next-is a from left some)) ∙ h.made;
           }
 
+  pub replaying-next : (n i at : ℕ) → left ≡ n - i - 1 → from ≡ at + 64 * i + 64
+      → Replaying a rs body₀ body (n - (i + 1)) (at + 64 * (i + 1)) last
+  replaying-next n i at el ef =
+      let x : left ≡ n - (i + 1) = omega (arith, el) in
+      let y : from ≡ at + 64 * (i + 1) = omega (arith, ef) in
+      rw (x, y) at h
+
+  pub replaying-first : (n at : ℕ) → left ≡ n → from ≡ at → Replaying a rs body₀ body (n - 0) (at + 64 * 0) last
+  replaying-first n at el ef =
+      let x : left ≡ n - 0 = omega (arith, el) in
+      let y : from ≡ at + 64 * 0 = omega (arith, ef) in
+      rw (x, y) at h
+
   pub replaying-end : left ≤ 0 → (last ≡ last_number_in 0 rs) × (body ≡ replay_records rs body₀)
   unfolding replay_records last_number_in
   replaying-end z =

@@ -1,5 +1,5 @@
 -- Laws of the reader's outcome: its two rows, and what a refusal and a reading leave.
-use mathlib.Core.Path.{◌≡◌, sym, ap, ◌∙◌}
+use mathlib.Core.Path.{◌≡◌, sym, ◌∙◌}
 use mathlib.Core.Logic.{◌≢◌}
 use mathlib.Core.Bool.{true, false, not}
 use mathlib.Core.List.{List, [], ◌∷◌}
@@ -12,7 +12,7 @@ use Rattle.laws.proofs.Tables.{by_cases, none-at, and_left, and_right, within-bo
 use Rattle.model.specs.Tables.{Row, first_of, within}
 use Rattle.model.specs.Outcome.{refusal_of}
 use Rattle.reports.specs.Archive.{valid_from, parted_from, area_from, valid_area, read_rows, read_of}
-use Rattle.model.specs.declared.answer.Answer.TheVariants.{Refused, Done}
+use Rattle.model.specs.declared.answer.Answer.TheVariants.{Done}
 
 -- ---- the rows
 
@@ -63,20 +63,12 @@ module _ (a area : List ℕ) where
     refused-test : n ≢ 0 → eqb number 0 ≡ false
     refused-test h = ne_eqb number 0 (λ e. h (n-is ∙ e))
 
-    pub refused-answer : n ≢ 0 → Refused n ≡ (read_of a area).answer
-    unfolding read_of
-    refused-answer h = rw (refused-test h) (ap Refused n-is)
-
     pub refused-area : n ≢ 0 → area ≡ (read_of a area).buffer
     unfolding read_of
     refused-area h = rw (refused-test h)
 
     done-test : n ≡ 0 → eqb number 0 ≡ true
     done-test h = eq-eqb number 0 (sym n-is ∙ h)
-
-    pub done-answer : n ≡ 0 → Done ≡ (read_of a area).answer
-    unfolding read_of
-    done-answer h = rw (done-test h)
 
     pub done-area : n ≡ 0 → area_from 1 (parted_from (length area / 256) a) ≡ (read_of a area).buffer
     unfolding read_of
@@ -85,3 +77,8 @@ module _ (a area : List ℕ) where
   pub number_is : number ≡ refusal_of (read_of a area).answer
   unfolding read_of
   number_is = by_cases (eqb number 0) (λ t. rw t (eqb-true number 0 t)) (λ t. rw t)
+
+  pub done-answered : 0 ≡ refusal_of (read_of a area).answer → Done ≡ (read_of a area).answer
+  unfolding read_of
+  done-answered e =
+      let t : eqb number 0 ≡ true = eq-eqb number 0 (number_is ∙ sym e) in rw t

@@ -101,6 +101,19 @@ module _ (a : List ℕ) (p : ℕ) (rs : List (List ℕ)) (left from last : ℕ) 
         let w : valid_segment p (record_of r).lsn (records_from (left - 1) (drop (from + 64) a)) ≡ valid_segment p 0 rs = rw t at whole in
         record { room = omega (arith, j.room, some); same = rw (e, lsn-is r) w }
 
+  -- one record less, 64 bytes on
+  pub judging-next : (n i at : ℕ) → left ≡ n - i - 1 → from ≡ at + 64 * i + 64 → Judging a p rs (n - (i + 1)) (at + 64 * (i + 1)) last
+  judging-next n i at el ef =
+      let x : left ≡ n - (i + 1) = omega (arith, el) in
+      let y : from ≡ at + 64 * (i + 1) = omega (arith, ef) in
+      rw (x, y) at j
+
+  pub judging-first : (n at : ℕ) → left ≡ n → from ≡ at → Judging a p rs (n - 0) (at + 64 * 0) last
+  judging-first n at el ef =
+      let x : left ≡ n - 0 = omega (arith, el) in
+      let y : from ≡ at + 64 * 0 = omega (arith, ef) in
+      rw (x, y) at j
+
   pub judging-end : left ≤ 0 → true ≡ valid_segment p 0 rs
   unfolding valid_segment
   judging-end h = sym (ap (valid_segment p last) (next-none a from left (omega arith))) ∙ j.same

@@ -1,4 +1,5 @@
-// The cut of an archive into segments: a segment's count and its records fit what is left, and where it ends.
+// The cut of an archive into segments: a segment's count and its records fit what is left, and where it ends. Two
+// functions and no Option: the archive is rebuilt once it is known that every segment fits, and then `past` tests nothing.
 ghost use Rattle.std.specs.Prelude.{◌≡◌, true, ◌+◌, ◌*◌, ◌≤◌, length, drop};
 ghost use Rattle.model.specs.Bytes.{le};
 ghost use Rattle.reports.specs.Archive.{segment_fits};

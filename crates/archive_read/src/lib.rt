@@ -6,12 +6,13 @@ ghost use Rattle.std.specs.Prelude.{◌≡◌, length};
 ghost use Rattle.model.specs.Tables.{first_of};
 ghost use Rattle.reports.specs.Archive.{archive_pages, valid_area, read_rows, read_of};
 ghost use Rattle.model.specs.Outcome.{refusal_of};
+ghost use Rattle.model.specs.Refused.{error_number};
 
 mod cut;
 mod segment;
 mod whole;
 
-use model::answer::Answer;
+use model::answer::{Answer, Refusal};
 
 // The most pages that a volume has.
 const MOST: u32 = 64;
@@ -42,31 +43,28 @@ fn holds_images(size: usize) -> bool
     ((1 <= pages) & (pages <= 64)) & (size == 256 * pages)
 }
 
-// The refusal: row 2, then row 22. The whole archive is judged.
-fn refusal(archive: &[u8], size: usize) -> u32
-    ensures { result ≡ first_of (read_rows archive.now size) }
+// The rows: 2, then 22. The whole archive is judged.
+fn refusal(archive: &[u8], size: usize) -> Result<(), Refusal>
+    ensures { error_number result ≡ first_of (read_rows archive.now size) }
 {
     if !holds_images(size) {
-        return 2;
+        return Err(Refusal::BadBuffer);
     }
     if !whole::valid(archive, (size / 256) as u32) {
-        return 22;
+        return Err(Refusal::BadArchive);
     }
-    0
+    Ok(())
 }
 
-// Fills the area with the pages of an archive: 0 or the refusal. All of the archive is judged before the first write.
-fn fill(archive: &[u8], area: &mut [u8]) -> u32
-    ensures answer { result ≡ first_of (read_rows archive.now (length area.old)) }
+// Fills the area with the pages of an archive. All of the archive is judged before the first write.
+fn fill(archive: &[u8], area: &mut [u8]) -> Result<(), Refusal>
+    ensures answer { error_number result ≡ refusal_of (read_of archive.now area.old).answer }
     ensures area { area.new ≡ (read_of archive.now area.old).buffer }
 {
-    let refused = refusal(archive, area.len());
-    if refused != 0 {
-        return refused;
-    }
+    refusal(archive, area.len())?;
     let pages = (area.len() / 256) as u32;
     whole::rebuild(archive, pages, area);
-    0
+    Ok(())
 }
 
 // Reads an archive: every page rebuilt from its segment into the area, whose length tells how many pages there are.
@@ -75,18 +73,20 @@ pub fn read(archive: &[u8], area: &mut [u8]) -> Answer
     ensures answer { result ≡ (read_of archive.now area.old).answer }
     ensures area { area.new ≡ (read_of archive.now area.old).buffer }
 {
-    let no = fill(archive, area);
-    if no != 0 {
-        return Answer::Refused(no);
+    match fill(archive, area) {
+        Ok(()) => Answer::Done,
+        Err(no) => Answer::from(no),
     }
-    Answer::Done
 }
 
-// The same, its answer as a number: 0 or the refusal.
+// The same, for C: 0 or the refusal.
 // Ruled out: a write before a refusal (tried); a check set in the area (tried).
 pub fn read_number(archive: &[u8], area: &mut [u8]) -> u32
     ensures answer { result ≡ refusal_of (read_of archive.now area.old).answer }
     ensures area { area.new ≡ (read_of archive.now area.old).buffer }
 {
-    fill(archive, area)
+    match fill(archive, area) {
+        Ok(()) => 0,
+        Err(no) => u32::from(no),
+    }
 }

@@ -4,7 +4,7 @@ ghost use Rattle.archive_read.specs.Judged.{Judged};
 ghost use Rattle.reports.specs.Archive.{in_segment, valid_segment, front_segment, records_from, replay_records};
 ghost use Rattle.reports.specs.Archive.{last_number_in, segment_fits, segment_image};
 
-use codec::{field, part};
+use codec::field;
 use item::{image, record};
 use sums::checksum;
 use volume::place;
@@ -17,7 +17,7 @@ fn follows(r: &[u8], page: u32, last: u32) -> bool
     let e = record::read(r);
     let number = e.lsn;
     let prev = e.prev;
-    let owner = e.page as u32;
+    let owner = u32::from(e.page);
     let linked = (prev == last) & ((e.kind == 1) | (1 <= prev));
     checksum::holds(r, 60) & (record::layout(r) & ((owner == page) & (linked & (last < number))))
 }
@@ -27,17 +27,14 @@ pub fn valid(archive: &[u8], at: usize, page: u32) -> bool
     requires { (at ≤ length archive.now) × (segment_fits (drop at archive.now) ≡ true) }
     ensures { result ≡ valid_segment page 0 (front_segment (drop at archive.now)) }
 {
-    let mut left = field::u32_at(archive, at);
-    let mut from = at + 4;
+    let count = field::u32_at(archive, at);
     let mut last: u32 = 0;
-    while 0 < left {
-        let r = place::part(archive, from, 64);
+    for i in 0..count {
+        let r = place::part(archive, at + 4 + 64 * (i as usize), 64);
         if !follows(r, page, last) {
             return false;
         }
         last = field::u32_at(r, 0);
-        from += 64;
-        left -= 1;
     }
     true
 }
@@ -51,15 +48,11 @@ fn replay(archive: &[u8], at: usize, count: u32, body: &mut [u8]) -> u32
     ensures body { body.new
         ≡ replay_records (records_from count (drop at archive.now)) body.old }
 {
-    let mut left = count;
-    let mut from = at;
     let mut last: u32 = 0;
-    while 0 < left {
-        let r = place::part(archive, from, 64);
+    for i in 0..count {
+        let r = place::part(archive, at + 64 * (i as usize), 64);
         record::replay(r, body);
         last = field::u32_at(r, 0);
-        from += 64;
-        left -= 1;
     }
     last
 }
@@ -71,7 +64,7 @@ pub fn rebuild(archive: &[u8], at: usize, page: u32, image: &mut [u8])
     requires page_bound { (page < 65536) × (length image.old ≡ 256) }
     ensures { image.new ≡ segment_image page (front_segment (drop at archive.now)) }
 {
-    part::fill(image, 0);
+    image.fill(0);
     let count = field::u32_at(archive, at);
     if count == 0 {
         return;

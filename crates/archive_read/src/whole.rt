@@ -9,8 +9,7 @@ pub fn valid(archive: &[u8], pages: u32) -> bool
     ensures { result ≡ valid_from pages 1 archive.now }
 {
     let mut at: usize = 0;
-    let mut i: u32 = 0;
-    while i < pages {
+    for i in 0..pages {
         if !cut::fits(archive, at) {
             return false;
         }
@@ -18,7 +17,6 @@ pub fn valid(archive: &[u8], pages: u32) -> bool
             return false;
         }
         at = cut::past(archive, at);
-        i += 1;
     }
     at == archive.len()
 }
@@ -29,12 +27,10 @@ pub fn rebuild(archive: &[u8], pages: u32, area: &mut [u8])
     ensures { area.new ≡ area_from 1 (parted_from pages archive.now) }
 {
     let mut at: usize = 0;
-    let mut i: u32 = 0;
-    while i < pages {
+    for i in 0..pages {
         let from = 256 * (i as usize);
         let end = from + 256;
         segment::rebuild(archive, at, i + 1, &mut area[from..end]);
         at = cut::past(archive, at);
-        i += 1;
     }
 }

@@ -2,12 +2,13 @@
 use mathlib.Core.Path.{◌≡◌, refl, sym, ap, ◌∙◌}
 use mathlib.Core.Bool.{Bool, true, false, cond, not}
 use mathlib.Core.List.{List, [], ◌∷◌}
-use Prim.Native.Nat.{ℕ, zero, suc, ◌+◌, ◌*◌, ◌≤◌}
+use Prim.Native.Nat.{ℕ, zero, suc, ◌≤◌}
 use native.Mathlib.Omega.{arith}
 use lib.Dec.{eqb}
 use lib.ListN.{length}
+use Rattle.std.specs.Prelude.{Ok}
 use borrow.Author.Tests.{eq-eqb, ne_eqb, eqb-true, not-false}
-use Rattle.laws.proofs.Tables.{by_cases, none-at, true-not-false}
+use Rattle.laws.proofs.Tables.{by_cases, none-at}
 use Rattle.laws.proofs.Places.{valid-facts}
 use Rattle.laws.proofs.Scanned.{whole-few}
 use Rattle.reports_laws.proofs.Archive.{Whole, held-is, long-as-told}
@@ -17,25 +18,28 @@ use Rattle.model.specs.Scan.{durable_count, gone, valid_log, valid_notes}
 use Rattle.reports.specs.Reading.{whole_rows, page_records, held_records}
 use Rattle.reports.specs.Archive.{archive_bytes, segments_of, archive_length, size_of, size_refusal, archive_rows, archive_of}
 use Rattle.model.specs.Outcome.{refusal_of}
-use Rattle.model.specs.declared.geometry.Geometry.{Geometry}
-use Rattle.model.specs.declared.answer.Answer.TheVariants.{Refused, Done}
-use Rattle.reports.specs.declared.reading.Size.{Size}
-use Rattle.log_scan.specs.LogSection.{Sized}
+use Rattle.model.specs.declared.answer.Answer.TheVariants.{Done}
 use Rattle.index.specs.Scanned.{scan_rows, scan_refusal, counts_of, gone_in}
 use Rattle.index.specs.declared.Counts.{Counts}
-use Rattle.index.proofs.Whole.{clean, sized}
+use Rattle.model.specs.declared.geometry.Geometry.{Geometry}
+use Rattle.archive_write.specs.declared.Extent.{Extent}
 use Rattle.archive_write.specs.Copied.{segments_to}
 use Rattle.archive_write.specs.Extent.{whole_refusal, extent_of, size_number}
-use Rattle.archive_write.specs.declared.Extent.{Extent}
 
 -- the scan's number, then the call's own test
-then-gone : (a b c t u : Bool) → (a ≡ true → b ≡ true → c ≡ true → t ≡ u)
-    → (let r = cond (not a) 1 (cond (not b) 17 (cond (not c) 18 0)) in cond (not (eqb r 0)) r (cond t 24 0))
-    ≡ cond (not a) 1 (cond (not b) 17 (cond (not c) 18 (cond u 24 0)))
-then-gone false b c t u h = refl
-then-gone true false c t u h = refl
-then-gone true true false t u h = refl
-then-gone true true true t u h = rw (h refl refl refl)
+first-kept : (a b c t : Bool) → (◌≡◌ {A = ℕ} (cond a 1 (cond b 17 (cond c 18 0))) 0 → ⊥)
+    → ◌≡◌ {A = ℕ} (cond a 1 (cond b 17 (cond c 18 0))) (cond a 1 (cond b 17 (cond c 18 (cond t 24 0))))
+first-kept true b c t h = refl
+first-kept false true c t h = refl
+first-kept false false true t h = refl
+first-kept false false false t h = absurd (h refl)
+
+first-passed : (a b c t : Bool) → ◌≡◌ {A = ℕ} (cond a 1 (cond b 17 (cond c 18 0))) 0
+    → ◌≡◌ {A = ℕ} (cond t 24 0) (cond a 1 (cond b 17 (cond c 18 (cond t 24 0))))
+first-passed true b c t h = absurd (omega (arith, h))
+first-passed false true c t h = absurd (omega (arith, h))
+first-passed false false true t h = absurd (omega (arith, h))
+first-passed false false false t h = refl
 
 -- then the writer's
 then-longer : (a b c d t : Bool)
@@ -57,160 +61,113 @@ tabulate-same {A} (suc n) f k h =
 module _ (v : List ℕ) where
   -- ---- the scan
 
-  pub refusal_is : (c : Counts) → c.refusal ≡ scan_refusal v → (c.refusal ≡ 0 → c ≡ counts_of v) → (n : ℕ)
-      → n ≡ cond (not (eqb c.refusal 0)) c.refusal (cond (gone_in c) 24 0) → n ≡ whole_refusal v
+  -- refused by the scan, or by the call's own test of a clean one
+  pub scan-refused : (n : ℕ) → n ≡ scan_refusal v → (n ≡ 0 → ⊥) → n ≡ whole_refusal v
+  unfolding scan_rows
+  scan-refused n e ne =
+      e ∙ first-kept (not (valid_volume v)) (not (valid_log (geometry_of v) v)) (not (valid_notes (geometry_of v) v))
+      (gone (geometry_of v) v) (λ z. ne (e ∙ z))
+
+  pub scan-clean : (c : Counts) → 0 ≡ scan_refusal v → c ≡ counts_of v → (t : Bool) → gone_in c ≡ t → cond t 24 0 ≡ whole_refusal v
   unfolding scan_rows gone
-  refusal_is c er ec n en =
-      en ∙ rw er
-      (then-gone (valid_volume v) (valid_log (geometry_of v) v) (valid_notes (geometry_of v) v) (gone_in c) _
-      (λ x y z. ap gone_in (ec (er ∙ clean v x y z))))
+  scan-clean c e ec t et =
+      rw (← et, ec)
+      (first-passed (not (valid_volume v)) (not (valid_log (geometry_of v) v)) (not (valid_notes (geometry_of v) v)) _ (sym e))
 
   -- a volume with an archive
-  pub whole : whole_refusal v ≡ 0 → Whole v
+  pub whole : 0 ≡ whole_refusal v → Whole v
   whole h =
-      let none = none-at (whole_rows v []) (omega arith) h in
+      let none = none-at (whole_rows v []) (omega arith) (sym h) in
       record { volume = not-false _ (none 0); log = not-false _ (none 1); notes = not-false _ (none 2); here = none 3 }
-
-  scan-clean : whole_refusal v ≡ 0 → scan_refusal v ≡ 0
-  scan-clean h = let w = whole h in clean v w.volume w.log w.notes
-
-  -- what is known of the counts where nothing is refused
-  pub record Known (g : Geometry) (c : Counts) : Type 0 where
-    pub none : whole_refusal v ≡ 0
-    pub geometry : g ≡ geometry_of v
-    pub durable : c.durable ≡ durable_count (geometry_of v) v
-    pub few : c.durable ≤ 1024
-    pub pages : g.pages ≤ 64
-
-  pub known : (g : Geometry) → g ≡ geometry_of v → (c : Counts) → c.refusal ≡ scan_refusal v → (c.refusal ≡ 0 → c ≡ counts_of v)
-      → whole_refusal v ≡ 0 → Known g c
-  known g eg c er ec h =
-      let w = whole h in
-      let f = valid-facts v w.volume in
-      let e : c.durable ≡ durable_count (geometry_of v) v = ap (λ (q : Counts). q.durable) (ec (er ∙ scan-clean h)) in
-      record {
-        none = h;
-        geometry = eg;
-        durable = e;
-        few = omega (arith, e, whole-few (geometry_of v) v w.here, f.l-high);
-        pages = rw eg f.p-high;
-      }
 
   -- ---- the extent
 
-  pub extent-none : (n : ℕ) → n ≡ whole_refusal v → (n ≡ 0 → ⊥)
-      → ◌≡◌ {A = Extent} (record { refusal = n; durable = 0; size = 0 }) (extent_of v)
-  unfolding extent_of
-  extent-none n e ne = rw (ne_eqb (whole_refusal v) 0 (λ z. ne (e ∙ z))) (ap (λ (k : ℕ). record { refusal = k; durable = 0; size = 0 }) e)
-
-  pub extent-some : (g : Geometry) (c : Counts) → Known g c
-      → ◌≡◌ {A = Extent} (record { refusal = 0; durable = c.durable; size = 4 * g.pages + 64 * c.durable }) (extent_of v)
-  unfolding extent_of
-  extent-some g c k =
-      rw (eq-eqb (whole_refusal v) 0 k.none)
-      (ap (λ (q : Geometry). record { refusal = 0; durable = c.durable; size = 4 * q.pages + 64 * c.durable }) k.geometry
-      ∙ ap (λ (d : ℕ). record { refusal = 0; durable = d; size = 4 * (geometry_of v).pages + 64 * d }) k.durable)
-
-  -- 0 stands for a refusal only: every length is at least 4
-  pub length_some : size_refusal (size_of v) ≡ 0 → 4 ≤ size_number (size_of v)
-  unfolding size_of
-  length_some = by_cases (eqb (whole_refusal v) 0)
-      (λ t. let p = (valid-facts v (whole (eqb-true (whole_refusal v) 0 t)).volume).p-low in rw t (λ z. omega (arith, p)))
-      (λ t. rw t (λ z. let f = eq-eqb (whole_refusal v) 0 z in absurd (true-not-false f t)))
-
-  module _ (e : Extent) (ee : e ≡ extent_of v) where
-    pub refusal-of : e.refusal ≡ whole_refusal v
-    unfolding extent_of
-    refusal-of =
-        ap (λ (x : Extent). x.refusal) ee
-        ∙ by_cases (eqb (whole_refusal v) 0) (λ t. rw t (sym (eqb-true (whole_refusal v) 0 t))) (λ t. rw t)
-
-    size_is : whole_refusal v ≡ 0 → e.size ≡ archive_length v
-    unfolding extent_of
-    size_is z = ap (λ (x : Extent). x.size) ee ∙ rw (eq-eqb (whole_refusal v) 0 z)
-
-    durable-is : whole_refusal v ≡ 0 → e.durable ≡ durable_count (geometry_of v) v
-    unfolding extent_of
-    durable-is z = ap (λ (x : Extent). x.durable) ee ∙ rw (eq-eqb (whole_refusal v) 0 z)
+  -- no sum wraps
+  module _ (h : 0 ≡ whole_refusal v) where
+    pub durable-few : (c : Counts) → c ≡ counts_of v → c.durable ≤ 1024
+    durable-few c ec =
+        rw ec (omega (arith, whole-few (geometry_of v) v (whole h).here, (valid-facts v (whole h).volume).l-high))
 
     -- ---- the length
 
-    pub length-refused : (e.refusal ≡ 0 → ⊥) → Size.Refused e.refusal ≡ size_of v
+    size-told : size_of v ≡ Ok (archive_length v)
     unfolding size_of
-    length-refused ne = rw (ne_eqb (whole_refusal v) 0 (λ z. ne (refusal-of ∙ z))) (ap Size.Refused refusal-of)
+    size-told = rw (eq-eqb (whole_refusal v) 0 (sym h))
 
-    pub length-told : e.refusal ≡ 0 → Size.Bytes e.size ≡ size_of v
-    unfolding size_of
-    length-told z =
-        let h : whole_refusal v ≡ 0 = sym refusal-of ∙ z in
-        rw (eq-eqb (whole_refusal v) 0 h) (ap Size.Bytes (size_is h))
+    pub size-measured : (e : Extent) → e ≡ extent_of v → size_of v ≡ Ok e.size
+    size-measured e ee = size-told ∙ sym (ap (λ (x : Extent). Ok x.size) ee)
 
-    -- as one number
-    pub length-number : e.size ≡ size_number (size_of v)
-    unfolding extent_of size_of
-    length-number = ap (λ (x : Extent). x.size) ee ∙ by_cases (eqb (whole_refusal v) 0) (λ t. rw t) (λ t. rw t)
+  pub size-refused : size_refusal (size_of v) ≡ whole_refusal v
+  unfolding size_of
+  size-refused = by_cases (eqb (whole_refusal v) 0) (λ t. rw t (sym (eqb-true (whole_refusal v) 0 t))) (λ t. rw t)
 
-    -- ---- the writer
+  -- 0 stands for a refusal only: every length is at least 4
+  pub length_some : size_refusal (size_of v) ≡ 0 → 4 ≤ size_number (size_of v)
+  length_some z =
+      let h : 0 ≡ whole_refusal v = sym z ∙ size-refused in
+      rw (size-told h) (omega (arith, (valid-facts v (whole h).volume).p-low))
 
-    module _ (b : List ℕ) (n : ℕ) (en : n ≡ cond (not (eqb e.refusal 0)) e.refusal (cond (not (eqb (length b) e.size)) 21 0)) where
-      sizes : n ≡ cond (not (eqb (whole_refusal v) 0)) (whole_refusal v) (cond (not (eqb (length b) (archive_length v))) 21 0)
-      sizes = en ∙ by_cases (eqb (whole_refusal v) 0)
-          (λ t. rw (refusal-of, size_is (eqb-true (whole_refusal v) 0 t)))
-          (λ t. rw (refusal-of, t))
+  -- ---- the writer
 
-      pub row_is : n ≡ first_of (archive_rows v (length b))
-      unfolding archive_rows
-      row_is =
-          sizes
-          ∙ sym (then-longer (not (valid_volume v)) (not (valid_log (geometry_of v) v)) (not (valid_notes (geometry_of v) v))
-          (gone (geometry_of v) v) (not (eqb (length b) (archive_length v))))
+  module _ (b : List ℕ) where
+    rows-are : first_of (archive_rows v (length b))
+        ≡ (let r = whole_refusal v in cond (not (eqb r 0)) r (cond (not (eqb (length b) (archive_length v))) 21 0))
+    unfolding archive_rows
+    rows-are =
+        then-longer (not (valid_volume v)) (not (valid_log (geometry_of v) v)) (not (valid_notes (geometry_of v) v))
+        (gone (geometry_of v) v) (not (eqb (length b) (archive_length v)))
 
-      pub write-refused : (n ≡ 0 → ⊥) → (n ≡ refusal_of (archive_of v b).answer) × (b ≡ (archive_of v b).buffer)
-      unfolding archive_of
-      write-refused ne = rw (ne_eqb (first_of (archive_rows v (length b))) 0 (λ z. ne (row_is ∙ z))) (row_is, refl)
+    -- a refusal
+    refused-by : (n : ℕ) → n ≡ first_of (archive_rows v (length b)) → (n ≡ 0 → ⊥)
+        → (n ≡ refusal_of (archive_of v b).answer) × (b ≡ (archive_of v b).buffer)
+    unfolding archive_of
+    refused-by n e ne = rw (ne_eqb (first_of (archive_rows v (length b))) 0 (λ z. ne (e ∙ z))) (e, refl)
 
-      open-whole : n ≡ 0 → whole_refusal v ≡ 0
-      open-whole z = by_cases (eqb (whole_refusal v) 0)
-          (λ t. eqb-true (whole_refusal v) 0 t)
-          (λ t. let q : n ≡ whole_refusal v = rw t at sizes in sym q ∙ z)
+    pub write-refused : (n : ℕ) → n ≡ whole_refusal v → (n ≡ 0 → ⊥)
+        → (n ≡ refusal_of (archive_of v b).answer) × (b ≡ (archive_of v b).buffer)
+    write-refused n e ne =
+        refused-by n (rw (rows-are, ne_eqb (whole_refusal v) 0 (λ z. ne (e ∙ z))) e) ne
 
-      length-right : n ≡ 0 → length b ≡ archive_length v
-      length-right z =
-          by_cases (eqb (length b) (archive_length v)) (λ t. eqb-true _ _ t)
-          (λ t. let q : n ≡ 21 = rw (eq-eqb (whole_refusal v) 0 (open-whole z), t) at sizes in absurd (omega (arith, q, z)))
+    module _ (h : 0 ≡ whole_refusal v) where
+      pub write-other : (e : Extent) → e ≡ extent_of v → (length b ≡ e.size → ⊥)
+          → (21 ≡ refusal_of (archive_of v b).answer) × (b ≡ (archive_of v b).buffer)
+      write-other e ee ne =
+          let other : length b ≡ archive_length v → ⊥ = λ z. ne (z ∙ sym (ap (λ (x : Extent). x.size) ee)) in
+          refused-by 21 (rw (rows-are, eq-eqb (whole_refusal v) 0 (sym h), ne_eqb (length b) (archive_length v) other) refl)
+          (λ z. absurd (omega (arith, z)))
 
-      module _ (z : n ≡ 0) (g : Geometry) (eg : g ≡ geometry_of v) where
-        segments-are : segments_to g v e.durable g.pages ≡ segments_of v
-        segments-are =
-            rw (eg, durable-is (open-whole z))
-            (tabulate-same (geometry_of v).pages (λ i. page_records (geometry_of v) v (suc i) 1 (durable_count (geometry_of v) v))
-            (λ i. held_records v (suc i)) (λ i. sym (held-is v (whole (open-whole z)) (suc i))))
+      segments-are : segments_to (geometry_of v) v (durable_count (geometry_of v) v) (geometry_of v).pages ≡ segments_of v
+      segments-are =
+          tabulate-same (geometry_of v).pages (λ i. page_records (geometry_of v) v (suc i) 1 (durable_count (geometry_of v) v))
+          (λ i. held_records v (suc i)) (λ i. sym (held-is v (whole h) (suc i)))
 
-        pub write-ready : Sized g v × (length b ≡ length (archive_bytes (segments_to g v e.durable g.pages)))
-        write-ready = (
-          sized v (whole (open-whole z)).volume g eg,
-          length-right z
-              ∙ sym (ap (λ (ss : List (List (List ℕ))). length (archive_bytes ss)) segments-are ∙ long-as-told v (whole (open-whole z))),
-        )
+      -- with the volume beside its geometry
+      module _ (e : Extent) (ee : e ≡ extent_of v) (long : length b ≡ e.size) (w : List ℕ) (ew : w ≡ v) (g : Geometry)
+          (eg : g ≡ geometry_of w) where
+        bytes-are : archive_bytes (segments_to g w e.durable g.pages) ≡ archive_bytes (segments_of v)
+        bytes-are = rw (eg, ew, ap (λ (x : Extent). x.durable) ee) (ap archive_bytes segments-are)
 
-        pub write_done : (c : List ℕ) → c ≡ archive_bytes (segments_to g v e.durable g.pages)
+        right : length b ≡ archive_length v
+        right = long ∙ ap (λ (x : Extent). x.size) ee
+
+        pub write-ready : length b ≡ length (archive_bytes (segments_to g w e.durable g.pages))
+        write-ready = right ∙ sym (ap length bytes-are ∙ long-as-told v (whole h))
+
+        pub write_done : (c : List ℕ) → c ≡ archive_bytes (segments_to g w e.durable g.pages)
             → (0 ≡ refusal_of (archive_of v b).answer) × (c ≡ (archive_of v b).buffer)
         unfolding archive_of
-        write_done c ec = rw (eq-eqb (first_of (archive_rows v (length b))) 0 (sym row_is ∙ z)) (refl, ec ∙ ap archive_bytes segments-are)
+        write_done c ec =
+            let none : first_of (archive_rows v (length b)) ≡ 0 =
+            rw (rows-are, eq-eqb (whole_refusal v) 0 (sym h), eq-eqb (length b) (archive_length v) right) refl in
+            rw (eq-eqb (first_of (archive_rows v (length b))) 0 none) (refl, ec ∙ bytes-are)
 
-  -- the answer of a number
-  module _ (b : List ℕ) (n : ℕ) (en : n ≡ refusal_of (archive_of v b).answer) where
-    pub answer-refused : (n ≡ 0 → ⊥) → Refused n ≡ (archive_of v b).answer
-    unfolding archive_of
-    answer-refused ne = by_cases (eqb (first_of (archive_rows v (length b))) 0)
-        (λ t. let q : n ≡ 0 = rw t at en in absurd (ne q))
-        (λ t. let q : n ≡ first_of (archive_rows v (length b)) = rw t at en in rw t (ap Refused q))
-
-    pub answer-done : n ≡ 0 → Done ≡ (archive_of v b).answer
-    unfolding archive_of
-    answer-done z = by_cases (eqb (first_of (archive_rows v (length b))) 0)
-        (λ t. rw t)
-        (λ t.
-        let q : n ≡ first_of (archive_rows v (length b)) = rw t at en in
-        let f : eqb (first_of (archive_rows v (length b))) 0 ≡ true = eq-eqb _ 0 (sym q ∙ z) in
-        let w : ◌≡◌ {A = ℕ} 0 1 = cc in absurd (omega arith))
+    -- the answer of a number
+    module _ (n : ℕ) (en : n ≡ refusal_of (archive_of v b).answer) where
+      pub answer-done : n ≡ 0 → Done ≡ (archive_of v b).answer
+      unfolding archive_of
+      answer-done z = by_cases (eqb (first_of (archive_rows v (length b))) 0)
+          (λ t. rw t)
+          (λ t.
+          let q : n ≡ first_of (archive_rows v (length b)) = rw t at en in
+          let f : eqb (first_of (archive_rows v (length b))) 0 ≡ true = eq-eqb _ 0 (sym q ∙ z) in
+          let w : ◌≡◌ {A = ℕ} 0 1 = cc in absurd (omega arith))

@@ -1,25 +1,22 @@
 -- What the archive's length and its writer (document 02, §6) find out about a volume first: the refusal, or how many
 -- records it has and how long its archive is. And a length as one number.
-use Rattle.std.specs.Prelude.{ℕ, cond, List, [], eqb}
+use Rattle.std.specs.Prelude.{ℕ, Result, Ok, Err, List, []}
 use Rattle.model.specs.Tables.{first_of}
 use Rattle.model.specs.Geometry.{geometry_of}
 use Rattle.model.specs.Scan.{durable_count}
 use Rattle.reports.specs.Reading.{whole_rows}
 use Rattle.reports.specs.Archive.{archive_length}
-use Rattle.reports.specs.declared.reading.Size.{Size}
 use Rattle.archive_write.specs.declared.Extent.{Extent}
 
 -- 0, or the refusal of a call that wants the whole history
 abbrev pub whole_refusal : List ℕ → ℕ
 whole_refusal v = first_of (whole_rows v [])
 
-unfoldable pub extent_of : List ℕ → Extent
-extent_of v =
-    let n = durable_count (geometry_of v) v in
-    cond (eqb (whole_refusal v) 0) (record { refusal = 0; durable = n; size = archive_length v })
-    (record { refusal = whole_refusal v; durable = 0; size = 0 })
+-- where nothing is refused
+abbrev pub extent_of : List ℕ → Extent
+extent_of v = record { durable = durable_count (geometry_of v) v; size = archive_length v }
 
 -- a length as one number, for C: 0 where it is refused. No archive has length 0
-abbrev pub size_number : Size → ℕ
-size_number (Size.Refused n) = 0
-size_number (Size.Bytes n) = n
+abbrev pub size_number : Result ℕ ℕ → ℕ
+size_number (Err n) = 0
+size_number (Ok n) = n

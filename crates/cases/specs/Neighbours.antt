@@ -1,7 +1,7 @@
 -- Rows on what a page's repair, and its segment of the archive, depend on (document 02, §13): for each hypothesis two
 -- volumes in which it alone fails, and the answers differ; and two in which none fails and all else differs. The
 -- archive's refusals need the lowest held number too.
-use Rattle.std.specs.Prelude.{ℕ, Bool, true, false, ◌&&◌, List, [], ◌∷◌, ◌++◌, eqb, replicate, take, set}
+use Rattle.std.specs.Prelude.{ℕ, Bool, true, false, ◌&&◌, List, [], ◌∷◌, ◌++◌, Result, Ok, Err, eqb, replicate, take, set}
 use Rattle.model.specs.Geometry.{page_at, slot_at, record_at, note_at, geometry_of, empty_volume}
 use Rattle.model.specs.Item.{encode_change}
 use Rattle.reports.specs.Reading.{page_view, held_records}
@@ -15,7 +15,6 @@ use Rattle.model.specs.declared.change.Change.TheVariants.{Put}
 use Rattle.model.specs.declared.geometry.Heading.TheVariants.{First, Second}
 use Rattle.model.specs.declared.answer.Class.TheVariants.{Good, Behind, Stale, Failed}
 use Rattle.model.specs.declared.change.Change.TheVariants.{Format}
-use Rattle.reports.specs.declared.reading.Size.{Size}
 use Rattle.cases.specs.Rows.{Row, row, same}
 use Rattle.cases.specs.Opened.{opened}
 use Rattle.cases.specs.Words.{bit, numbers, from_own, from_backup, from_format, refused, done, yes, no}
@@ -86,9 +85,9 @@ ring_with ns =
     (one_item (slot_at 1) (image 2 1 body1) ∷ one_item (note_at 1) (backup_note 1 2 1 1) ∷ [])
 
 -- a length told, and a refusal
-abbrev told : Size → List ℕ
-told (Size.Refused n) = 100 ∷ n ∷ []
-told (Size.Bytes n) = 101 ∷ n ∷ []
+abbrev told : Result ℕ ℕ → List ℕ
+told (Err n) = 100 ∷ n ∷ []
+told (Ok n) = 101 ∷ n ∷ []
 
 -- page 2 is backed up at record 1, then page 1 gets records 2 and 3: in a log of two slots record 1 has left
 abbrev beside_events : List Event
@@ -168,7 +167,7 @@ neighbour_rows =
     ++ (numbers (archive_of turned_log (replicate 200 0)).answer
     ++ (numbers (archive_of whole_log (replicate 200 0)).answer
     ++ beside turned_log whole_log 1)))))
-    (2 ∷ 1 ∷ (told (Size.Refused 24) ++ (told (Size.Bytes 200) ++ (refused 24 ++ (done ++ (all_hold
+    (2 ∷ 1 ∷ (told (Err 24) ++ (told (Ok 200) ++ (refused 24 ++ (done ++ (all_hold
     ++ (from_format Failed 2 ++ from_format Failed 2)))))))
     ∷ row "neighbours: an empty log holds no number" (lowest_held (empty_volume Second 2 1 4 2) ∷ []) (0 ∷ [])
     ∷ []

@@ -5,32 +5,21 @@ use mathlib.Core.List.{List, [], ◌∷◌}
 use Prim.Native.Nat.{ℕ, suc, ◌+◌, ◌-◌, ◌≤◌, ◌<◌}
 use native.Mathlib.Numerals.{add-one}
 use native.Mathlib.Omega.{arith}
-use lib.ListN.{length}
-use Rattle.laws.proofs.Parts.{part_length}
-use Rattle.model.specs.Bytes.{part, starts_with, equal_bytes}
+use lib.Dec.{eqb}
+use lib.Pointwise.{pointwise}
+use Rattle.model.specs.Bytes.{equal_bytes}
 use Rattle.model.specs.Geometry.{geometry_of, item, log_slot}
 use Rattle.reports.specs.Mirror.{same_change, record_in, common_from}
 use Rattle.model.specs.declared.geometry.Geometry.{Geometry}
-use Rattle.log_scan.specs.LogSection.{Sized}
-use Rattle.index.proofs.Whole.{sized}
-use Rattle.compare.specs.Volumes.{Headed}
-
--- what a valid volume tells
-pub headed-sized : (v : List ℕ) (g : Geometry) → Headed v g → Sized g v
-headed-sized v g h = sized v h.valid g h.geometry
 
 -- ---- one record
 
--- of equal lengths, the second list starts with the first where they are the same
-starts-same : (xs ys : List ℕ) → length xs ≡ length ys → starts_with xs ys ≡ equal_bytes xs ys
-unfolding starts_with equal_bytes
-starts-same [] [] e = refl
-starts-same [] (y ∷ ys) e = absurd (omega arith)
-starts-same (x ∷ xs) [] e = absurd (omega arith)
-starts-same (x ∷ xs) (y ∷ ys) e = rw (starts-same xs ys (omega arith))
-
-pub same-change : (r t : List ℕ) → length r ≡ 64 → length t ≡ 64 → starts_with (part r 8 52) (part t 8 52) ≡ same_change r t
-same-change r t er et = starts-same (part r 8 52) (part t 8 52) (part_length r 8 52 (omega arith) ∙ sym (part_length t 8 52 (omega arith)))
+pub same-bytes : (xs ys : List ℕ) → pointwise eqb xs ys ≡ equal_bytes xs ys
+unfolding equal_bytes
+same-bytes [] [] = refl
+same-bytes [] (y ∷ ys) = refl
+same-bytes (x ∷ xs) [] = refl
+same-bytes (x ∷ xs) (y ∷ ys) = rw (same-bytes xs ys)
 
 -- ---- the records passed
 
@@ -60,6 +49,10 @@ module _ (v w : List ℕ) (most k : ℕ) (h : k < most) where
     pub stops : b ≡ false → common_from (most - k) v w k ≡ k
     stops y = common-ends (sym compared ∙ y)
 
-pub common-none : (v w : List ℕ) (most k : ℕ) → most ≤ k → common_from (most - k) v w k ≡ k
+common-none : (v w : List ℕ) (most k : ℕ) → most ≤ k → common_from (most - k) v w k ≡ k
 unfolding common_from
 common-none v w most k h = let e : most - k ≡ 0 = omega arith in rw e
+
+pub common-end : (v w : List ℕ) (most k : ℕ) → most ≤ k → k ≤ most → common_from (most - k) v w k ≡ common_from most v w 0
+    → most ≡ common_from most v w 0
+common-end v w most k h l e = let m : most ≡ k = omega arith in m ∙ sym (common-none v w most k h) ∙ e

@@ -1,21 +1,20 @@
 -- The report of 66 numbers: the numbers written so far, and the outcome of a comparison that fills one.
 use mathlib.Core.Path.{◌≡◌, refl, sym, ap, ◌∙◌}
-use mathlib.Core.Bool.{Bool, true, false, ◌&&◌, ◌||◌, cond, not}
+use mathlib.Core.Bool.{Bool, true, false, cond, not}
 use mathlib.Core.List.{List, [], ◌∷◌, ◌++◌, map, append_assoc, append-nil}
 use Prim.Native.Nat.{ℕ, suc, ◌+◌, ◌≤◌, ◌<◌}
 use native.Mathlib.Numerals.{add-one}
 use native.Mathlib.Omega.{arith}
+use mir.Val.{bool_byte}
 use lib.Dec.{eqb}
 use lib.ListN.{length, take, set, get_or, length-map, length-set, get_or-map}
 use lib.Seq.{take-suc, take-suc-set, take_all}
-use borrow.Author.Tests.{eq-eqb, ne_eqb, eqb-true}
-use Rattle.laws.proofs.Tables.{by_cases}
-use Rattle.reports_laws.proofs.Mirror.{number_is}
+use borrow.Author.Tests.{eq-eqb, ne_eqb}
 use Rattle.model.specs.Tables.{first_of}
-use Rattle.model.specs.Geometry.{geometry_of, valid_volume}
-use Rattle.model.specs.Scan.{valid_log, valid_notes, gone}
-use Rattle.reports.specs.Mirror.{kind_number, count_number, flag, numbers_of, mirror_rows, mirror_refusal, mirror_of, compare_rows, compare_of}
+use Rattle.model.specs.Geometry.{valid_volume}
+use Rattle.reports.specs.Mirror.{kind_number, count_number, flag, numbers_of, later_rows, mirror_rows, mirror_of, compare_rows, compare_of}
 use Rattle.reports.specs.declared.reading.Compared.{Compared}
+use Rattle.compare.proofs.Outcomes.{first-row, second-row}
 
 -- ---- the numbers
 
@@ -24,6 +23,10 @@ fronted : (r : List ℕ) (a b : ℕ) → 2 ≤ length r → take 2 (set (set r 0
 fronted [] a b h = absurd (omega arith)
 fronted (x ∷ []) a b h = absurd (omega arith)
 fronted (x ∷ (y ∷ r)) a b h = refl
+
+pub flag-is : (b : Bool) → bool_byte b ≡ flag b
+flag-is true = refl
+flag-is false = refl
 
 -- those of the pages passed: behind two, i flags
 abbrev pub Flagged : List ℕ → List Bool → List ℕ → ℕ → Type 0
@@ -61,39 +64,42 @@ told c r a b h ea eb = ap (λ (x : List ℕ). x ++ map flag c.touched) (fronted 
 
 -- ---- the call
 
--- a row of its own behind row 1
-behind-one : (a b c d t : Bool)
-    → (let k = cond a 1 (cond b 17 (cond c 18 (cond d 24 0))) in cond (eqb k 1) 1 (cond t 2 k))
-    ≡ cond a 1 (cond t 2 (cond b 17 (cond c 18 (cond d 24 0))))
-behind-one true b c d t = refl
-behind-one false true c d t = refl
-behind-one false false true d t = refl
-behind-one false false false true t = refl
-behind-one false false false false t = refl
-
-module _ (v w report : List ℕ) (c : Compared) (ec : c ≡ mirror_of v w) (k n : ℕ) (ek : k ≡ mirror_refusal c.answer)
-    (en : n ≡ cond (eqb k 1) 1 (cond (not (eqb (length report) 66)) 2 k)) where
-  number : n ≡ first_of (compare_rows v w (length report))
-  unfolding compare_rows mirror_rows
-  number =
-      let e : k ≡ first_of (mirror_rows v w) = ek ∙ ap (λ (x : Compared). mirror_refusal x.answer) ec ∙ number_is v w in
-      en ∙ ap (λ (x : ℕ). cond (eqb x 1) 1 (cond (not (eqb (length report) 66)) 2 x)) e
-      ∙ behind-one (not (valid_volume v && valid_volume w)) (not (valid_log (geometry_of v) v && valid_log (geometry_of w) w))
-      (not (valid_notes (geometry_of v) v && valid_notes (geometry_of w) w)) (gone (geometry_of v) v || gone (geometry_of w) w)
-      (not (eqb (length report) 66))
-
-  pub left : (n ≡ 0 → ⊥) → (n ≡ (compare_of v w report).refusal) × (report ≡ (compare_of v w report).report)
+module _ (v w report : List ℕ) where
+  pub left : (n : ℕ) → n ≡ first_of (compare_rows v w (length report)) → (n ≡ 0 → ⊥)
+      → (n ≡ (compare_of v w report).refusal) × (report ≡ (compare_of v w report).report)
   unfolding compare_of
-  left z = rw (ne_eqb (first_of (compare_rows v w (length report))) 0 (λ q. z (number ∙ q))) (number, refl)
+  left n e z = rw (ne_eqb (first_of (compare_rows v w (length report))) 0 (λ q. z (e ∙ q))) (e, refl)
 
-  module _ (z : n ≡ 0) where
-    -- the report has room for the numbers
-    pub long : length report ≡ 66
-    long = by_cases (eqb (length report) 66) (λ t. eqb-true _ _ t)
-        (λ f. by_cases (eqb k 1)
-        (λ t. let q : n ≡ 1 = rw t at en in absurd (omega (arith, q, z)))
-        (λ t. let q : n ≡ 2 = rw (t, f) at en in absurd (omega (arith, q, z))))
+  module _ (n : ℕ) (some : n ≡ 0 → ⊥) where
+    pub first-unread : n ≡ cond (not (valid_volume v)) 1 0 → (n ≡ (compare_of v w report).refusal) × (report ≡ (compare_of v w report).report)
+    unfolding compare_rows
+    first-unread e = left n (first-row v w n some e ((not (eqb (length report) 66), 2) ∷ later_rows v w)) some
 
-    pub filled : (r : List ℕ) → r ≡ numbers_of c → (n ≡ (compare_of v w report).refusal) × (r ≡ (compare_of v w report).report)
-    unfolding compare_of
-    filled r er = rw (eq-eqb (first_of (compare_rows v w (length report))) 0 (sym number ∙ z)) (z, er ∙ ap numbers_of ec)
+    pub second-unread : n ≡ cond (not (valid_volume w)) 1 0 → (n ≡ (compare_of v w report).refusal) × (report ≡ (compare_of v w report).report)
+    unfolding compare_rows
+    second-unread e = left n (second-row v w n some e ((not (eqb (length report) 66), 2) ∷ later_rows v w)) some
+
+  -- of volumes that are valid
+  module _ (x y : List ℕ) (ex : x ≡ v) (ey : y ≡ w) (ok : valid_volume x ≡ true) (ok₂ : valid_volume y ≡ true) where
+    row-2 : (length report ≡ 66 → ⊥) → 2 ≡ first_of (compare_rows v w (length report))
+    unfolding compare_rows
+    row-2 ne = rw (← ex, ← ey, ok, ok₂, ne_eqb (length report) 66 ne)
+
+    pub other-length : (length report ≡ 66 → ⊥) → (2 ≡ (compare_of v w report).refusal) × (report ≡ (compare_of v w report).report)
+    other-length ne = left 2 (row-2 ne) (λ z. absurd (omega (arith, z)))
+
+    module _ (long : length report ≡ 66) where
+      same-rows : first_of (mirror_rows x y) ≡ first_of (compare_rows v w (length report))
+      unfolding compare_rows mirror_rows
+      same-rows = rw (← ex, ← ey, eq-eqb (length report) 66 long)
+
+      pub unjudged : (n : ℕ) → n ≡ first_of (mirror_rows x y) → (n ≡ 0 → ⊥)
+          → (n ≡ (compare_of v w report).refusal) × (report ≡ (compare_of v w report).report)
+      unjudged n e some = left n (e ∙ same-rows) some
+
+      pub filled : 0 ≡ first_of (mirror_rows x y) → (c : Compared) → c ≡ mirror_of x y → (r : List ℕ) → r ≡ numbers_of c
+          → (0 ≡ (compare_of v w report).refusal) × (r ≡ (compare_of v w report).report)
+      unfolding compare_of
+      filled z c ec r er =
+          rw (eq-eqb (first_of (compare_rows v w (length report))) 0 (sym same-rows ∙ sym z))
+          (refl, er ∙ ap numbers_of (ec ∙ rw (ex, ey) refl))

@@ -1,14 +1,19 @@
--- What the comparison of two logs knows of each volume once neither is refused, and the pages that it marks.
-use Rattle.std.specs.Prelude.{ℕ, suc, ◌-◌, ◌≡◌, Bool, true, false, cond, ◌||◌, List, get_or, set}
+-- The refusal of the comparison of two logs, of their scans, and the pages that it marks.
+use Rattle.std.specs.Prelude.{ℕ, suc, ◌-◌, Bool, true, false, Result, Ok, Err, cond, ◌||◌, List, ltb, get_or, set}
 use Rattle.model.specs.Tables.{within, tabulate}
-use Rattle.model.specs.Geometry.{geometry_of, valid_volume}
+use Rattle.model.specs.Refused.{refusal_number}
 use Rattle.reports.specs.Mirror.{touched_in}
 use Rattle.model.specs.declared.geometry.Geometry.{Geometry}
+use Rattle.model.specs.declared.answer.Refusal.{Refusal}
+use Rattle.index.specs.Scanned.{gone_in}
+use Rattle.index.specs.declared.Counts.{Counts}
 
--- the geometry is that of a valid volume
-pub record Headed (v : List ℕ) (g : Geometry) : Type 0 where
-  pub valid : valid_volume v ≡ true
-  pub geometry : g ≡ geometry_of v
+-- 0, or the lower refusal of two scans, or 24 where record 1 has left either log
+abbrev pub both_refusal : Result Counts Refusal → Result Counts Refusal → ℕ
+both_refusal (Ok a) (Ok b) = cond (gone_in a || gone_in b) 24 0
+both_refusal (Ok a) (Err s) = refusal_number s
+both_refusal (Err r) (Ok b) = refusal_number r
+both_refusal (Err r) (Err s) = cond (ltb (refusal_number s) (refusal_number r)) (refusal_number s) (refusal_number r)
 
 -- a Bool for each page, with this page's set; one that no volume has is passed over
 abbrev pub marked : List Bool → ℕ → List Bool

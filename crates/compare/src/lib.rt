@@ -1,31 +1,37 @@
 // Compare: two volumes' durable logs held against each other, without memory or state.
 #![tactic(auto)]
 
-ghost use Rattle.std.specs.Prelude.{◌≡◌, cond, ◌||◌, ◌≤◌, eqb};
+ghost use Rattle.std.specs.Prelude.{◌≡◌, ◌≤◌, Ok, IfOk};
+ghost use Rattle.model.specs.Tables.{first_of};
+ghost use Rattle.model.specs.Refused.{error_number};
 ghost use Rattle.reports.specs.Mirror as mirrors;
-ghost use Rattle.index.specs.Scanned.{gone_in};
+ghost use Rattle.compare.specs.Volumes.{both_refusal};
 
 pub mod changes;
 pub mod pages;
 pub mod report;
 
-use codec::number::smaller;
 use index::Counts;
+use model::answer::Refusal;
 use reports::reading::{Compared, Comparison};
-use volume::{heading, rows};
+use volume::Volume;
 
-// The refusal: by number, whichever of the two scans gives it.
-fn refusal(a: Counts, b: Counts) -> u32
-    ensures { result
-        ≡ cond (eqb a.refusal 1 || eqb b.refusal 1) 1 (cond (eqb a.refusal 17 || eqb b.refusal 17) 17
-        (cond (eqb a.refusal 18 || eqb b.refusal 18) 18 (cond (gone_in a || gone_in b) 24 0))) }
+// What two scans count, or the refusal: by number, whichever of the two gives it.
+fn both(a: Result<Counts, Refusal>, b: Result<Counts, Refusal>) -> Result<(Counts, Counts), Refusal>
+    ensures refusal { error_number result ≡ both_refusal a b }
+    ensures counts { IfOk result (λ c. (a ≡ Ok c.0) × (b ≡ Ok c.1)) }
 {
-    let m = a.refusal;
-    let n = b.refusal;
-    let lost = rows::first(index::gone(a) | index::gone(b), 24, 0);
-    let later = rows::first((m == 18) | (n == 18), 18, lost);
-    let log = rows::first((m == 17) | (n == 17), 17, later);
-    rows::first((m == 1) | (n == 1), 1, log)
+    match (a, b) {
+        (Ok(c), Ok(d)) => {
+            if index::gone(c) | index::gone(d) {
+                return Err(Refusal::HistoryLost);
+            }
+            Ok((c, d))
+        }
+        (Ok(_), Err(s)) => Err(s),
+        (Err(r), Ok(_)) => Err(r),
+        (Err(r), Err(s)) => Err(if u32::from(s) < u32::from(r) { s } else { r }),
+    }
 }
 
 // The answer, for logs of n and m records with k in common.
@@ -33,56 +39,51 @@ fn answer(k: u32, n: u32, m: u32) -> Comparison
     requires { (k ≤ n) × (k ≤ m) }
     ensures { result ≡ mirrors.comparison k n m }
 {
-    if k == n {
-        if k == m {
-            return Comparison::Agree;
-        }
-        return Comparison::FirstLacks(m - k);
+    match (k == n, k == m) {
+        (true, true) => Comparison::Agree,
+        (true, false) => Comparison::FirstLacks(m - k),
+        (false, true) => Comparison::SecondLacks(n - k),
+        (false, false) => Comparison::Differs(k + 1),
     }
-    if k == m {
-        return Comparison::SecondLacks(n - k);
-    }
-    Comparison::Differs(k + 1)
 }
 
-// The comparison of two volumes whose headings are known, or not.
-fn judged(first: &[u8], second: &[u8]) -> Compared
-    ensures { result ≡ mirrors.mirror_of first.now second.now }
+// The comparison of two valid volumes.
+fn judged(v: &Volume<'_>, w: &Volume<'_>) -> Result<Compared, Refusal>
+    ensures refusal { error_number result ≡ first_of (mirrors.mirror_rows v.now.bytes.now w.now.bytes.now) }
+    ensures compared { IfOk result (λ c. c ≡ mirrors.mirror_of v.now.bytes.now w.now.bytes.now) }
 {
-    let a = index::count(first);
-    let b = index::count(second);
-    let no = refusal(a, b);
-    let mut touched = [false; 64];
-    if no != 0 {
-        return Compared {
-            answer: Comparison::Refused(no),
-            touched,
-        };
-    }
+    let (a, b) = both(index::count(v.bytes), index::count(w.bytes))?;
     let n = a.durable;
     let m = b.durable;
-    let g = heading::geometry(first);
-    let h = heading::geometry(second);
-    let k = changes::common(first, g, second, h, smaller(n, m));
-    pages::mark_behind(first, g, k, n, &mut touched);
-    pages::mark_behind(second, h, k, m, &mut touched);
-    Compared {
-        answer: answer(k, n, m),
-        touched,
-    }
+    let k = changes::common(v, w, n.min(m));
+    let mut touched = [false; 64];
+    pages::mark_behind(v, k, n, &mut touched);
+    pages::mark_behind(w, k, m, &mut touched);
+    let answer = answer(k, n, m);
+    Ok(Compared { answer, touched })
 }
 
-// Compares two volumes' logs. Both headings are compared before anything else is read.
+// The same of any bytes.
+fn opened(first: &[u8], second: &[u8]) -> Result<Compared, Refusal>
+    ensures refusal { error_number result ≡ first_of (mirrors.mirror_rows first.now second.now) }
+    ensures compared { IfOk result (λ c. c ≡ mirrors.mirror_of first.now second.now) }
+{
+    let v = Volume::open(first)?;
+    let w = Volume::open(second)?;
+    judged(&v, &w)
+}
+
+// Compares two volumes' logs.
 // Ruled out: that logs agree where a payload differs (tried); a page that only the second log touches left out (tried);
 // a shorter log taken as a beginning (tried); the refusal of the first volume before a lower one of the second (tried).
 pub fn compare(first: &[u8], second: &[u8]) -> Compared
     ensures { result ≡ mirrors.mirror_of first.now second.now }
 {
-    if !heading::known(first) | !heading::known(second) {
-        return Compared {
-            answer: Comparison::Refused(1),
+    match opened(first, second) {
+        Ok(c) => c,
+        Err(no) => Compared {
+            answer: Comparison::Refused(u32::from(no)),
             touched: [false; 64],
-        };
+        },
     }
-    judged(first, second)
 }

@@ -1,32 +1,25 @@
-// The pages of log records, marked in a Bool for each.
-ghost use Rattle.std.specs.Prelude.{◌≡◌, suc, length};
-ghost use Rattle.compare.specs.Volumes.{Headed, marked, marked_behind};
+// The pages of log records, marked in a bool for each.
+ghost use Rattle.std.specs.Prelude.{◌≡◌};
+ghost use Rattle.compare.specs.Volumes.{marked, marked_behind};
 
 use codec::field;
-use model::geometry::Geometry;
-use volume::place;
+use volume::Volume;
 
 // Marks a page. Past the 64 that a volume may have there is none to mark.
-fn mark(touched: &mut [bool], page: u32)
-    requires { length touched.old ≡ 64 }
+fn mark(touched: &mut [bool; 64], page: u32)
     ensures { touched.new ≡ marked touched.old page }
 {
     if (1 <= page) & (page <= 64) {
-        let i = (page - 1) as usize;
-        touched[i] = true;
+        touched[page as usize - 1] = true;
     }
 }
 
 // Marks the pages of records k + 1 to n.
-pub fn mark_behind(v: &[u8], g: Geometry, k: u32, n: u32, touched: &mut [bool])
-    requires headed { Headed v.now g }
-    requires touched_len { length touched.old ≡ 64 }
-    ensures { touched.new ≡ marked_behind g v.now k n touched.old }
+pub fn mark_behind(v: &Volume<'_>, k: u32, n: u32, touched: &mut [bool; 64])
+    ensures { touched.new ≡ marked_behind v.now.geometry v.now.bytes.now k n touched.old }
 {
-    let mut i: u32 = k;
-    while i < n {
-        i += 1;
-        let r = place::record(v, g, i);
-        mark(touched, field::u16_at(r, 8) as u32);
+    for i in k..n {
+        let r = v.record(i + 1);
+        mark(touched, u32::from(field::u16_at(r, 8)));
     }
 }

@@ -1,23 +1,23 @@
 -- The steps of the definitions, over plain variables, as the code takes them.
-use Prim.Native.Nat.{ℕ, ◌+◌, ◌-◌, ◌%◌, ◌≤◌, ◌<◌}
-use mathlib.Core.Path.{◌≡◌, refl, sym, ◌∙◌}
+use Rattle.std.specs.Prelude.{Option, None, Some, MatchOption}
+use Prim.Native.Nat.{ℕ, zero, suc, ◌+◌, ◌-◌, ◌%◌, ◌≤◌, ◌<◌}
+use mathlib.Core.Path.{◌≡◌, refl, sym, ap, ◌∙◌}
 use mathlib.Core.Bool.{Bool, true, false, cond, not, ◌&&◌, ◌||◌}
 use mathlib.Core.List.{List}
 use native.Mathlib.Omega.{arith}
-use native.Mathlib.Nat.{mod-le}
+use native.Mathlib.Nat.{mod-le, sub-zero}
 use native.Mathlib.Numerals.{add-one}
 use lib.Dec.{eqb, leb, ltb}
-use lib.ListN.{length, get_or, set, drop, replicate, drop_of_length-le}
-use lib.Seq.{drop-cons, set_out}
+use lib.ListN.{length, get_or, set, take, drop, replicate, drop_of_length-le}
+use lib.Seq.{drop-cons, set_out, length-take-le, get_or-take}
 use borrow.Author.Tests.{eq-eqb, ne_eqb, lt-ltb, le-ltb, leb-true, not-false}
 use Rattle.laws.proofs.Tables.{by_cases, none-at, within-bounds}
 use Rattle.model.specs.Tables.{first_of, within}
 use Rattle.planning.specs.Rehearsal.{access_of, page_in, no_figures, page_row, set_row, with_image, with_load, with_record}
-use Rattle.planning.specs.Rehearsal.{with_backup, with_change, victim_written, use_row, holding, least_used, evicted}
+use Rattle.planning.specs.Rehearsal.{with_backup, with_change, victim_written, unused, use_row, holding, least_used, evicted}
 use Rattle.planning.specs.Rehearsal.{brought_in, replayed_by, play_from, found_in, missing, touched, changed, step_on}
-use Rattle.planning.specs.Rehearsal.{pages_fit, plus, total_of, settings, idle, rehearsal_rows, rehearsal_of}
+use Rattle.planning.specs.Rehearsal.{pages_fit, plus, total_of, idle, rehearsal_rows, rehearsal_of}
 use Rattle.model.specs.declared.answer.Answer.TheVariants.{Refused, Done}
-use Rattle.planning.specs.declared.rehearsal.Victim.{Victim}
 use Rattle.planning.specs.declared.rehearsal.Settings.{Settings}
 use Rattle.planning.specs.declared.rehearsal.Access.{Access}
 use Rattle.planning.specs.declared.rehearsal.Access.TheVariants.{Read, Change}
@@ -51,6 +51,12 @@ module _ (fs : List FrameUse) (n : ℕ) where
   unfolding least_used
   least_on l = rw (add-one n, le-ltb (use_row fs n).used (use_row fs (least_used fs n)).used l)
 
+-- the frame found so far
+pub found-on : (o : Option ℕ) (a b i : ℕ) → b ≡ a → MatchOption o (a ≡ 0) (λ f. (f < i) × (a ≡ f + 1))
+    → MatchOption o (b ≡ 0) (λ f. (f < i + 1) × (b ≡ f + 1))
+found-on None a b i e h = e ∙ h
+found-on (Some f) a b i e h = (omega (arith, h.0), e ∙ h.1)
+
 pub holding-none : (fs : List FrameUse) (p : ℕ) → holding fs p 0 ≡ 0
 unfolding holding
 holding-none fs p = refl
@@ -58,6 +64,42 @@ holding-none fs p = refl
 pub least-none : (fs : List FrameUse) → least_used fs 0 ≡ 0
 unfolding least_used
 least-none fs = refl
+
+-- of the first n frames alone
+
+module _ (xs fs : List FrameUse) where
+  holding-same : (p n : ℕ) → ((i : ℕ) → i < n → use_row xs i ≡ use_row fs i) → holding xs p n ≡ holding fs p n
+  unfolding holding
+  holding-same p zero h = refl
+  holding-same p (suc n) h = rw (h n (omega arith), holding-same p n (λ i l. h i (omega arith)))
+
+  least-low : (n : ℕ) → least_used fs n ≤ n
+  unfolding least_used
+  least-low zero = omega arith
+  least-low (suc n) =
+      by_cases (ltb (use_row fs n).used (use_row fs (least_used fs n)).used) (λ t. rw t (omega arith)) (λ t. rw t (omega (arith, least-low n)))
+
+  least-same : (n : ℕ) → ((i : ℕ) → i < n → use_row xs i ≡ use_row fs i) → least_used xs n ≡ least_used fs n
+  unfolding least_used
+  least-same zero h = refl
+  least-same (suc n) h =
+      rw (least-same n (λ i l. h i (omega arith)), h n (omega arith), h (least_used fs n) (omega (arith, least-low n)))
+
+module _ (fs : List FrameUse) (n : ℕ) (l : n ≤ length fs) where
+  front-long : length (take (n - 0) fs) ≡ n
+  front-long = rw (sub-zero n) (length-take-le n fs l)
+
+  front-row : (i : ℕ) → i < n → use_row (take (n - 0) fs) i ≡ use_row fs i
+  front-row i k = rw (sub-zero n) (get_or-take n fs i unused k)
+
+  pub holding-front : (p : ℕ) → holding (take (n - 0) fs) p (length (take (n - 0) fs)) ≡ holding fs p n
+  holding-front p = ap (holding (take (n - 0) fs) p) front-long ∙ holding-same (take (n - 0) fs) fs p n front-row
+
+  pub least-front : least_used (take (n - 0) fs) (length (take (n - 0) fs)) ≡ least_used fs n
+  least-front = ap (least_used (take (n - 0) fs)) front-long ∙ least-same (take (n - 0) fs) fs n front-row
+
+  pub least-in : n ≤ 16 → (f : ℕ) → f ≤ length (take (n - 0) fs) - 1 → f < 16
+  least-in k f h = omega (arith, front-long, h, k)
 
 -- ---- the events
 
@@ -133,14 +175,19 @@ pub bring-is : (t : Settings) (i : ℕ) (m : Rehearsal) (p : ℕ) (c w : Bool) (
 bring-is t i m p c w f a b ea eb ew = rw (eb, ea, ew)
 
 module _ (t : Settings) (i : ℕ) (m out : Rehearsal) (p : ℕ) where
-  module _ (c : Bool) (h : ℕ) (e : h ≡ holding m.frames p t.frames) where
-    pub touch-found : 0 < h → out ≡ found_in i m p c (h - 1) → out ≡ touched t i m p c
+  module _ (c : Bool) (f : ℕ) where
+    pub touch-found : holding m.frames p t.frames ≡ f + 1 → out ≡ found_in i m p c f → out ≡ touched t i m p c
     unfolding touched
-    touch-found l o = let z : ltb 0 (holding m.frames p t.frames) ≡ true = rw (← e) (lt-ltb 0 h l) in rw (z, o, e)
+    touch-found e o =
+        let z : ltb 0 (holding m.frames p t.frames) ≡ true = lt-ltb 0 (holding m.frames p t.frames) (omega (arith, e)) in
+        let n : holding m.frames p t.frames - 1 ≡ f = omega (arith, e) in
+        rw (z, n) o
 
-    pub touch-missing : (f : ℕ) → h ≤ 0 → f ≡ least_used m.frames t.frames → out ≡ missing t i m p c f → out ≡ touched t i m p c
+    pub touch-missing : holding m.frames p t.frames ≡ 0 → f ≡ least_used m.frames t.frames → out ≡ missing t i m p c f → out ≡ touched t i m p c
     unfolding touched
-    touch-missing f l ef o = let z : ltb 0 (holding m.frames p t.frames) ≡ false = rw (← e) (le-ltb 0 h l) in rw (z, o, ef)
+    touch-missing e ef o =
+        let z : ltb 0 (holding m.frames p t.frames) ≡ false = le-ltb 0 (holding m.frames p t.frames) (omega (arith, e)) in
+        rw (z, o, ef)
 
   pub read_none : (r : Figures) → r ≡ page_row m.pages p → r.records ≡ 0 → m ≡ step_on t i m (Read p)
   unfolding step_on
@@ -183,30 +230,43 @@ plus-is a x l r i b n p el er ei eb en ep = rw (el, er, ei, eb, en, ep)
 
 -- ---- the whole call
 
-module _ (events : List ℕ) (frames every : ℕ) (v : Victim) where
-  pub refusal_is : (fit : Bool) (a b c d : ℕ) → fit ≡ pages_fit events → a ≡ cond (not fit) 25 0 → b ≡ cond (not (within 255 every)) 25 a
-      → c ≡ cond (not (within 16 frames)) 25 b
-      → d ≡ cond (not (leb (length events) 1024)) 25 c → d ≡ first_of (rehearsal_rows events (settings frames every v))
+module _ (events : List ℕ) (t : Settings) (fit : Bool) (ef : fit ≡ pages_fit events) where
+  abbrev tests : Bool
+  tests = leb (length events) 1024 && (within 16 t.frames && (within 255 t.every && fit))
+
+  rows-25 : (a b c d : Bool) → ◌≡◌ {A = ℕ} (cond (a && (b && (c && d))) 0 25)
+      (cond (not a) 25 (cond (not b) 25 (cond (not c) 25 (cond (not d) 25 0))))
+  rows-25 true true true true = refl
+  rows-25 true true true false = refl
+  rows-25 true true false d = refl
+  rows-25 true false c d = refl
+  rows-25 false b c d = refl
+
+  all-25 : cond tests 0 25 ≡ first_of (rehearsal_rows events t)
   unfolding rehearsal_rows
-  refusal_is fit a b c d ef ea eb ec ed = rw (ed, ec, eb, ea, ef)
+  all-25 = rows-25 (leb (length events) 1024) (within 16 t.frames) (within 255 t.every) fit ∙ rw ef
 
-  module _ (no : ℕ) (e : no ≡ first_of (rehearsal_rows events (settings frames every v))) where
-    pub rehearse-refused : (no ≡ 0 → ⊥)
-        → record { answer = Refused no; pages = replicate 64 no_figures } ≡ rehearsal_of events (settings frames every v)
+  pub rows-none : tests ≡ true → 0 ≡ first_of (rehearsal_rows events t)
+  rows-none e = ap (λ (b : Bool). cond b 0 25) (sym e) ∙ all-25
+
+  pub rows-some : tests ≡ false → 25 ≡ first_of (rehearsal_rows events t)
+  rows-some e = ap (λ (b : Bool). cond b 0 25) (sym e) ∙ all-25
+
+module _ (events : List ℕ) (t : Settings) where
+  pub rehearse-refused : (n : ℕ) → n ≡ first_of (rehearsal_rows events t) → (n ≡ 0 → ⊥)
+      → record { answer = Refused n; pages = replicate 64 no_figures } ≡ rehearsal_of events t
+  unfolding rehearsal_of
+  rehearse-refused n e ne = let z : eqb (first_of (rehearsal_rows events t)) 0 ≡ false = rw (← e) (ne_eqb n 0 ne) in rw (z, ← e)
+
+  module _ (e : 0 ≡ first_of (rehearsal_rows events t)) where
+    pub rehearse-done : (m : Rehearsal) → m ≡ play_from t 0 idle events → record { answer = Done; pages = m.pages } ≡ rehearsal_of events t
     unfolding rehearsal_of
-    rehearse-refused ne =
-        let z : eqb (first_of (rehearsal_rows events (settings frames every v))) 0 ≡ false = rw (← e) (ne_eqb no 0 ne) in rw (z, ← e)
+    rehearse-done m em = rw (eq-eqb (first_of (rehearsal_rows events t)) 0 (sym e), em)
 
-    pub rehearse-done : no ≡ 0 → (m : Rehearsal) → m ≡ play_from (settings frames every v) 0 idle events
-        → record { answer = Done; pages = m.pages } ≡ rehearsal_of events (settings frames every v)
-    unfolding rehearsal_of
-    rehearse-done h m em =
-        let z : eqb (first_of (rehearsal_rows events (settings frames every v))) 0 ≡ true = rw (← e) (eq-eqb no 0 h) in rw (z, em)
-
-    pub rehearse-asks : no ≡ 0 → (length events ≤ 1024) × (1 ≤ frames) × (frames ≤ 16) × (1 ≤ every) × (every ≤ 255)
+    pub rehearse-asks : (length events ≤ 1024) × (1 ≤ t.frames) × (t.frames ≤ 16) × (1 ≤ t.every) × (t.every ≤ 255)
     unfolding rehearsal_rows
-    rehearse-asks h =
-        let q = none-at (rehearsal_rows events (settings frames every v)) (omega arith) (sym e ∙ h) in
-        let f = within-bounds 16 frames (not-false (within 16 frames) (q 1)) in
-        let k = within-bounds 255 every (not-false (within 255 every) (q 2)) in
+    rehearse-asks =
+        let q = none-at (rehearsal_rows events t) (omega arith) (sym e) in
+        let f = within-bounds 16 t.frames (not-false (within 16 t.frames) (q 1)) in
+        let k = within-bounds 255 t.every (not-false (within 255 t.every) (q 2)) in
         (leb-true (length events) 1024 (not-false (leb (length events) 1024) (q 0)), f.0, f.1, k.0, k.1)

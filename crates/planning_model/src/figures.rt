@@ -3,7 +3,6 @@ ghost use Rattle.std.specs.Prelude.{◌≡◌, ℕ, suc, ◌-◌, ◌≤◌};
 ghost use Rattle.planning.specs.Rehearsal.{page_row, set_row, with_load, with_image, with_change, plus, total_of};
 ghost use Rattle.planning_model.specs.Bounds.{Small, Sums};
 
-use codec::number::u32_u64;
 use planning::rehearsal::{Figures, Totals};
 
 // A page without figures.
@@ -20,7 +19,7 @@ pub const NONE: Figures = Figures {
 fn row(page: u32) -> usize
     ensures { result ≡ page - 1 }
 {
-    if 1 <= page { page as usize - 1 } else { 0 }
+    page.saturating_sub(1) as usize
 }
 
 // A page's figures; none past the last row.
@@ -48,10 +47,11 @@ pub fn with_load(r: Figures, count: u32) -> Figures
     requires { Small 1000000 r × (count ≤ 1000000) }
     ensures { result ≡ with_load r count }
 {
-    let mut next = r;
-    next.loads = r.loads + 1;
-    next.replayed = r.replayed + count;
-    next
+    Figures {
+        loads: r.loads + 1,
+        replayed: r.replayed + count,
+        ..r
+    }
 }
 
 // One page image more, and its note.
@@ -59,10 +59,11 @@ pub fn with_image(r: Figures) -> Figures
     requires { Small 1000000 r }
     ensures { result ≡ with_image r }
 {
-    let mut next = r;
-    next.images = r.images + 1;
-    next.notes = r.notes + 1;
-    next
+    Figures {
+        images: r.images + 1,
+        notes: r.notes + 1,
+        ..r
+    }
 }
 
 // One change more: a log record and, where it is one in so many, a backup image and its note.
@@ -70,14 +71,17 @@ pub fn with_change(r: Figures, every: u32) -> Figures
     requires { Small 1000000 r × (1 ≤ every) }
     ensures { result ≡ with_change every r }
 {
-    let mut next = r;
     let n = r.records + 1;
-    next.records = n;
-    if n % every == 0 {
-        next.backups = r.backups + 1;
-        next.notes = r.notes + 1;
+    if n % every != 0 {
+        return Figures { records: n, ..r };
     }
-    next
+    let notes = r.notes + 1;
+    Figures {
+        records: n,
+        backups: r.backups + 1,
+        notes,
+        ..r
+    }
 }
 
 // A total with one row more.
@@ -86,12 +90,12 @@ fn add(a: Totals, r: Figures) -> Totals
     ensures { (result ≡ plus a r) × ((n : ℕ) → Sums n a → Sums (suc n) result) }
 {
     Totals {
-        loads: a.loads + u32_u64(r.loads),
-        records: a.records + u32_u64(r.records),
-        images: a.images + u32_u64(r.images),
-        backups: a.backups + u32_u64(r.backups),
-        notes: a.notes + u32_u64(r.notes),
-        replayed: a.replayed + u32_u64(r.replayed),
+        loads: a.loads + u64::from(r.loads),
+        records: a.records + u64::from(r.records),
+        images: a.images + u64::from(r.images),
+        backups: a.backups + u64::from(r.backups),
+        notes: a.notes + u64::from(r.notes),
+        replayed: a.replayed + u64::from(r.replayed),
     }
 }
 
@@ -108,10 +112,8 @@ pub fn total(pages: [Figures; 64]) -> Totals
         notes: 0,
         replayed: 0,
     };
-    let mut i: usize = 0;
-    while i < 64 {
-        sum = add(sum, pages[i]);
-        i += 1;
+    for &r in &pages {
+        sum = add(sum, r);
     }
     sum
 }

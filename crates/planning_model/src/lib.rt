@@ -1,49 +1,43 @@
 // Two kinds of reader, played through: a list of events played on a small model of the store.
 #![tactic(auto)]
 
-ghost use Rattle.std.specs.Prelude.{◌≡◌, ◌≤◌, length};
+ghost use Rattle.std.specs.Prelude.{◌≡◌, ◌≤◌, length, IfErr};
 ghost use Rattle.model.specs.Tables.{first_of};
+ghost use Rattle.model.specs.Refused.{refusal_number, error_number};
 ghost use Rattle.planning.specs.Rehearsal.{settings, idle, play_from, pages_fit, rehearsal_rows, rehearsal_of};
 
 pub mod figures;
 pub mod frames;
 pub mod step;
 
-use model::answer::Answer;
+use model::answer::{Answer, Refusal};
 use planning::rehearsal::{FrameUse, Rehearsal, Rehearsed, Settings, Victim};
-use volume::rows;
 
 // Every event's page is 1 to 64.
 fn pages_fit(events: &[u8]) -> bool
     ensures { result ≡ pages_fit events.now }
 {
-    let mut i: usize = 0;
-    while i < events.len() {
-        if !step::fits(events[i]) {
+    for &e in events {
+        if !step::fits(e) {
             return false;
         }
-        i += 1;
     }
     true
 }
 
-// 25, or 0: over all events, before the first is played.
-fn refusal(events: &[u8], frames: u32, every: u32, victim: Victim) -> u32
-    ensures { result ≡ first_of (rehearsal_rows events.now (settings frames every victim)) }
+// 25 over all events, before the first is played.
+fn refusal(events: &[u8], t: Settings) -> Result<(), Refusal>
+    ensures rows { error_number result ≡ first_of (rehearsal_rows events.now t) }
+    ensures only { IfErr result (λ r. refusal_number r ≡ 25) }
 {
     let few = events.len() <= 1024;
-    let room = (1 <= frames) & (frames <= 16);
-    let often = (1 <= every) & (every <= 255);
+    let room = (1 <= t.frames) & (t.frames <= 16);
+    let often = (1 <= t.every) & (t.every <= 255);
     let inside = pages_fit(events);
-    rows::first(
-        !few,
-        25,
-        rows::first(
-            !room,
-            25,
-            rows::first(!often, 25, rows::first(!inside, 25, 0)),
-        ),
-    )
+    if few & (room & (often & inside)) {
+        return Ok(());
+    }
+    Err(Refusal::BadRehearsal)
 }
 
 // The model before the first event.
@@ -66,10 +60,8 @@ fn play(events: &[u8], t: Settings) -> Rehearsal
     ensures { result ≡ play_from t 0 idle events.now }
 {
     let mut m = start();
-    let mut i: usize = 0;
-    while i < events.len() {
-        m = step::step(t, i as u32 + 1, m, step::access(events[i]));
-        i += 1;
+    for (i, &e) in events.iter().enumerate() {
+        m = step::step(t, i as u32 + 1, m, step::access(e));
     }
     m
 }
@@ -79,22 +71,23 @@ fn play(events: &[u8], t: Settings) -> Rehearsal
 pub fn rehearse(events: &[u8], frames: u32, every: u32, victim: Victim) -> Rehearsed
     ensures { result ≡ rehearsal_of events.now (settings frames every victim) }
 {
-    let no = refusal(events, frames, every, victim);
-    if no != 0 {
-        let none = [figures::NONE; 64];
-        return Rehearsed {
-            answer: Answer::Refused(no),
-            pages: none,
-        };
-    }
     let t = Settings {
         frames,
         every,
         victim,
     };
-    let pages = play(events, t).pages;
-    Rehearsed {
-        answer: Answer::Done,
-        pages,
+    match refusal(events, t) {
+        Ok(()) => {
+            let m = play(events, t);
+            let pages = m.pages;
+            Rehearsed {
+                answer: Answer::Done,
+                pages,
+            }
+        }
+        Err(no) => Rehearsed {
+            answer: Answer::from(no),
+            pages: [figures::NONE; 64],
+        },
     }
 }

@@ -13,9 +13,9 @@ pub fn access(e: u8) -> Access
     ensures { result ≡ access_of e }
 {
     if e < 128 {
-        Access::Read(e as u32)
+        Access::Read(u32::from(e))
     } else {
-        Access::Change(e as u32 - 128)
+        Access::Change(u32::from(e) - 128)
     }
 }
 
@@ -24,8 +24,7 @@ fn page(a: Access) -> u32
     ensures { result ≡ page_in a }
 {
     match a {
-        Access::Read(p) => p,
-        Access::Change(p) => p,
+        Access::Read(p) | Access::Change(p) => p,
     }
 }
 
@@ -41,10 +40,7 @@ pub fn fits(e: u8) -> bool
 fn written(v: Victim) -> bool
     ensures { result ≡ victim_written v }
 {
-    match v {
-        Victim::Written => true,
-        Victim::Released => false,
-    }
+    matches!(v, Victim::Written)
 }
 
 // The figures once the page of row f makes way.
@@ -53,17 +49,11 @@ fn evict(t: Settings, m: Rehearsal, f: usize) -> [Figures; 64]
     ensures { result ≡ evicted t m f }
 {
     let x = m.frames[f];
-    let pages = m.pages;
-    let victim = t.victim;
-    if written(victim) & x.dirty {
-        figures::set_row(
-            pages,
-            x.page,
-            figures::with_image(figures::page_row(pages, x.page)),
-        )
-    } else {
-        pages
+    if !(written(t.victim) & x.dirty) {
+        return m.pages;
     }
+    let r = figures::page_row(m.pages, x.page);
+    figures::set_row(m.pages, x.page, figures::with_image(r))
 }
 
 // What a load of a page with so many changes replays.
@@ -71,8 +61,7 @@ fn replayed(t: Settings, n: u32) -> u32
     requires { 1 ≤ t.every }
     ensures { result ≡ replayed_by t n }
 {
-    let victim = t.victim;
-    if written(victim) { 0 } else { n % t.every }
+    if written(t.victim) { 0 } else { n % t.every }
 }
 
 // The figures once the page is brought in.
@@ -82,11 +71,10 @@ fn bring_in(t: Settings, pages: [Figures; 64], page: u32) -> [Figures; 64]
 {
     let r = figures::page_row(pages, page);
     if r.records == 0 {
-        pages
-    } else {
-        let count = replayed(t, r.records);
-        figures::set_row(pages, page, figures::with_load(r, count))
+        return pages;
     }
+    let count = replayed(t, r.records);
+    figures::set_row(pages, page, figures::with_load(r, count))
 }
 
 // Event i finds the page in row f.
@@ -101,8 +89,7 @@ fn find(i: u32, m: Rehearsal, page: u32, change: bool, f: usize) -> Rehearsal
         used: i,
         dirty,
     };
-    let pages = m.pages;
-    Rehearsal { frames, pages }
+    Rehearsal { frames, ..m }
 }
 
 // Event i brings the page into row f.
@@ -111,8 +98,7 @@ fn bring(t: Settings, i: u32, m: Rehearsal, page: u32, change: bool, f: usize) -
     ensures { result ≡ missing t i m page change f }
 {
     let pages = bring_in(t, evict(t, m, f), page);
-    let victim = t.victim;
-    let dirty = change | !written(victim);
+    let dirty = change | !written(t.victim);
     let mut frames = m.frames;
     frames[f] = FrameUse {
         page,
@@ -127,13 +113,11 @@ fn touch(t: Settings, i: u32, m: Rehearsal, page: u32, change: bool) -> Rehearsa
     requires { (t.frames ≤ 16) × (1 ≤ t.every) × Bounded 900000 m.pages }
     ensures { result ≡ touched t i m page change }
 {
-    let table = m.frames;
     let count = t.frames as usize;
-    let h = frames::holding(table, page, count);
-    if 0 < h {
-        find(i, m, page, change, h - 1)
-    } else {
-        bring(t, i, m, page, change, frames::least_used(table, count))
+    let frames = &m.frames[0..count];
+    match frames::holding(frames, page) {
+        Some(f) => find(i, m, page, change, f),
+        None => bring(t, i, m, page, change, frames::least_used(frames)),
     }
 }
 
@@ -142,14 +126,9 @@ fn alter(t: Settings, m: Rehearsal, page: u32) -> Rehearsal
     requires { (1 ≤ t.every) × Bounded 900600 m.pages }
     ensures { result ≡ changed t m page }
 {
-    let before = m.pages;
-    let pages = figures::set_row(
-        before,
-        page,
-        figures::with_change(figures::page_row(before, page), t.every),
-    );
-    let frames = m.frames;
-    Rehearsal { frames, pages }
+    let r = figures::page_row(m.pages, page);
+    let pages = figures::set_row(m.pages, page, figures::with_change(r, t.every));
+    Rehearsal { pages, ..m }
 }
 
 // A read; of a page without a change it does nothing.
@@ -157,12 +136,10 @@ fn read(t: Settings, i: u32, m: Rehearsal, page: u32) -> Rehearsal
     requires { (t.frames ≤ 16) × (1 ≤ t.every) × Bounded 900000 m.pages }
     ensures { result ≡ step_on t i m (Access.Read page) }
 {
-    let pages = m.pages;
-    if figures::page_row(pages, page).records == 0 {
-        m
-    } else {
-        touch(t, i, m, page, false)
+    if figures::page_row(m.pages, page).records == 0 {
+        return m;
     }
+    touch(t, i, m, page, false)
 }
 
 // Event i, counted from 1.

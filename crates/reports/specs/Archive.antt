@@ -2,7 +2,7 @@
 -- archive from the durable records a restart finds: one section per page in page order, each after its count (4 bytes),
 -- the records inside by number. A reader checks it, then goes through it once and rebuilds every page into a lent area
 -- of P images, check bytes zero (2 if its length isn't 256 times 1 to 64), with zeros for a blank page."
-use Rattle.std.specs.Prelude.{ℕ, zero, suc, ◌+◌, ◌-◌, ◌*◌, ◌/◌, ◌≤◌, ◌≡◌, ◌≢◌, ◌↔◌, Bool, true, cond, ◌&&◌, not, List, [], ◌∷◌, ◌++◌, eqb, leb, ltb, length, take, drop, replicate}
+use Rattle.std.specs.Prelude.{ℕ, Result, Ok, Err, zero, suc, ◌+◌, ◌-◌, ◌*◌, ◌/◌, ◌≤◌, ◌≡◌, ◌≢◌, ◌↔◌, Bool, true, cond, ◌&&◌, not, List, [], ◌∷◌, ◌++◌, eqb, leb, ltb, length, take, drop, replicate}
 use Rattle.model.specs.Tables.{Row, all, first_of, within, tabulate}
 use Rattle.model.specs.Bytes.{le, bytes_of, part, Octets}
 use Rattle.model.specs.Checksum.{sealed}
@@ -13,7 +13,6 @@ use Rattle.model.specs.Scan.{durable_count, linked}
 use Rattle.reports.specs.Reading.{whole_rows, held_records}
 use Rattle.model.specs.Claim.{History, Legal, reached, inspection, shown}
 use Rattle.model.specs.declared.{answer.Answer.Answer, answer.Answer.TheVariants.Done}
-use Rattle.reports.specs.declared.reading.Size.{Size}
 
 -- ---- the bytes
 
@@ -40,8 +39,9 @@ segments_of v = tabulate (geometry_of v).pages (λ i. held_records v (suc i))
 abbrev pub archive_length : List ℕ → ℕ
 archive_length v = 4 * (geometry_of v).pages + 64 * durable_count (geometry_of v) v
 
-unfoldable pub size_of : List ℕ → Size
-size_of v = let no = first_of (whole_rows v []) in cond (eqb no 0) (Size.Bytes (archive_length v)) (Size.Refused no)
+-- or the refusal's number
+unfoldable pub size_of : List ℕ → Result ℕ ℕ
+size_of v = let no = first_of (whole_rows v []) in cond (eqb no 0) (Ok (archive_length v)) (Err no)
 
 -- "21, the archive buffer isn't that length, after 18"
 unfoldable pub archive_rows : List ℕ → ℕ → List Row
@@ -155,9 +155,9 @@ abbrev pub image_at : List ℕ → ℕ → List ℕ
 image_at area p = part area (256 * (p - 1)) 256
 
 -- the number that stands for a length call's answer
-abbrev pub size_refusal : Size → ℕ
-size_refusal (Size.Refused n) = n
-size_refusal (Size.Bytes n) = 0
+abbrev pub size_refusal : Result ℕ ℕ → ℕ
+size_refusal (Err n) = n
+size_refusal (Ok n) = 0
 
 -- (by which tables the calls are refused: `ReadingClaim`)
 pub record ArchiveClaim : Type 0 where

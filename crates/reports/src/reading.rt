@@ -1,4 +1,6 @@
-// What the calls that read volumes, and take no state, give back.
+// What the calls that read volumes, and take no state, give back. A refusal stands in them as its number, and no Result
+// stands for it: the definitions of chapters 1, 7, 9 and 12 of document 02 give zeros beside it (`forecast_of`,
+// `room_of`, `walk_of`), and a comparison has four cases beside the refusal (`mirror_of`).
 
 // What a walk would come to: the count of records replayed, or (count 0) the refusal 23 where it goes below the run.
 #[derive(Clone, Copy)]
@@ -13,13 +15,6 @@ pub struct Figure {
 pub struct Forecast {
     pub refusal: u32,
     pub pages: [Figure; 64],
-}
-
-// A length in bytes, or the refusal.
-#[derive(Clone, Copy)]
-pub enum Size {
-    Refused(u32),
-    Bytes(u32),
 }
 
 // How two durable logs compare: they agree, one is a beginning of the other and lacks so many records, or the first number at which they

@@ -5,6 +5,7 @@ use mathlib.Core.List.{List, []}
 use Prim.Native.Nat.{ℕ}
 use native.Mathlib.Omega.{arith}
 use lib.Dec.{eqb}
+use Rattle.std.specs.Prelude.{Result}
 use lib.ListN.{length, replicate}
 use borrow.Author.Tests.{eqb-true}
 use Rattle.laws.proofs.Tables.{by_cases}
@@ -23,7 +24,6 @@ use Rattle.reports.specs.Mirror.{mirror_rows, mirror_of, mirror_refusal, Compare
 use Rattle.reports.specs.ReadingClaim.{ReadingClaim}
 use Rattle.reports.specs.declared.reading.Forecast.{Forecast}
 use Rattle.reports.specs.declared.reading.Room.{Room}
-use Rattle.reports.specs.declared.reading.Size.{Size}
 use Rattle.reports.specs.declared.reading.Space.{Space}
 use Rattle.laws.proofs.Refuses.{by_rows}
 
@@ -44,7 +44,7 @@ rooms v =
 
 sizes : (v : List ℕ) → ByTable (whole_rows v []) (size_refusal (size_of v))
 unfolding size_of
-sizes v = (by_rows {A = ℕ} (whole_rows v []) (omega arith) size_refusal (λ (r : Size). 0) _ _ 0 refl refl refl).table
+sizes v = (by_rows {A = ℕ} (whole_rows v []) (omega arith) size_refusal (λ (r : Result ℕ ℕ). 0) _ _ 0 refl refl refl).table
 
 writes : (v x : List ℕ) → Refuses (archive_rows v (length x)) (refusal_of (archive_of v x).answer) (archive_of v x).buffer x
 unfolding archive_of archive_rows

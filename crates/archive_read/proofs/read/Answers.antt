@@ -1,10 +1,6 @@
--- `archive_read::read` meets its contract: the answer that the number stands for.
-use native.Mathlib.Omega.{arith}
-use Rattle.archive_read.proofs.Outcomes.{refused-answer, done-answer}
+-- `archive_read::read` answers with what `fill` ensures.
+use Rattle.archive_read.proofs.Outcomes.{done-answered}
 use Rattle.archive_read.proofs.read.Goals as goal
 
-pub returns-then-no-ne0 : goal.returns-then-no-ne0
-returns-then-no-ne0 c = let f = c.fill-no in record { answer = refused-answer _ _ _ f.ensures.answer c.if-no-ne0.true; area = f.ensures.area }
-
-pub returns : goal.returns
-returns c = let f = c.fill-no in record { answer = done-answer _ _ _ f.ensures.answer (omega (arith, c.if-no-ne0.false)); area = f.ensures.area }
+pub returns-in-Ok-clause-answer : goal.returns-in-Ok-clause-answer
+returns-in-Ok-clause-answer c = done-answered _ _ c.in-Ok.ensures.answer

@@ -1,32 +1,36 @@
 -- `archive_write::fill` meets its contract: the laws of Outcomes say what each case is.
-use mathlib.Core.Path.{◌≡◌, ◌∙◌}
-use mathlib.Core.Bool.{cond, not}
-use lib.Dec.{eqb}
-use lib.ListN.{length}
-use Rattle.archive_write.proofs.Outcomes.{write-refused, write-ready, write_done}
-use Rattle.archive_write.proofs.fill.Goals.{After-first-no}
+use Rattle.std.proofs.lemmas.Result.{err_from_is_err_and}
+use Rattle.reports_laws.proofs.Refused.{refusal-some}
+use Rattle.archive_write.proofs.Outcomes.{whole, write-refused, write-other, write-ready, write_done}
 use Rattle.archive_write.proofs.fill.Goals as goal
 
--- the call's number, of what was measured
-number : (c : goal.After-first-no)
-    → let e = c.measure-e.result in
-    let b = c.args.buffer.now in
-    c.first-no.result ≡ cond (not (eqb e.refusal 0)) e.refusal (cond (not (eqb (length b) e.size)) 21 0)
-number c = c.first-no.ensures ∙ rw c.first.ensures
+pub returns-in_err-e-clause-answer : goal.returns-in_err-e-clause-answer
+returns-in_err-e-clause-answer c =
+    let p = err_from_is_err_and c.from_residual.result c.from_residual.ensures.1 in
+    rw (p.1, p.2) (write-refused _ c.args.buffer.now _ c.in_err-e.ensures.refusal (refusal-some _)).0
 
-pub returns-then-no-ne0 : goal.returns-then-no-ne0
-returns-then-no-ne0 c =
-    let h = write-refused _ _ c.measure-e.ensures _ _ (number (goal.at.returns-then-no-ne0 c).After-first-no) c.if-no-ne0.true in
-    record { answer = h.0; buffer = h.1 }
+pub returns-in_err-e-clause-buffer : goal.returns-in_err-e-clause-buffer
+returns-in_err-e-clause-buffer c = (write-refused _ _ _ c.in_err-e.ensures.refusal (refusal-some _)).1
+
+pub returns-then-buffer-e-clause-answer : goal.returns-then-buffer-e-clause-answer
+returns-then-buffer-e-clause-answer c = (write-other _ _ c.in_ok-e.ensures.refusal _ c.in_ok-e.ensures.extent c.if-buffer-e.true).0
+
+pub returns-then-buffer-e-clause-buffer : goal.returns-then-buffer-e-clause-buffer
+returns-then-buffer-e-clause-buffer c = (write-other _ _ c.in_ok-e.ensures.refusal _ c.in_ok-e.ensures.extent c.if-buffer-e.true).1
+
+pub of-requires : goal.of-requires
+of-requires c = (whole _ c.in_ok-e.ensures.refusal).volume
 
 pub segments-requires : goal.segments-requires
 segments-requires c =
-    let h = write-ready _ _ c.measure-e.ensures c.args.buffer.now _ (number (goal.at.segments-requires c).After-first-no) c.if-no-ne0.false _
-    c.geometry-g.ensures in
-    record { sized = h.0; buffer_len = h.1 }
+    write-ready _ _ c.in_ok-e.ensures.refusal _ c.in_ok-e.ensures.extent c.if-buffer-e.false _ c.of.ensures _ c.of.result.read
 
-pub returns : goal.returns
-returns c =
-    let h = write_done _ _ c.measure-e.ensures _ _ (number (goal.at.returns c).After-first-no) c.if-no-ne0.false _
-    c.geometry-g.ensures _ c.segments.ensures in
-    record { answer = h.0; buffer = h.1 }
+pub returns-clause-answer : goal.returns-clause-answer
+returns-clause-answer c =
+    (write_done _ _ c.in_ok-e.ensures.refusal _ c.in_ok-e.ensures.extent c.if-buffer-e.false _ c.of.ensures _ c.of.result.read
+    _ c.segments.ensures).0
+
+pub returns-clause-buffer : goal.returns-clause-buffer
+returns-clause-buffer c =
+    (write_done _ _ c.in_ok-e.ensures.refusal _ c.in_ok-e.ensures.extent c.if-buffer-e.false _ c.of.ensures _ c.of.result.read
+    _ c.segments.ensures).1

@@ -1,9 +1,16 @@
 -- `archive_write::length` tells what was measured.
-use Rattle.archive_write.proofs.Outcomes.{length-refused, length-told}
+use mathlib.Core.Path.{sym, ◌∙◌}
+use Rattle.std.proofs.lemmas.Result.{err_from_is_err_and}
+use Rattle.archive_write.proofs.Outcomes.{size-refused, size-measured}
 use Rattle.archive_write.proofs.length.Goals as goal
 
-pub returns-then-e-ne0 : goal.returns-then-e-ne0
-returns-then-e-ne0 c = length-refused _ _ c.measure-e.ensures c.if-e-ne0.true
+pub returns-in_err-measure-clause-refusal : goal.returns-in_err-measure-clause-refusal
+returns-in_err-measure-clause-refusal c =
+    let p = err_from_is_err_and c.from_residual.result c.from_residual.ensures.1 in
+    rw (p.1, p.2) (c.in_err-measure.ensures.refusal ∙ sym (size-refused _))
 
-pub returns : goal.returns
-returns c = length-told _ _ c.measure-e.ensures c.if-e-ne0.false
+pub returns-clause-refusal : goal.returns-clause-refusal
+returns-clause-refusal c = c.in_ok-measure.ensures.refusal ∙ sym (size-refused _)
+
+pub returns-clause-size : goal.returns-clause-size
+returns-clause-size c = size-measured _ c.in_ok-measure.ensures.refusal _ c.in_ok-measure.ensures.extent

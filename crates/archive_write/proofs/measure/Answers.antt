@@ -1,32 +1,42 @@
 -- `archive_write::measure` meets its contract: the laws of Outcomes say what each case is.
 use mathlib.Core.Path.{◌≡◌, sym, ◌∙◌}
 use native.Mathlib.Omega.{arith}
-use Rattle.archive_write.proofs.Outcomes.{refusal_is, Known, known, extent-none, extent-some}
+use Rattle.std.proofs.lemmas.Result.{err_from_is_err_and}
+use Rattle.reports_laws.proofs.Refused.{refusal-some}
 use Rattle.archive_write.specs.Extent.{whole_refusal}
-use Rattle.archive_write.proofs.measure.Goals.{After-geometry-g, After-refusal-no}
+use Rattle.archive_write.proofs.Fronts.{pages-few}
+use Rattle.archive_write.proofs.Outcomes.{scan-refused, scan-clean, whole, durable-few}
+use Rattle.archive_write.proofs.measure.Goals.{Else-gone}
 use Rattle.archive_write.proofs.measure.Goals as goal
 
--- the refusal's number is the table's
-number : (c : goal.After-refusal-no) → c.refusal-no.result ≡ whole_refusal c.args.volume.now
-number c = let k = c.count-c in refusal_is _ k.result k.ensures.refusal k.ensures.counts _ c.refusal-no.ensures
+here : (c : Else-gone) → 0 ≡ whole_refusal c.args.volume.now
+here c = scan-clean _ _ c.in_ok-c.ensures.refusal c.in_ok-c.ensures.counts _ (sym c.gone.ensures ∙ c.if-gone.false)
 
-opened : (c : goal.After-geometry-g) → Known c.args.volume.now c.geometry-g.result c.count-c.result
-opened c =
-    let k = c.count-c in
-    let n = refusal_is _ k.result k.ensures.refusal k.ensures.counts _ c.refusal-no.ensures in
-    known _ _ c.geometry-g.ensures k.result k.ensures.refusal k.ensures.counts (sym n ∙ c.if-no-ne0.false)
+pub returns-in_err-c-clause-refusal : goal.returns-in_err-c-clause-refusal
+returns-in_err-c-clause-refusal c =
+    let p = err_from_is_err_and c.from_residual.result c.from_residual.ensures.1 in
+    rw (p.1, p.2) (scan-refused _ _ c.in_err-c.ensures.refusal (refusal-some _))
 
-pub returns-then-no-ne0 : goal.returns-then-no-ne0
-returns-then-no-ne0 c = extent-none _ _ (number (goal.at.returns-then-no-ne0 c).After-refusal-no) c.if-no-ne0.true
+pub returns-then-gone-clause-refusal : goal.returns-then-gone-clause-refusal
+returns-then-gone-clause-refusal c =
+    scan-clean _ _ c.in_ok-c.ensures.refusal c.in_ok-c.ensures.counts _ (sym c.gone.ensures ∙ c.if-gone.true)
 
-pub overflow_mul-result : goal.overflow_mul-result
-overflow_mul-result c = omega (arith, (opened (goal.at.overflow_mul-result c).After-geometry-g).pages)
+pub of-requires : goal.of-requires
+of-requires c = (whole _ (here c)).volume
 
-pub overflow_mul-result-2 : goal.overflow_mul-result-2
-overflow_mul-result-2 c = omega (arith, (opened (goal.at.overflow_mul-result-2 c).After-geometry-g).few)
+pub overflow_mul-size : goal.overflow_mul-size
+overflow_mul-size c = omega (arith, pages-few _ _ c.of.result.valid c.of.result.read)
 
-pub overflow_add-result : goal.overflow_add-result
-overflow_add-result c = let k = opened (goal.at.overflow_add-result c).After-geometry-g in omega (arith, k.few, k.pages)
+pub overflow_mul-size-2 : goal.overflow_mul-size-2
+overflow_mul-size-2 c = omega (arith, durable-few _ (here (goal.at.overflow_mul-size-2 c).Else-gone) _ c.in_ok-c.ensures.counts)
 
-pub returns : goal.returns
-returns c = extent-some _ _ _ (opened (goal.at.returns c).After-geometry-g)
+pub overflow_add-size : goal.overflow_add-size
+overflow_add-size c =
+    omega (
+      arith,
+      pages-few _ _ c.of.result.valid c.of.result.read,
+      durable-few _ (here (goal.at.overflow_add-size c).Else-gone) _ c.in_ok-c.ensures.counts,
+    )
+
+pub returns-clause-refusal : goal.returns-clause-refusal
+returns-clause-refusal c = here (goal.at.returns-clause-refusal c).Else-gone

@@ -2,14 +2,14 @@
 use Rattle.compare.proofs.Outcomes.{agree, first-lacks, second-lacks, differs}
 use Rattle.compare.proofs.answer.Goals as goal
 
-pub returns-then-k-m : goal.returns-then-k-m
-returns-then-k-m c = agree _ _ _ c.if-k-n.true c.if-k-m.true
+pub returns-in-true-true : goal.returns-in-true-true
+returns-in-true-true c = agree _ _ _ c.in-true-true.is-0 c.in-true-true.is-1
 
-pub returns-then-k-n : goal.returns-then-k-n
-returns-then-k-n c = first-lacks _ _ _ c.if-k-n.true c.if-k-m.false
+pub returns-in-true-false : goal.returns-in-true-false
+returns-in-true-false c = first-lacks _ _ _ c.in-true-false.is-0 c.in-true-false.is-1
 
-pub returns-then-k-m-2 : goal.returns-then-k-m-2
-returns-then-k-m-2 c = second-lacks _ _ _ c.if-k-n.false c.if-k-m-2.true
+pub returns-in-false-true : goal.returns-in-false-true
+returns-in-false-true c = second-lacks _ _ _ c.in-false-true.is-0 c.in-false-true.is-1
 
-pub returns : goal.returns
-returns c = differs _ _ _ c.if-k-n.false c.if-k-m-2.false
+pub returns-in-false-false : goal.returns-in-false-false
+returns-in-false-false c = differs _ _ _ c.in-false-false.is-0 c.in-false-false.is-1

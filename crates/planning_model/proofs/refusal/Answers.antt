@@ -1,9 +1,9 @@
 -- `planning_model::refusal` meets its contract.
-use Rattle.planning_model.proofs.Laws.{refusal_is}
+use Rattle.planning_model.proofs.Laws.{rows-none, rows-some}
 use Rattle.planning_model.proofs.refusal.Goals as goal
 
-pub returns : goal.returns
-returns c =
-    let k = c in
-    refusal_is _ _ _ _ _ _ _ _ _ k.pages_fit-inside.ensures k.first.ensures c.first-2.ensures
-    c.first-3.ensures c.first-4.ensures
+pub returns-then-few-room-clause-rows : goal.returns-then-few-room-clause-rows
+returns-then-few-room-clause-rows c = rows-none _ _ _ c.pages_fit-inside.ensures c.if-few-room.true
+
+pub returns-clause-rows : goal.returns-clause-rows
+returns-clause-rows c = rows-some _ _ _ c.pages_fit-inside.ensures c.if-few-room.false

@@ -1,13 +1,15 @@
 -- `planning_model::rehearse` meets its contract.
+use native.Mathlib.Omega.{arith}
+use Rattle.planning.specs.Rehearsal.{settings}
 use Rattle.planning_model.proofs.Laws.{rehearse-refused, rehearse-asks, rehearse-done}
 use Rattle.planning_model.proofs.rehearse.Goals as goal
 
-pub returns-then-no-ne0 : goal.returns-then-no-ne0
-returns-then-no-ne0 c = rehearse-refused _ _ _ _ _ c.refusal-no.ensures c.if-no-ne0.true
+pub play-m-requires : goal.play-m-requires
+play-m-requires c = rehearse-asks _ (settings c.args.frames c.args.every c.args.victim) c.in-Ok.ensures.rows
 
-pub play-requires : goal.play-requires
-play-requires c = rehearse-asks _ _ _ c.args.victim _ c.refusal-no.ensures c.if-no-ne0.false
+pub returns-in-Ok : goal.returns-in-Ok
+returns-in-Ok c = rehearse-done _ _ c.in-Ok.ensures.rows _ c.play-m.ensures
 
-pub returns : goal.returns
-returns c =
-    rehearse-done _ _ _ _ _ c.refusal-no.ensures c.if-no-ne0.false _ c.play.ensures
+pub returns-in-Err : goal.returns-in-Err
+returns-in-Err c =
+    rw c.from.ensures (rehearse-refused _ _ _ c.in-Err.ensures.rows (λ z. absurd (omega (arith, z, c.in-Err.ensures.only))))

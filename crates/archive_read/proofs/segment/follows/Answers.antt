@@ -6,4 +6,4 @@ pub returns : goal.returns
 returns c =
     let h = c.holds in
     let e = c.read-e in
-    follows_is _ _ _ _ _ _ e.ensures h.ensures c.layout.ensures
+    rw c.from-owner.ensures (follows_is _ _ _ _ _ _ e.ensures h.ensures c.layout.ensures)

@@ -11,7 +11,7 @@ pub returns-then-count-eq0 : goal.returns-then-count-eq0
 returns-then-count-eq0 c =
     let s = c in
     let a = s.args in
-    let f = c.fill.ensures in
+    let f = c.fill.ensures.after (λ y e. e) in
     let none : c.u32_at-count.result ≡ 0 = omega (arith, c.if-count-eq0.true) in
     image-blank a.page a.archive.now a.at _ c.u32_at-count.ensures none _ _ f s.requires.page_bound.1
 
@@ -31,5 +31,5 @@ returns c =
     let s = f in
     let a = s.args in
     let some : 0 < n.u32_at-count.result = omega (arith, r.if-count-eq0.false) in
-    image-built a.page a.archive.now a.at _ n.u32_at-count.ensures some _ _ _ _ _ f.fill.ensures s.requires.page_bound.1
+    image-built a.page a.archive.now a.at _ n.u32_at-count.ensures some _ _ _ _ _ (f.fill.ensures.after (λ y e. e)) s.requires.page_bound.1
     r.replay-last.auto.body r.replay-last.ensures.last r.replay-last.ensures.body c.build.ensures

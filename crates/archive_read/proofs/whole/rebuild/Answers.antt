@@ -22,9 +22,6 @@ overflow_mul-from c = let r = room (goal.at.overflow_mul-from c).In-loop-i in se
 pub overflow_add-end : goal.overflow_add-end
 overflow_add-end c = let r = room (goal.at.overflow_add-end c).In-loop-i in search rules
 
-pub overflow_add-i : goal.overflow_add-i
-overflow_add-i c = let t = c.loop-i-test.true in search rules
-
 pub slice_bounds-rebuild-count : goal.slice_bounds-rebuild-count
 slice_bounds-rebuild-count c = let r = room (goal.at.slice_bounds-rebuild-count c).In-loop-i in search rules
 
@@ -51,12 +48,6 @@ pub past-at-requires : goal.past-at-requires
 past-at-requires c =
     let l = c.loop-i in
     (l.invariant.inside, rebuilding-fits _ _ _ _ _ l.invariant c.loop-i-test.true)
-
-pub overflow_add-i-in-loop-i : goal.overflow_add-i-in-loop-i
-overflow_add-i-in-loop-i c = let t = c.loop-i-test.true in search rules
-
-pub loop-i-smaller : goal.loop-i-smaller
-loop-i-smaller c = let t = c.loop-i-test.true in omega (arith, t)
 
 pub loop-i-preserved : goal.loop-i-preserved
 loop-i-preserved c =

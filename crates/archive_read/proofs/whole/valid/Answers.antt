@@ -1,8 +1,6 @@
 -- `archive_read::whole::valid` meets its contract. The loop keeps `Checking`: what is left decides.
 use mathlib.Core.Path.{◌≡◌, sym, ◌∙◌}
 use mathlib.Core.Bool.{true}
-use native.Mathlib.Omega.{arith}
-use borrow.Author.Rules.{rules}
 use lib.ListN.{drop}
 use Rattle.reports.specs.Archive.{segment_fits}
 use Rattle.archive_read.proofs.Wholes.{checking-all, checking-short, checking-not, checking-on, checking-end}
@@ -25,9 +23,6 @@ returns-then-not-fits c =
     let l = c.loop-i in
     checking-short _ _ _ _ l.invariant c.loop-i-test.true (sym c.fits.ensures ∙ c.if-not-fits.true)
 
-pub overflow_add-i : goal.overflow_add-i
-overflow_add-i c = let t = c.loop-i-test.true in search rules
-
 pub valid-requires : goal.valid-requires
 valid-requires c = (c.loop-i.invariant.inside, fitting c)
 
@@ -39,12 +34,6 @@ returns-then-not-valid c =
 
 pub past-at-requires : goal.past-at-requires
 past-at-requires c = (c.loop-i.invariant.inside, (fitting (goal.at.past-at-requires c).Else-not-fits))
-
-pub overflow_add-i-in-loop-i : goal.overflow_add-i-in-loop-i
-overflow_add-i-in-loop-i c = let t = c.loop-i-test.true in search rules
-
-pub loop-i-smaller : goal.loop-i-smaller
-loop-i-smaller c = let t = c.loop-i-test.true in omega (arith, t)
 
 pub loop-i-preserved : goal.loop-i-preserved
 loop-i-preserved c =

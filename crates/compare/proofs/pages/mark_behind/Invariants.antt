@@ -5,7 +5,5 @@ use Rattle.compare.specs.Volumes.{marked_behind}
 use Rattle.compare.proofs.pages.mark_behind.Given as goal
 
 abbrev pub invariant-loop-i : goal.invariant-loop-i
-invariant-loop-i l = (l.k ≤ l.i) × (l.i - l.k ≤ l.n - l.k) × (l.touched ≡ marked_behind l.g l.v l.k l.i l.initial.touched)
-
-abbrev pub decreases-loop-i : goal.decreases-loop-i
-decreases-loop-i l = l.n - l.i
+invariant-loop-i l =
+    (l.i - l.k ≤ l.n - l.k) × (l.touched ≡ marked_behind l.v.geometry l.v.bytes.now l.k l.i l.initial.touched)

@@ -16,8 +16,8 @@ with_load-requires c =
 pub returns-then-r-eq0 : goal.returns-then-r-eq0
 returns-then-r-eq0 c = bring-begin _ _ _ _ c.page_row-r.ensures c.if-r-eq0.true
 
-pub returns-else-r-eq0 : goal.returns-else-r-eq0
-returns-else-r-eq0 c =
+pub returns : goal.returns
+returns c =
     let k = c in
     bring-load _ _ _ _ _ _ _ k.page_row-r.ensures k.if-r-eq0.false c.replayed-count.ensures
     c.with_load.ensures c.set_row.ensures

@@ -5,5 +5,5 @@ use Rattle.planning_model.proofs.step.read.Goals as goal
 pub returns-then-page_row-eq0 : goal.returns-then-page_row-eq0
 returns-then-page_row-eq0 c = read_none _ _ _ c.args.m _ _ c.page_row.ensures c.if-page_row-eq0.true
 
-pub returns-else-page_row-eq0 : goal.returns-else-page_row-eq0
-returns-else-page_row-eq0 c = read-touch _ _ _ _ _ _ c.page_row.ensures c.if-page_row-eq0.false c.touch.ensures
+pub returns : goal.returns
+returns c = read-touch _ _ _ _ _ _ c.page_row.ensures c.if-page_row-eq0.false c.touch.ensures
