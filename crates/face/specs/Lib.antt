@@ -3,6 +3,7 @@ pub mod Face
 pub mod Reports
 pub mod Arguments
 pub mod Slots
+pub mod Found
 pub mod Failing
 pub mod Room
 pub mod Advice

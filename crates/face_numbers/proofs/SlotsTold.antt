@@ -1,5 +1,5 @@
 -- What stands in a slot, as numbers: the code's tests and the fields that it reads.
-use mathlib.Core.Path.{◌≡◌, ap, ◌∙◌}
+use mathlib.Core.Path.{◌≡◌, ap}
 use mathlib.Core.Bool.{Bool, cond, ◌&&◌}
 use mathlib.Core.List.{List, [], ◌∷◌}
 use Prim.Native.Nat.{ℕ}
@@ -8,9 +8,6 @@ use Rattle.model.specs.Bytes.{all_zero}
 use Rattle.model.specs.Item.{image_page, image_lsn, valid_image, valid_somewhere, record_of, note_of}
 use Rattle.model.specs.declared.{geometry.Geometry.Geometry, item.LogRecord.LogRecord, item.Note.Note}
 use Rattle.face.specs.Slots.{standing, record_numbers, stored_note_numbers, backup_numbers}
-
-pub stand : (z h p q : Bool) (x y : ℕ) → p ≡ z → q ≡ h → x ≡ cond q 1 2 → y ≡ cond p 0 x → y ≡ cond z 0 (cond h 1 2)
-stand z h p q x y ep eq ex ey = ey ∙ rw (ep, ex, eq)
 
 pub record-told : (x : List ℕ) (e : LogRecord) (s : ℕ) → e ≡ record_of x → s ≡ standing 60 x
     → s ∷ e.lsn ∷ e.prev ∷ e.page ∷ e.kind ∷ e.length ∷ e.offset ∷ e.fill ∷ [] ≡ record_numbers x

@@ -17,9 +17,27 @@ fn change_numbers(page: u32, c: Change, byte: u32) -> [u32; 8]
     ensures { result ≡ command_numbers (commands.Change page c) byte }
 {
     match c {
-        Change::Format { fill: _ } => [1, 5, page, 0, 1, 0, 0, byte],
-        Change::Put { offset, length } => [1, 5, page, 0, 2, length as u32, offset as u32, byte],
-        Change::Slide { offset, length } => [1, 5, page, 0, 3, length as u32, offset as u32, byte],
+        Change::Format { .. } => [1, 5, page, 0, 1, 0, 0, byte],
+        Change::Put { offset, length } => [
+            1,
+            5,
+            page,
+            0,
+            2,
+            u32::from(length),
+            u32::from(offset),
+            byte,
+        ],
+        Change::Slide { offset, length } => [
+            1,
+            5,
+            page,
+            0,
+            3,
+            u32::from(length),
+            u32::from(offset),
+            byte,
+        ],
     }
 }
 
@@ -28,11 +46,7 @@ pub fn command_numbers(c: Command, byte: u32) -> [u32; 8]
     ensures { result ≡ command_numbers c byte }
 {
     match c {
-        Command::Begin {
-            page,
-            frame,
-            fill: _,
-        } => plain(1, 3, page, frame),
+        Command::Begin { page, frame, .. } => plain(1, 3, page, frame),
         Command::Load { page, frame } => plain(1, 4, page, frame),
         Command::Change { page, change } => change_numbers(page, change, byte),
         Command::Force => plain(1, 6, 0, 0),
@@ -51,9 +65,7 @@ pub fn refusal_in(a: Upkeep) -> u32
 {
     match a {
         Upkeep::Refused(n) => n,
-        Upkeep::Idle => 0,
-        Upkeep::Stuck(_) => 0,
-        Upkeep::Make(_) => 0,
+        _ => 0,
     }
 }
 
@@ -61,8 +73,7 @@ pub fn upkeep_numbers(a: Upkeep, byte: u32) -> [u32; 8]
     ensures { result ≡ upkeep_numbers a byte }
 {
     match a {
-        Upkeep::Refused(_) => plain(0, 0, 0, 0),
-        Upkeep::Idle => plain(0, 0, 0, 0),
+        Upkeep::Refused(_) | Upkeep::Idle => plain(0, 0, 0, 0),
         Upkeep::Stuck(page) => plain(2, 0, page, 0),
         Upkeep::Make(c) => command_numbers(c, byte),
     }

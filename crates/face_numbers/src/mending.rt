@@ -10,12 +10,7 @@ pub fn refusal_for(a: Mend) -> u32
 {
     match a {
         Mend::Refused(n) => n,
-        Mend::Whole => 0,
-        Mend::Single => 0,
-        Mend::Lost => 0,
-        Mend::Ahead => 0,
-        Mend::Full => 0,
-        Mend::Make(_) => 0,
+        _ => 0,
     }
 }
 
@@ -23,8 +18,7 @@ pub fn mend_numbers(a: Mend, byte: u32) -> [u32; 8]
     ensures { result ≡ mend_numbers a byte }
 {
     match a {
-        Mend::Refused(_) => plain(0, 0, 0, 0),
-        Mend::Whole => plain(0, 0, 0, 0),
+        Mend::Refused(_) | Mend::Whole => plain(0, 0, 0, 0),
         Mend::Single => plain(3, 0, 0, 0),
         Mend::Lost => plain(4, 0, 0, 0),
         Mend::Ahead => plain(5, 0, 0, 0),

@@ -1,18 +1,31 @@
 // What stands in a slot of the log, the notes or the backups.
-ghost use Rattle.std.specs.Prelude.{◌≡◌};
-ghost use Rattle.face.specs.Slots.{standing, record_numbers, stored_note_numbers, backup_numbers};
+ghost use Rattle.std.specs.Prelude.{◌≡◌, cond};
+ghost use Rattle.face.specs.Slots as specs;
+ghost use Rattle.face.specs.Slots.{record_numbers, stored_note_numbers, backup_numbers};
 
 use codec::{field, part};
 use item::{image, note, record};
 use model::geometry::Geometry;
 use sums::checksum;
-use volume::rows;
+
+// What stands in a slot: zeros, an item that passes its check, or neither.
+fn standing(zero: bool, whole: bool) -> u32
+    ensures { result ≡ cond zero 0 (cond whole 1 2) }
+{
+    if zero {
+        0
+    } else if whole {
+        1
+    } else {
+        2
+    }
+}
 
 // What stands in a slot of n bytes and a checksum.
 fn stands(x: &[u8], n: usize) -> u32
-    ensures { result ≡ standing n x.now }
+    ensures { result ≡ specs.standing n x.now }
 {
-    rows::first(part::zero(x), 0, rows::first(checksum::holds(x, n), 1, 2))
+    standing(part::zero(x), checksum::holds(x, n))
 }
 
 pub fn record_numbers(x: &[u8]) -> [u32; 8]
@@ -50,9 +63,8 @@ pub fn note_numbers(x: &[u8]) -> [u32; 8]
 pub fn backup_numbers(g: Geometry, x: &[u8]) -> [u32; 8]
     ensures { result ≡ backup_numbers g x.now }
 {
-    let page = field::u16_at(x, 0) as u32;
-    let valid = image::valid(g, page, x);
-    let whole = ((1 <= page) & (page <= g.pages)) & valid;
-    let stands = rows::first(part::zero(x), 0, rows::first(whole, 1, 2));
-    [stands, page, field::u32_at(x, 4), 0, 0, 0, 0, 0]
+    let page = u32::from(field::u16_at(x, 0));
+    let whole = ((1 <= page) & (page <= g.pages)) & image::valid(g, page, x);
+    let stands = standing(part::zero(x), whole);
+    [stands, page, image::lsn(x), 0, 0, 0, 0, 0]
 }

@@ -7,7 +7,7 @@ use convert::images;
 use model::command::Command;
 use model::geometry::Geometry;
 use model::state::State;
-use volume::{heading, place};
+use volume::{Volume, heading, place};
 
 // Offset and length of a part of the volume.
 #[derive(Clone, Copy)]
@@ -15,6 +15,9 @@ pub struct Range {
     pub at: u32,
     pub size: u32,
 }
+
+// Of a call that stores nothing.
+const NONE: Range = Range { at: 0, size: 0 };
 
 fn cut(at: usize, size: u32) -> Range
     ensures { result ≡ record { at = at % 4294967296; size = size } }
@@ -39,14 +42,12 @@ fn old_range(volume: &[u8], g: Geometry, s: State) -> Range
     requires { g ≡ geometry_of volume.now }
     ensures { result ≡ range_of g (old_target volume.now s) }
 {
-    let none = Range { at: 0, size: 0 };
-    if !heading::valid(volume) {
-        return none;
-    }
-    let index = s.index;
-    let i = images::first_old(volume, g, index);
+    let Ok(v) = Volume::open(volume) else {
+        return NONE;
+    };
+    let i = images::first_old(&v, s.index);
     if g.pages + g.slots <= i {
-        return none;
+        return NONE;
     }
     cut(images::image_at(g, i), 256)
 }
@@ -56,16 +57,12 @@ pub fn aim(volume: &[u8], s: State, command: Command) -> Range
     ensures { (p : List ℕ)
         → result ≡ range_of (geometry_of volume.now) (target (command, p) volume.now s) }
 {
-    let none = Range { at: 0, size: 0 };
     let g = heading::geometry(volume);
     match command {
-        Command::Begin {
-            page: _,
-            frame: _,
-            fill: _,
-        } => none,
-        Command::Load { page: _, frame: _ } => none,
-        Command::Change { page: _, change: _ } => none,
+        Command::Begin { .. }
+        | Command::Load { .. }
+        | Command::Change { .. }
+        | Command::Release { .. } => NONE,
         Command::Force => {
             let before = 64 * turned(s.durable, g.records);
             cut(
@@ -74,8 +71,7 @@ pub fn aim(volume: &[u8], s: State, command: Command) -> Range
             )
         }
         Command::Write { page } => cut(place::page_at(g, page), 256),
-        Command::Backup { page: _, slot } => cut(place::slot_at(g, slot), 256),
-        Command::Release { page: _ } => none,
+        Command::Backup { slot, .. } => cut(place::slot_at(g, slot), 256),
         Command::Note => {
             let before = 16 * turned(s.notes, g.notes);
             let records = 64 * (g.records as usize);
@@ -84,8 +80,7 @@ pub fn aim(volume: &[u8], s: State, command: Command) -> Range
                 16,
             )
         }
-        Command::StartCarry => Range { at: 0, size: 4 },
+        Command::StartCarry | Command::FinishCarry => Range { at: 0, size: 4 },
         Command::Restamp => old_range(volume, g, s),
-        Command::FinishCarry => Range { at: 0, size: 4 },
     }
 }

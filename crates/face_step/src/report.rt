@@ -1,6 +1,6 @@
 // What a call tells: its answer as a number, and a report of five numbers.
 ghost use Rattle.std.specs.Prelude.{◌≡◌, length};
-ghost use Rattle.face_step.specs.Targets.{is_refused, told, told_numbers};
+ghost use Rattle.face_step.specs.Targets.{told, told_numbers};
 ghost use Rattle.face.specs.Face.{answer_number};
 
 use crate::range::Range;
@@ -14,19 +14,7 @@ pub fn number(a: Answer) -> u32
     match a {
         Answer::Refused(n) => n,
         Answer::Nothing => 256,
-        Answer::Done => 0,
-        Answer::Repaired(_) => 0,
-    }
-}
-
-fn refused(a: Answer) -> bool
-    ensures { result ≡ is_refused a }
-{
-    match a {
-        Answer::Refused(_) => true,
-        Answer::Nothing => false,
-        Answer::Done => false,
-        Answer::Repaired(_) => false,
+        Answer::Done | Answer::Repaired(_) => 0,
     }
 }
 
@@ -34,15 +22,12 @@ fn told_numbers(a: Answer, x: Range) -> [u32; 5]
     ensures { result ≡ told_numbers a x }
 {
     match a {
-        Answer::Refused(_) => [0, 0, 0, 0, 0],
-        Answer::Nothing => [0, 0, 0, 0, 0],
+        Answer::Refused(_) | Answer::Nothing => [0; 5],
         Answer::Done => [0, 0, 0, x.at, x.size],
         Answer::Repaired(r) => {
-            let c = r.class;
-            let s = r.start;
             [
-                examine::class_number(c),
-                examine::start_number(s),
+                examine::class_number(r.class),
+                examine::start_number(r.start),
                 r.count,
                 0,
                 0,
@@ -56,9 +41,8 @@ pub fn tell(a: Answer, x: Range, report: &mut [u32])
     requires { length report.old ≡ 5 }
     ensures { report.new ≡ told a x report.old }
 {
-    if refused(a) {
+    if matches!(a, Answer::Refused(_)) {
         return;
     }
-    let n = told_numbers(a, x);
-    numbers::copy(report, &n);
+    report.copy_from_slice(&told_numbers(a, x));
 }

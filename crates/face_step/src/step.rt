@@ -5,9 +5,10 @@ ghost use Rattle.face_step.specs.Targets.{own_magic, headed_by};
 ghost use Rattle.face.specs.Face.{faced, face_of};
 
 use crate::{range, report, touched};
+use model::answer::Refusal;
 use model::command::Command;
 use store::Store;
-use volume::{heading, rows};
+use volume::heading;
 
 // In place of a heading: the call takes a volume with any of them.
 pub const ANY: [u8; 4] = [0, 0, 0, 0];
@@ -38,22 +39,17 @@ pub fn step(
         report.old }
 {
     if !headed(volume, own) {
-        return 1;
+        return u32::from(Refusal::BadVolume);
     }
     if !numbers::fits(state) | (report.len() != 5) {
-        let valid = heading::valid(volume);
-        return rows::first(!valid, 1, 2);
+        return u32::from(heading::bad_buffer(volume));
     }
     let before = numbers::decode(state);
     let x = range::aim(volume, before, command);
-    let note = before.note;
-    let row = touched::row(memory, before.durable, note, command);
+    let row = touched::row(memory, before.durable, before.note, command);
     let store = Store { state: before };
-    let o = store.perform(volume, memory, command, payload);
-    let a = o.answer;
-    let next = o.store;
-    let after = next.state;
-    numbers::update(after, row, state);
-    report::tell(a, x, report);
-    report::number(a)
+    let returned = store.perform(volume, memory, command, payload);
+    numbers::update(returned.store.state, row, state);
+    report::tell(returned.answer, x, report);
+    report::number(returned.answer)
 }

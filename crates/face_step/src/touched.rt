@@ -6,16 +6,13 @@ ghost use Rattle.log_scan.specs.Rows.{row_of};
 ghost use Rattle.face_step.specs.Targets.{note_page, touched};
 
 use codec::field;
-use model::item::Note;
 use model::command::Command;
+use model::item::Note;
 
 fn note_page(note: Option<Note>) -> u32
     ensures { result ≡ note_page note }
 {
-    match note {
-        None => 0,
-        Some(n) => n.page as u32,
-    }
+    note.map_or(0, |n| u32::from(n.page))
 }
 
 // The page of the oldest pending record.
@@ -23,7 +20,7 @@ fn forced_page(memory: &[u8], durable: u32) -> u32
     ensures { result ≡ field 2 8 (pending_bytes memory.now (durable + 1)) }
 {
     let at = 64 * ((durable % 16) as usize);
-    field::u16_at(memory, at + 8) as u32
+    u32::from(field::u16_at(memory, at + 8))
 }
 
 // The page whose entry the call may change.
@@ -31,21 +28,10 @@ fn page(memory: &[u8], durable: u32, note: Option<Note>, command: Command) -> u3
     ensures { (p : List ℕ) → result ≡ touched (command, p) memory.now durable note }
 {
     match command {
-        Command::Begin {
-            page,
-            frame: _,
-            fill: _,
-        } => page,
-        Command::Load { page: _, frame: _ } => 0,
-        Command::Change { page, change: _ } => page,
+        Command::Begin { page, .. } | Command::Change { page, .. } => page,
         Command::Force => forced_page(memory, durable),
-        Command::Write { page: _ } => 0,
-        Command::Backup { page: _, slot: _ } => 0,
-        Command::Release { page: _ } => 0,
         Command::Note => note_page(note),
-        Command::StartCarry => 0,
-        Command::Restamp => 0,
-        Command::FinishCarry => 0,
+        _ => 0,
     }
 }
 

@@ -39,3 +39,4 @@ pub mod Settled
 pub mod Restarted
 pub mod Precedence
 pub mod Carrying
+pub mod Refused

@@ -5,7 +5,7 @@ ghost use Rattle.std.specs.Prelude.{◌≡◌, ◌∷◌, ◌<◌, length, get_o
 ghost use Rattle.model.specs.Tables.{every};
 ghost use Rattle.model.specs.Index.{empty_entry};
 ghost use Rattle.model.specs.declared.state.State as states;
-ghost use Rattle.face.specs.Numbers.{bit_of, note_numbers, frame_numbers, entry_numbers, numbers_of};
+ghost use Rattle.face.specs.Numbers.{note_numbers, frame_numbers, entry_numbers, numbers_of};
 ghost use Rattle.face.specs.Numbers.{note_from, frame_from, entry_from, frames_of, entries_of, state_of};
 ghost use Rattle.face.specs.Numbers.{note_held, frame_held, entry_held, fits};
 
@@ -57,11 +57,9 @@ fn frames_of(xs: &[u32]) -> [Frame; 16]
         page: 0,
         dirty: false,
     }; 16];
-    let mut i: usize = 0;
-    while i < 16 {
+    for i in 0..16 {
         let k = 2 * i;
         table[i] = frame_from(xs[k], xs[k + 1]);
-        i += 1;
     }
     table
 }
@@ -71,11 +69,9 @@ fn entries_of(xs: &[u32]) -> [Entry; 64]
     ensures { result ≡ entries_of xs.now }
 {
     let mut index = [entries::EMPTY; 64];
-    let mut i: usize = 0;
-    while i < 64 {
+    for i in 0..64 {
         let k = 5 * i;
         index[i] = entry_from(xs[k], xs[k + 1], xs[k + 2], xs[k + 3], xs[k + 4]);
-        i += 1;
     }
     index
 }
@@ -96,12 +92,6 @@ pub fn decode(xs: &[u32]) -> State
         frames,
         index,
     }
-}
-
-fn bit(b: bool) -> u32
-    ensures { result ≡ bit_of b }
-{
-    if b { 1 } else { 0 }
 }
 
 // The eight numbers in front.
@@ -125,29 +115,15 @@ fn head(durable: u32, pending: u32, notes: u32, p: Option<Note>) -> [u32; 8]
     }
 }
 
-// Copies numbers over others.
-pub fn copy(dst: &mut [u32], src: &[u32])
-    requires { length dst.old ≡ length src.now }
-    ensures { dst.new ≡ src.now }
-{
-    let mut i: usize = 0;
-    while i < src.len() {
-        dst[i] = src[i];
-        i += 1;
-    }
-}
-
 fn put_frames(table: [Frame; 16], out: &mut [u32])
     requires { length out.old ≡ 32 }
     ensures { out.new ≡ frame_numbers table }
 {
-    let mut i: usize = 0;
-    while i < 16 {
+    for i in 0..16 {
         let f = table[i];
         let k = 2 * i;
         out[k] = f.page as u32;
-        out[k + 1] = bit(f.dirty);
-        i += 1;
+        out[k + 1] = u32::from(f.dirty);
     }
 }
 
@@ -155,8 +131,7 @@ fn put_entries(index: [Entry; 64], out: &mut [u32])
     requires { length out.old ≡ 320 }
     ensures { out.new ≡ entry_numbers index }
 {
-    let mut i: usize = 0;
-    while i < 64 {
+    for i in 0..64 {
         let e = index[i];
         let k = 5 * i;
         out[k] = e.last;
@@ -164,7 +139,6 @@ fn put_entries(index: [Entry; 64], out: &mut [u32])
         out[k + 2] = e.written;
         out[k + 3] = e.slot as u32;
         out[k + 4] = e.backup;
-        i += 1;
     }
 }
 
@@ -175,7 +149,7 @@ pub fn encode(s: State, out: &mut [u32])
 {
     let p = s.note;
     let front = head(s.durable, s.pending, s.notes, p);
-    copy(&mut out[0..8], &front);
+    out[0..8].copy_from_slice(&front);
     let frames = s.frames;
     put_frames(frames, &mut out[8..40]);
     let index = s.index;
@@ -195,9 +169,9 @@ pub fn update(s: State, row: usize, out: &mut [u32])
     let slot = e.slot as u32;
     let n = [e.last, e.durable, e.written, slot, e.backup];
     let k = 40 + 5 * row;
-    copy(&mut out[0..8], &front);
+    out[0..8].copy_from_slice(&front);
     put_frames(frames, &mut out[8..40]);
-    copy(&mut out[k..k + 5], &n);
+    out[k..k + 5].copy_from_slice(&n);
 }
 
 // The pending note's numbers are within their fields.
@@ -215,11 +189,9 @@ fn frames_fit(xs: &[u32]) -> bool
     ensures { result ≡ every 16 (frame_held xs.now) }
 {
     let mut held = true;
-    let mut i: usize = 0;
-    while i < 16 {
+    for i in 0..16 {
         let k = 2 * i;
-        held = held & ((xs[k] <= 65535) & (xs[k + 1] <= 1));
-        i += 1;
+        held &= (xs[k] <= 65535) & (xs[k + 1] <= 1);
     }
     held
 }
@@ -229,11 +201,9 @@ fn entries_fit(xs: &[u32]) -> bool
     ensures { result ≡ every 64 (entry_held xs.now) }
 {
     let mut held = true;
-    let mut i: usize = 0;
-    while i < 64 {
+    for i in 0..64 {
         let k = 5 * i;
-        held = held & (xs[k + 3] <= 255);
-        i += 1;
+        held &= xs[k + 3] <= 255;
     }
     held
 }

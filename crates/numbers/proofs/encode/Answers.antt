@@ -12,7 +12,7 @@ returns c =
     let f = c.put_frames in
     let h = c.head-front in
     let t = c.args.s in
-    let ea = c.copy.ensures ∙ h.ensures in
-    covered c.args.out.now c.copy.new.dst f.new.out e.new.out c.requires
+    let ea = c.copy_from_slice.ensures.after ∙ h.ensures in
+    covered c.args.out.now c.copy_from_slice.new.self f.new.out e.new.out c.requires
     (ap length ea ∙ head-long t.durable t.pending t.notes t.note) (search rules)
     ∙ rw (ea, f.ensures, e.ensures)

@@ -7,16 +7,16 @@ use Rattle.numbers.proofs.FitLaws.{every-next}
 use Rattle.numbers.proofs.entries_fit.Goals as goal
 
 pub loop-i-init : goal.loop-i-init
-loop-i-init c = (omega arith, sym (every-none _))
+loop-i-init c = sym (every-none _)
 
 pub loop-i-preserved : goal.loop-i-preserved
 loop-i-preserved c =
     let l = c.loop-i in
     let xs = c.args.xs.now in
-    (omega (arith, c.loop-i-test.true), every-next (entry_held xs) l.i l.held l.invariant.1)
+    (every-next (entry_held xs) l.i l.held l.invariant)
 
 pub returns : goal.returns
 returns c =
     let l = c.loop-i in
-    let e : l.i ≡ 64 = omega (arith, l.invariant.0, c.loop-i-test.false) in
-    l.invariant.1 ∙ rw e
+    let e : l.i ≡ 64 = omega (arith, c.loop-i-test.false) in
+    l.invariant ∙ rw e

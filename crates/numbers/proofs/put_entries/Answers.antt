@@ -32,10 +32,9 @@ loop-i-preserved c =
     let es = c.args.index in
     let t = entry-told es l.i in
     let n = entries-long es in (
-      omega (arith, c.loop-i-test.true),
-      simp length-set l.invariant.1,
-      five l.out (entry_numbers es) (5 * l.i) (5 * (l.i + 1)) _ _ _ _ _ (omega arith) (omega (arith, l.invariant.1, c.loop-i-test.true))
-          (omega (arith, l.invariant.1, n, long (goal.at.loop-i-preserved c).Start)) l.invariant.2 (sym t.last) (sym t.durable) (sym t.written) (sym t.slot)
+      simp length-set l.invariant.0,
+      five l.out (entry_numbers es) (5 * l.i) (5 * (l.i + 1)) _ _ _ _ _ (omega arith) (omega (arith, l.invariant.0, c.loop-i-test.true))
+          (omega (arith, l.invariant.0, n, long (goal.at.loop-i-preserved c).Start)) l.invariant.1 (sym t.last) (sym t.durable) (sym t.written) (sym t.slot)
           (sym t.backup),
     )
 
@@ -43,5 +42,5 @@ pub returns : goal.returns
 returns c =
     let l = c.loop-i in
     let es = c.args.index in
-    whole l.out (entry_numbers es) (5 * l.i) (omega (arith, l.invariant.1, c.loop-i-test.false))
-    (omega (arith, l.invariant.1, entries-long es, long (goal.at.returns c).Start)) l.invariant.2
+    whole l.out (entry_numbers es) (5 * l.i) (omega (arith, l.invariant.0, c.loop-i-test.false))
+    (omega (arith, l.invariant.0, entries-long es, long (goal.at.returns c).Start)) l.invariant.1

@@ -22,16 +22,15 @@ loop-i-preserved c =
     let l = c.loop-i in
     let fs = c.args.table in
     let n = frames-long fs in (
-      omega (arith, c.loop-i-test.true),
-      simp length-set l.invariant.1,
-      two l.out (frame_numbers fs) (2 * l.i) (2 * (l.i + 1)) _ _ (omega arith) (omega (arith, l.invariant.1, c.loop-i-test.true))
-          (omega (arith, l.invariant.1, n, long (goal.at.loop-i-preserved c).Start)) l.invariant.2 (sym (frame-page fs l.i))
-          (c.bit.ensures ∙ sym (frame-dirty fs l.i)),
+      simp length-set l.invariant.0,
+      two l.out (frame_numbers fs) (2 * l.i) (2 * (l.i + 1)) _ _ (omega arith) (omega (arith, l.invariant.0, c.loop-i-test.true))
+          (omega (arith, l.invariant.0, n, long (goal.at.loop-i-preserved c).Start)) l.invariant.1 (sym (frame-page fs l.i))
+          (c.from.ensures ∙ sym (frame-dirty fs l.i)),
     )
 
 pub returns : goal.returns
 returns c =
     let l = c.loop-i in
     let fs = c.args.table in
-    whole l.out (frame_numbers fs) (2 * l.i) (omega (arith, l.invariant.1, c.loop-i-test.false))
-    (omega (arith, l.invariant.1, frames-long fs, long (goal.at.returns c).Start)) l.invariant.2
+    whole l.out (frame_numbers fs) (2 * l.i) (omega (arith, l.invariant.0, c.loop-i-test.false))
+    (omega (arith, l.invariant.0, frames-long fs, long (goal.at.returns c).Start)) l.invariant.1

@@ -1,5 +1,5 @@
 -- `face_step::step::step` meets its contract.
-use mathlib.Core.Path.{◌≡◌, ap}
+use mathlib.Core.Path.{◌≡◌, refl, ap, ◌∙◌}
 use lib.ListN.{length}
 use Rattle.numbers.proofs.FitLaws.{long}
 use Rattle.face_step.proofs.FaceLaws.{unlike-headed, unfit, sized, fitting, fit}
@@ -25,17 +25,19 @@ pub returns-then-not-headed : goal.returns-then-not-headed
 returns-then-not-headed c =
     let a = c.args in
     let h = c.headed in
+    rw c.from.ensures (
     unlike-headed (a.command, a.payload) a.volume.now a.memory.now a.state.now a.report.now a.own h.result c.requires
     h.ensures c.if-not-headed.true
+    )
 
 pub returns-then-fits-report : goal.returns-then-fits-report
 returns-then-fits-report c =
     let f = c.fits in
     let h = c.headed in
     let a = c.args in
-    let w = c.valid-valid in
     unfit (a.command, a.payload) a.volume.now a.memory.now a.state.now a.report.now f.result f.ensures a.own
-    h.result w.result c.first.result c.if-fits-report.true c.requires h.ensures c.if-not-headed.false w.ensures c.first.ensures
+    h.result _ c.from-then-fits-report.result c.if-fits-report.true c.requires h.ensures c.if-not-headed.false refl
+    (c.from-then-fits-report.ensures ∙ c.bad_buffer.ensures)
 
 pub decode-before-requires : goal.decode-before-requires
 decode-before-requires c = whole c
@@ -49,7 +51,7 @@ tell-requires c = right (goal.at.tell-requires c).Else-fits-report
 pub returns : goal.returns
 returns c =
     let u = c.update in
-    let o = c.perform-o in
+    let o = c.perform-returned in
     let r = c.row-row in
     let x = c.aim-x in
     let d = c.decode-before in

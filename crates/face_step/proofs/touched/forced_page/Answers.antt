@@ -6,4 +6,4 @@ use Rattle.face_step.proofs.touched.forced_page.Goals as goal
 pub returns : goal.returns
 returns c =
     let a = c.args in
-    c.u16_at.ensures ∙ forced-page a.memory.now a.durable _ refl
+    c.from.ensures ∙ c.u16_at.ensures ∙ forced-page a.memory.now a.durable _ refl
