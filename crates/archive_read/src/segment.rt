@@ -6,7 +6,7 @@ ghost use Rattle.reports.specs.Archive.{last_number_in, segment_fits, segment_im
 
 use codec::field;
 use item::{image, record};
-use sums::checksum;
+use sums::{check::Check, checksum::WordSum};
 use volume::place;
 
 // A record may stand in the page's segment behind the number `last`; 0 is none.
@@ -19,7 +19,7 @@ fn follows(r: &[u8], page: u32, last: u32) -> bool
     let prev = e.prev;
     let owner = u32::from(e.page);
     let linked = (prev == last) & ((e.kind == 1) | (1 <= prev));
-    checksum::holds(r, 60) & (record::layout(r) & ((owner == page) & (linked & (last < number))))
+    WordSum::holds(r, 60) & (record::layout(r) & ((owner == page) & (linked & (last < number))))
 }
 
 // The page's segment at a place is valid: each record may stand behind the one before.

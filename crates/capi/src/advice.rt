@@ -1,9 +1,36 @@
 // What upkeep says, as numbers. `include/pagestore.h` declares it.
-ghost use Rattle.std.specs.Prelude.{◌≡◌};
+ghost use Rattle.std.specs.Prelude.{◌≡◌, IfOk, length};
 ghost use Rattle.face.specs.Advice.{upkeep_face};
+ghost use Rattle.face.specs.Found.{Gives};
 
+use crate::found;
 use face_numbers::advice::{refusal_in, upkeep_numbers};
-use volume::{heading, rows};
+use model::answer::Refusal;
+use volume::heading;
+
+fn advice(
+    volume: &[u8],
+    memory: &[u8],
+    state: &[u32],
+    frame: u32,
+    old: &[u32],
+) -> Result<[u32; 8], u32>
+    ensures found { Gives result old.now (upkeep_face volume.now memory.now state.now frame old.now) }
+    ensures long { IfOk result (λ _. length old.now ≡ 8) }
+{
+    if !heading::known(volume) {
+        return Err(u32::from(Refusal::BadVolume));
+    }
+    if !numbers::fits(state) | (old.len() != 8) {
+        return Err(u32::from(heading::bad_buffer(volume)));
+    }
+    let a = upkeep::advise(numbers::decode(state), volume, memory, frame);
+    let no = refusal_in(a.upkeep);
+    if no != 0 {
+        return Err(no);
+    }
+    Ok(upkeep_numbers(a.upkeep, u32::from(a.payload[0])))
+}
 
 // Which call to make next, or that there is nothing to do, or the page that upkeep is stuck at: 0 or the refusal.
 // Ruled out: a stuck page told as a call (tried); a refusal that wrote to the report; length and offset exchanged.
@@ -21,22 +48,5 @@ pub fn pagestore_upkeep(
         ≡ (upkeep_face volume.now memory.now state.now frame report.old
         ).numbers }
 {
-    if !heading::known(volume) {
-        return 1;
-    }
-    if !numbers::fits(state) | (report.len() != 8) {
-        let valid = heading::valid(volume);
-        return rows::first(!valid, 1, 2);
-    }
-    let s = numbers::decode(state);
-    let a = upkeep::advise(s, volume, memory, frame);
-    let payload = a.payload;
-    let said = a.upkeep;
-    let no = refusal_in(said);
-    if no != 0 {
-        return no;
-    }
-    let n = upkeep_numbers(said, payload[0] as u32);
-    numbers::copy(report, &n);
-    0
+    found::put(advice(volume, memory, state, frame, report), report)
 }

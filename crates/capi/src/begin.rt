@@ -1,11 +1,13 @@
 // Begin for C: a fill that is no byte is judged in its place.
 ghost use Rattle.std.specs.Prelude.{◌≡◌, List, ℕ, length};
+ghost use Rattle.model.specs.Refused.{refusal_number};
 ghost use Rattle.face.specs.Face.{faced};
 ghost use Rattle.face.specs.Arguments.{misfilled_of, begin_face};
 
 use face_step::step;
+use model::answer::Refusal;
 use model::command::Command;
-use volume::{heading, memory, rows};
+use volume::{heading, memory};
 
 // The refusal of a Begin whose fill is above 255; size is the memory's, numbers the report's.
 fn misfilled(
@@ -15,27 +17,27 @@ fn misfilled(
     numbers: usize,
     page: u32,
     frame: u32,
-) -> u32
+) -> Refusal
     ensures { (m report : List ℕ) → length m ≡ size → length report ≡ numbers
-        → result ≡ misfilled_of page frame volume.now m state.now report }
+        → refusal_number result ≡ misfilled_of page frame volume.now m state.now report }
 {
     if !heading::known(volume) {
-        return 1;
+        return Refusal::BadVolume;
     }
     if !numbers::fits(state) | (numbers != 5) {
-        let valid = heading::valid(volume);
-        return rows::first(!valid, 1, 2);
+        return heading::bad_buffer(volume);
     }
     let s = numbers::decode(state);
-    let no = state::refusal::refusal(s, volume, size);
-    if no != 0 {
-        return no;
+    if let Err(refusal) = state::refusal::refusal(s, volume, size) {
+        return refusal;
     }
-    let g = heading::geometry(volume);
-    let count = memory::frames(size);
-    let inside = (1 <= page) & (page <= g.pages);
-    let there = (1 <= frame) & (frame as usize <= count);
-    rows::first(!inside, 3, rows::first(!there, 4, 6))
+    if (page == 0) | (heading::geometry(volume).pages < page) {
+        return Refusal::NoSuchPage;
+    }
+    if (frame == 0) | (memory::frames(size) < frame as usize) {
+        return Refusal::NoSuchFrame;
+    }
+    Refusal::BadChange
 }
 
 pub fn pagestore_begin(
@@ -56,5 +58,6 @@ pub fn pagestore_begin(
         let command = Command::Begin { page, frame, fill };
         return step::step(volume, memory, state, command, [0u8; 44], step::ANY, report);
     }
-    misfilled(volume, memory.len(), state, report.len(), page, frame)
+    let refusal = misfilled(volume, memory.len(), state, report.len(), page, frame);
+    u32::from(refusal)
 }

@@ -48,10 +48,8 @@ fn payload_from(xs: &[u8]) -> [u8; 44]
     ensures { result ≡ payload_from xs.now }
 {
     let mut bytes = [0u8; 44];
-    let mut i: usize = 0;
-    while i < 44 {
+    for i in 0..44 {
         bytes[i] = field::byte(xs, i);
-        i += 1;
     }
     bytes
 }

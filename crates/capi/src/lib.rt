@@ -7,6 +7,7 @@ pub mod begin;
 pub mod calls;
 pub mod change;
 pub mod failing;
+mod found;
 pub mod mending;
 pub mod readers;
 pub mod slots;

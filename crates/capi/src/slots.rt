@@ -1,19 +1,72 @@
 // What a volume's heading says, and what stands in a slot of its log, its notes or its backups, as numbers.
 // `include/pagestore.h` declares them.
-ghost use Rattle.std.specs.Prelude.{◌≡◌, cond, not, ◌+◌, ◌≤◌, length};
+ghost use Rattle.std.specs.Prelude.{◌≡◌, cond, not, ◌+◌, ◌≤◌, IfOk, length};
 ghost use Rattle.model.specs.Geometry.{valid_volume};
+ghost use Rattle.model.specs.Refused.{error_number};
 ghost use Rattle.face.specs.Slots.{counts_of, record_slot_of, note_slot_of, backup_slot_of};
+ghost use Rattle.face.specs.Found.{Gives};
 
+use crate::found;
 use face_numbers::slots::{backup_numbers, note_numbers, record_numbers};
-use volume::{heading, place, rows};
+use model::answer::Refusal;
+use volume::{Volume, place};
 
-// The refusal: the volume, then the length of the numbers, then the slot.
-fn refusal(volume: &[u8], right: bool, there: bool) -> u32
-    ensures { result
-        ≡ cond (not (valid_volume volume.now)) 1 (cond (not right) 2 (cond (not there) 5 0)) }
+// The volume, where it is one and the numbers have the right length.
+fn opened(volume: &[u8], right: bool) -> Result<Volume<'_>, Refusal>
+    ensures refusal { error_number result ≡ cond (not (valid_volume volume.now)) 1 (cond (not right) 2 0) }
+    ensures bytes { IfOk result (λ v. v.bytes.now ≡ volume.now) }
 {
-    let valid = heading::valid(volume);
-    rows::first(!valid, 1, rows::first(!right, 2, rows::first(!there, 5, 0)))
+    let v = Volume::open(volume)?;
+    if !right {
+        return Err(Refusal::BadBuffer);
+    }
+    Ok(v)
+}
+
+fn counts(volume: &[u8], old: &[u32]) -> Result<[u32; 5], u32>
+    ensures found { Gives result old.now (counts_of volume.now old.now) }
+    ensures long { IfOk result (λ _. length old.now ≡ 5) }
+{
+    let g = opened(volume, old.len() == 5)?.geometry;
+    Ok([u32::from(g.tag), g.pages, g.slots, g.records, g.notes])
+}
+
+fn record(volume: &[u8], slot: u32, old: &[u32]) -> Result<[u32; 8], u32>
+    ensures found { Gives result old.now (record_slot_of volume.now slot old.now) }
+    ensures long { IfOk result (λ _. length old.now ≡ 8) }
+{
+    let v = opened(volume, old.len() == 8)?;
+    let there = (1 <= slot) & (slot <= v.geometry.records);
+    if !there {
+        return Err(u32::from(Refusal::NoSuchSlot));
+    }
+    let at = place::record_at(v.geometry, slot);
+    Ok(record_numbers(place::part(volume, at, 64)))
+}
+
+fn note(volume: &[u8], slot: u32, old: &[u32]) -> Result<[u32; 8], u32>
+    ensures found { Gives result old.now (note_slot_of volume.now slot old.now) }
+    ensures long { IfOk result (λ _. length old.now ≡ 8) }
+{
+    let v = opened(volume, old.len() == 8)?;
+    let there = (1 <= slot) & (slot <= v.geometry.notes);
+    if !there {
+        return Err(u32::from(Refusal::NoSuchSlot));
+    }
+    let at = place::note_at(v.geometry, slot);
+    Ok(note_numbers(place::part(volume, at, 16)))
+}
+
+fn backup(volume: &[u8], slot: u32, old: &[u32]) -> Result<[u32; 8], u32>
+    ensures found { Gives result old.now (backup_slot_of volume.now slot old.now) }
+    ensures long { IfOk result (λ _. length old.now ≡ 8) }
+{
+    let v = opened(volume, old.len() == 8)?;
+    let there = (1 <= slot) & (slot <= v.geometry.slots);
+    if !there {
+        return Err(u32::from(Refusal::NoSuchSlot));
+    }
+    Ok(backup_numbers(v.geometry, v.slot(slot)))
 }
 
 // What a volume's heading says: 0 or the refusal.
@@ -22,14 +75,7 @@ pub fn pagestore_counts(volume: &[u8], counts: &mut [u32]) -> u32
     ensures answer { result ≡ (counts_of volume.now counts.old).refusal }
     ensures counts { counts.new ≡ (counts_of volume.now counts.old).numbers }
 {
-    let no = refusal(volume, counts.len() == 5, true);
-    if no != 0 {
-        return no;
-    }
-    let g = heading::geometry(volume);
-    let n = [g.tag as u32, g.pages, g.slots, g.records, g.notes];
-    numbers::copy(counts, &n);
-    0
+    found::put(self::counts(volume, counts), counts)
 }
 
 // What stands in a slot of the log: 0 or the refusal.
@@ -38,18 +84,7 @@ pub fn pagestore_record(volume: &[u8], slot: u32, fields: &mut [u32]) -> u32
     ensures fields { fields.new
         ≡ (record_slot_of volume.now slot fields.old).numbers }
 {
-    if !heading::known(volume) {
-        return 1;
-    }
-    let g = heading::geometry(volume);
-    let there = (1 <= slot) & (slot <= g.records);
-    let no = refusal(volume, fields.len() == 8, there);
-    if no != 0 {
-        return no;
-    }
-    let n = record_numbers(place::part(volume, place::record_at(g, slot), 64));
-    numbers::copy(fields, &n);
-    0
+    found::put(record(volume, slot, fields), fields)
 }
 
 // What stands in a slot of the notes: 0 or the refusal.
@@ -58,18 +93,7 @@ pub fn pagestore_note_at(volume: &[u8], slot: u32, fields: &mut [u32]) -> u32
     ensures fields { fields.new
         ≡ (note_slot_of volume.now slot fields.old).numbers }
 {
-    if !heading::known(volume) {
-        return 1;
-    }
-    let g = heading::geometry(volume);
-    let there = (1 <= slot) & (slot <= g.notes);
-    let no = refusal(volume, fields.len() == 8, there);
-    if no != 0 {
-        return no;
-    }
-    let n = note_numbers(place::part(volume, place::note_at(g, slot), 16));
-    numbers::copy(fields, &n);
-    0
+    found::put(note(volume, slot, fields), fields)
 }
 
 // What stands in a backup slot: 0 or the refusal.
@@ -78,16 +102,5 @@ pub fn pagestore_slot(volume: &[u8], slot: u32, fields: &mut [u32]) -> u32
     ensures fields { fields.new
         ≡ (backup_slot_of volume.now slot fields.old).numbers }
 {
-    if !heading::known(volume) {
-        return 1;
-    }
-    let g = heading::geometry(volume);
-    let there = (1 <= slot) & (slot <= g.slots);
-    let no = refusal(volume, fields.len() == 8, there);
-    if no != 0 {
-        return no;
-    }
-    let n = backup_numbers(g, place::part(volume, place::slot_at(g, slot), 256));
-    numbers::copy(fields, &n);
-    0
+    found::put(backup(volume, slot, fields), fields)
 }

@@ -8,9 +8,10 @@ ghost use Rattle.face.specs.Face.{answer_number, restarted, restarted_of};
 ghost use Rattle.face.specs.Numbers.{numbers_of};
 
 use face_step::report;
+use model::answer::Refusal;
 use state::next;
 use store::Store;
-use volume::{heading, rows};
+use volume::heading;
 
 // The length of a volume with these counts; 0 where Make refuses them.
 pub fn pagestore_size(pages: u32, slots: u32, records: u32, notes: u32) -> u32
@@ -60,16 +61,12 @@ pub fn pagestore_restart(volume: &[u8], memory: &mut [u8], state: &mut [u32]) ->
 {
     if !heading::known(volume) {
         clear(state);
-        return 1;
+        return u32::from(Refusal::BadVolume);
     }
     if state.len() != 360 {
-        let valid = heading::valid(volume);
-        return rows::first(!valid, 1, 2);
+        return u32::from(heading::bad_buffer(volume));
     }
-    let o = Store::restart(volume, memory);
-    let a = o.answer;
-    let next = o.store;
-    let after = next.state;
-    numbers::encode(after, state);
-    report::number(a)
+    let returned = Store::restart(volume, memory);
+    numbers::encode(returned.store.state, state);
+    report::number(returned.answer)
 }

@@ -6,7 +6,7 @@ ghost use Rattle.checklist_steps.specs.Text.{same_between};
 use crate::printed::Printed;
 use codec::{field, part};
 use std::io;
-use sums::byte_sum;
+use sums::{byte_sum::ByteSum, check::Check};
 
 // Where an image's lines stand.
 const LINES: [usize; 5] = [8, 52, 96, 140, 184];
@@ -47,7 +47,7 @@ pub fn show(rt: &impl Print, image: &[u8]) -> io::Result<()> {
 // Shows an image as the disk holds it, unrepaired: its text, and the two things that the store tests.
 pub fn held(rt: &impl Print, image: &[u8]) -> io::Result<()> {
     show(rt, image)?;
-    let sum = if byte_sum::holds(image, 252) {
+    let sum = if ByteSum::holds(image, 252) {
         "right"
     } else {
         "wrong"

@@ -11,7 +11,7 @@ use borrow.Author.Tests.{eq-eqb, ne_eqb, leb-true, leb-false}
 use Rattle.laws.proofs.Tables.{by_cases}
 use Rattle.std.specs.Prelude.{Result, Ok, Err, IfOk}
 use Rattle.reports_laws.proofs.Mirror.{common}
-use Rattle.reports_laws.proofs.Refused.{refusal-some}
+use Rattle.laws.proofs.Refused.{refusal-some}
 use Rattle.model.specs.Tables.{Row, first_of, smaller}
 use Rattle.model.specs.Refused.{refusal_number, error_number}
 use Rattle.model.specs.Geometry.{geometry_of, valid_volume}

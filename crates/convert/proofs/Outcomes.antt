@@ -25,7 +25,7 @@ use Rattle.model.specs.Calls.{start_carry_of, restamp_of, finish_carry_of}
 use Rattle.model.specs.declared.{geometry.Geometry.Geometry, state.State.State, answer.Answer.Answer, answer.Refusal.Refusal}
 use Rattle.model.specs.declared.geometry.Heading.TheVariants.{First, Second}
 use Rattle.model.specs.declared.answer.Answer.TheVariants.{Refused, Nothing, Done}
-use Rattle.convert.proofs.Refused.{refusal-some}
+use Rattle.laws.proofs.Refused.{refusal-some}
 use Rattle.convert.proofs.Rows.{heading_rows}
 use Rattle.convert.proofs.Places.{image-read}
 

@@ -6,7 +6,7 @@ ghost use Rattle.face.specs.Slots.{record_numbers, stored_note_numbers, backup_n
 use codec::{field, part};
 use item::{image, note, record};
 use model::geometry::Geometry;
-use sums::checksum;
+use sums::{check::Check, checksum::WordSum};
 
 // What stands in a slot: zeros, an item that passes its check, or neither.
 fn standing(zero: bool, whole: bool) -> u32
@@ -25,7 +25,7 @@ fn standing(zero: bool, whole: bool) -> u32
 fn stands(x: &[u8], n: usize) -> u32
     ensures { result ≡ specs.standing n x.now }
 {
-    standing(part::zero(x), checksum::holds(x, n))
+    standing(part::zero(x), WordSum::holds(x, n))
 }
 
 pub fn record_numbers(x: &[u8]) -> [u32; 8]

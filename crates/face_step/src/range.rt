@@ -45,11 +45,10 @@ fn old_range(volume: &[u8], g: Geometry, s: State) -> Range
     let Ok(v) = Volume::open(volume) else {
         return NONE;
     };
-    let i = images::first_old(&v, s.index);
-    if g.pages + g.slots <= i {
-        return NONE;
+    match images::first_old(&v, s.index) {
+        Some(i) => cut(images::image_at(g, i), 256),
+        None => NONE,
     }
-    cut(images::image_at(g, i), 256)
 }
 
 // Where the call stores, if it does.

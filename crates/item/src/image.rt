@@ -7,7 +7,7 @@ ghost use Rattle.model.specs.Item.{image_lsn, valid_image, frame_image};
 
 use codec::field;
 use model::geometry::{FIRST_TAG, Geometry, SECOND_TAG};
-use sums::{byte_sum, checksum};
+use sums::{byte_sum::ByteSum, check::Check, checksum::WordSum};
 
 // The log sequence number of the last record in the image.
 pub fn lsn(x: &[u8]) -> u32
@@ -21,12 +21,12 @@ fn sealed(g: Geometry, x: &[u8]) -> bool
     ensures { result ≡ image_sealed g x.now }
 {
     if g.tag == FIRST_TAG {
-        return checksum::holds(x, 252);
+        return WordSum::holds(x, 252);
     }
     if g.tag == SECOND_TAG {
-        return byte_sum::holds(x, 252);
+        return ByteSum::holds(x, 252);
     }
-    checksum::holds(x, 252) | byte_sum::holds(x, 252)
+    WordSum::holds(x, 252) | ByteSum::holds(x, 252)
 }
 
 // The image is valid as the page's: checksum and page number are right, bytes 2 and 3 are zero.
@@ -55,9 +55,9 @@ pub fn seal(x: &mut [u8], g: Geometry)
     ensures { x.new ≡ seal_image g x.old }
 {
     if g.tag == FIRST_TAG {
-        checksum::set(x, 252);
+        WordSum::set(x, 252);
     } else {
-        byte_sum::set(x, 252);
+        ByteSum::set(x, 252);
     }
 }
 

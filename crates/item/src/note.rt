@@ -4,7 +4,7 @@ ghost use Rattle.model.specs.Item.{note_of, note_layout, note_bytes};
 
 use codec::field;
 use model::item::Note;
-use sums::checksum;
+use sums::{check::Check, checksum::WordSum};
 
 // The kinds of note, by the numbers that they are stored with.
 pub const WRITTEN: u8 = 1;
@@ -41,5 +41,5 @@ pub fn encode(dst: &mut [u8], n: Note)
     dst[6] = n.kind;
     dst[7] = n.slot;
     field::put_u32(dst, 8, n.lsn);
-    checksum::set(dst, 12);
+    WordSum::set(dst, 12);
 }

@@ -10,7 +10,7 @@ use crate::change::{self, FORMAT, PUT, SLIDE};
 use codec::{field, part};
 use model::change::Change;
 use model::item::LogRecord;
-use sums::checksum;
+use sums::{check::Check, checksum::WordSum};
 
 // A record has this many bytes of payload.
 const PAYLOAD: usize = 44;
@@ -148,7 +148,7 @@ pub fn encode(dst: &mut [u8], lsn: u32, prev: u32, page: u32, c: Change, payload
     let n = usize::from(e.length);
     fields(dst, e);
     pad(dst, payload, n);
-    checksum::set(dst, 60);
+    WordSum::set(dst, 60);
 }
 
 // The kind's rule and byte 15, by the number in bytes 12 to 15: offset, fill and byte 15. Of a put and a slide one test

@@ -14,7 +14,7 @@ use Rattle.laws.proofs.Places.{valid-facts}
 use Rattle.laws.proofs.Frames.{entry-of}
 use Rattle.laws.proofs.WellFormed.{ready}
 use Rattle.state.proofs.Fits.{refusal-first, refusal-last}
-use Rattle.upkeep.proofs.Refused.{refusal-some}
+use Rattle.laws.proofs.Refused.{refusal-some}
 use Rattle.model.specs.Tables.{Row, first_of, within}
 use Rattle.model.specs.Refused.{refusal_number}
 use Rattle.model.specs.Geometry.{ring, geometry_of}

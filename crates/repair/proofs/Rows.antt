@@ -19,31 +19,3 @@ picked false k j r rest ne e = e
 pub first_then : (l rest : List Row) → Numbered l → first_of (l ++ rest) ≡ cond (eqb (first_of l) 0) (first_of rest) (first_of l)
 first_then [] rest ne = refl
 first_then (r ∷ l) rest ne = picked r.0 r.1 _ (first_of l) (first_of rest) ne.0 (first_then l rest ne.1)
-
--- no refusal's number is 0
-pub refusal-some : (r : Refusal) → refusal_number r ≡ 0 → ⊥
-refusal-some no.BadVolume e = omega arith
-refusal-some no.BadBuffer e = omega arith
-refusal-some no.NoSuchPage e = omega arith
-refusal-some no.NoSuchFrame e = omega arith
-refusal-some no.NoSuchSlot e = omega arith
-refusal-some no.BadChange e = omega arith
-refusal-some no.BlankPage e = omega arith
-refusal-some no.NoFrame e = omega arith
-refusal-some no.PageInUse e = omega arith
-refusal-some no.ChangePending e = omega arith
-refusal-some no.PendingFull e = omega arith
-refusal-some no.LogFull e = omega arith
-refusal-some no.NotePending e = omega arith
-refusal-some no.NotesFull e = omega arith
-refusal-some no.NotDurable e = omega arith
-refusal-some no.SlotInUse e = omega arith
-refusal-some no.BadLog e = omega arith
-refusal-some no.BadNotes e = omega arith
-refusal-some no.BadRecord e = omega arith
-refusal-some no.OldImage e = omega arith
-refusal-some no.BadLength e = omega arith
-refusal-some no.BadArchive e = omega arith
-refusal-some no.PageLost e = omega arith
-refusal-some no.HistoryLost e = omega arith
-refusal-some no.BadRehearsal e = omega arith

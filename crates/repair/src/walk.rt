@@ -11,7 +11,7 @@ use item::{image, record};
 use model::answer::{Class, Stop};
 use model::geometry::Geometry;
 use model::item::LogRecord;
-use sums::checksum;
+use sums::{check::Check, checksum::WordSum};
 use volume::Volume;
 
 // What a walk goes by: the run start, the page, the numbers at which it may stop at the own image and at the backup (0
@@ -87,7 +87,7 @@ fn readable(page: u32, n: u32, r: &[u8; 64]) -> bool
     let e = record::read(r);
     let owner = u32::from(e.page);
     let linked = (e.prev < n) & ((e.kind == 1) | (1 <= e.prev));
-    checksum::holds(r, 60) & ((e.lsn == n) & ((owner == page) & (record::layout(r) & linked)))
+    WordSum::holds(r, 60) & ((e.lsn == n) & ((owner == page) & (record::layout(r) & linked)))
 }
 
 // The walk's step at number n: own image, else the backup, else the record, where the run holds it; where the walk is

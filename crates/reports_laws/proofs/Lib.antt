@@ -1,7 +1,6 @@
 pub mod Scans
 pub mod Forecast
 pub mod ArchiveSegments
-pub mod Refused
 pub mod Archive
 pub mod Area
 pub mod Mirror

@@ -6,7 +6,7 @@ ghost use Rattle.model.specs.State.{record_needed, log_full};
 use item::record;
 use model::state::State;
 use state::entries;
-use sums::checksum;
+use sums::{check::Check, checksum::WordSum};
 use volume::{Volume, ring};
 
 // Record j is not known to be spare: it is pending, or it stands whole in its slot and its page has no noted backup at
@@ -18,7 +18,7 @@ pub fn needed(s: State, v: &Volume<'_>, j: u32) -> bool
     let e = record::read(r);
     let page = u32::from(e.page);
     let x = entries::entry(s, page);
-    let whole = checksum::holds(r, 60);
+    let whole = WordSum::holds(r, 60);
     let inside = (1 <= page) & (page <= v.geometry.pages);
     let spare = inside & ((x.slot != 0) & (j <= x.backup));
     (s.durable < j) | (whole & ((e.lsn == j) & !spare))

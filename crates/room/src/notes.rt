@@ -7,7 +7,7 @@ ghost use Rattle.model.specs.State.{note_whole, note_like, note_needed, notes_fu
 use item::note;
 use model::item::Note;
 use model::state::State;
-use sums::checksum;
+use sums::{check::Check, checksum::WordSum};
 use volume::{Volume, ring};
 
 // The note in the slot of number n.
@@ -25,7 +25,7 @@ pub fn whole(v: &Volume<'_>, n: u32) -> bool
 {
     let r = v.note(n);
     let e = note::read(r);
-    checksum::holds(r, 12) & (e.number == n)
+    WordSum::holds(r, 12) & (e.number == n)
 }
 
 // Note i has the page and the kind of note j.

@@ -18,7 +18,7 @@ use Rattle.reports.specs.Reading as reading
 use Rattle.model.specs.declared.{geometry.Geometry.Geometry, item.LogRecord.LogRecord, item.Note.Note}
 use Rattle.model.specs.declared.{answer.Refusal.Refusal, state.State.State}
 use Rattle.model.specs.Refused.{refusal_number}
-use Rattle.room_report.proofs.Refused.{refusal-some}
+use Rattle.laws.proofs.Refused.{refusal-some}
 use Rattle.index.specs.Scanned.{scan_rows, scan_refusal, scanned_of}
 use Rattle.index.specs.declared.Scanned.{Scanned}
 use Rattle.reports.specs.Room.{after_records, log_full_after, log_page, log_space, after_notes, notes_full_after, note_page, note_space, no_space, room_of}

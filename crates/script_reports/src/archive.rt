@@ -1,13 +1,12 @@
 // The log archive, ops 23 to 25 and 29: its length, its writer into the lent buffer, its reader from the second buffer
 // into the lent one, and the number of its pages.
 use model::answer::Answer;
-use reports::reading::Size;
 use script::session::{Said, Session};
 
 pub fn length(s: &Session<'_>) -> Said {
     match archive_write::length(s.volume.lent()) {
-        Size::Refused(n) => Said::Answer(Answer::Refused(n)),
-        Size::Bytes(n) => Said::Number("LENGTH", n),
+        Err(refusal) => Said::Answer(Answer::from(refusal)),
+        Ok(n) => Said::Number("LENGTH", n),
     }
 }
 

@@ -7,7 +7,7 @@ ghost use Rattle.section.specs.Sweep.{Guessed, closed_of, begun_of};
 
 use crate::Section;
 use codec::field;
-use sums::checksum;
+use sums::{check::Check, checksum::WordSum};
 
 // A slot, counted from 0, and the number that it should hold.
 #[derive(Clone, Copy)]
@@ -51,7 +51,7 @@ impl<'a> Section<'a> {
         requires guessed { Guessed self.now.extent u × (u.first < 4294960000) }
         ensures { Guessed self.now.extent result }
     {
-        if checksum::holds(self.item(u.slot), self.extent.size) {
+        if WordSum::holds(self.item(u.slot), self.extent.size) {
             return u;
         }
         Guess {

@@ -10,7 +10,7 @@ ghost use Rattle.section.specs.Section.{Placed, slot_bytes, highest_at, front_at
 pub mod guess;
 
 use codec::{field, part};
-use sums::checksum;
+use sums::{check::Check, checksum::WordSum};
 use volume::ring;
 
 // Where a section lies: whether it is a ring, where its slots start, an item's bytes before its checksum, and how many
@@ -77,14 +77,14 @@ pub fn whole(item: &[u8], size: usize, slot: u32, front: u32) -> bool
     requires { slot < front → sealed size item.now ≡ true }
     ensures { result ≡ sealed size item.now }
 {
-    slot < front || checksum::holds(item, size)
+    slot < front || WordSum::holds(item, size)
 }
 
 // The number of an item whose checksum is right, else 0.
 fn number(item: &[u8], n: usize) -> u32
     ensures { result ≡ cond (sealed n item.now) (bytes.field 4 0 item.now) 0 }
 {
-    if checksum::holds(item, n) {
+    if WordSum::holds(item, n) {
         field::u32_at(item, 0)
     } else {
         0
@@ -111,7 +111,7 @@ impl<'a> Section<'a> {
         let mut top = 0;
         for slot in 0..s.slots {
             let item = self.item(slot);
-            if !checksum::holds(item, s.size) {
+            if !WordSum::holds(item, s.size) {
                 return Front { slots: slot, top };
             }
             top = top.max(field::u32_at(item, 0));

@@ -80,31 +80,3 @@ refusal-first v m s rows k ek ne =
 pub refusal-last : (v m : List ℕ) (s : State) (rows : List Row) (k rest : ℕ) → k ≡ first_of (state_rows v m s []) → k ≡ 0
     → rest ≡ first_of rows → rest ≡ first_of (state_rows v m s rows)
 refusal-last v m s rows k rest ek z er = sym (when_false k rest (ap not (eq-eqb k 0 z))) ∙ refusal-then v m s rows k rest ek er
-
--- no refusal's number is 0
-pub number-some : (r : Refusal) → refusal_number r ≡ 0 → ⊥
-number-some no.BadVolume = eqb-false 1 0 refl
-number-some no.BadBuffer = eqb-false 2 0 refl
-number-some no.NoSuchPage = eqb-false 3 0 refl
-number-some no.NoSuchFrame = eqb-false 4 0 refl
-number-some no.NoSuchSlot = eqb-false 5 0 refl
-number-some no.BadChange = eqb-false 6 0 refl
-number-some no.BlankPage = eqb-false 7 0 refl
-number-some no.NoFrame = eqb-false 8 0 refl
-number-some no.PageInUse = eqb-false 9 0 refl
-number-some no.ChangePending = eqb-false 10 0 refl
-number-some no.PendingFull = eqb-false 11 0 refl
-number-some no.LogFull = eqb-false 12 0 refl
-number-some no.NotePending = eqb-false 13 0 refl
-number-some no.NotesFull = eqb-false 14 0 refl
-number-some no.NotDurable = eqb-false 15 0 refl
-number-some no.SlotInUse = eqb-false 16 0 refl
-number-some no.BadLog = eqb-false 17 0 refl
-number-some no.BadNotes = eqb-false 18 0 refl
-number-some no.BadRecord = eqb-false 19 0 refl
-number-some no.OldImage = eqb-false 20 0 refl
-number-some no.BadLength = eqb-false 21 0 refl
-number-some no.BadArchive = eqb-false 22 0 refl
-number-some no.PageLost = eqb-false 23 0 refl
-number-some no.HistoryLost = eqb-false 24 0 refl
-number-some no.BadRehearsal = eqb-false 25 0 refl

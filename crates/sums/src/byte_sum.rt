@@ -1,7 +1,7 @@
 // The byte sum of an item, which images have under the second heading: computed, set and compared.
 ghost use Rattle.std.specs.Prelude.{◌≡◌, ◌+◌, ◌≤◌, length, take};
 ghost use Rattle.model.specs.Bytes.{byte_at};
-ghost use Rattle.model.specs.Checksum.{byte_sum, byte_sum_from, with_sum, sum_holds};
+ghost use Rattle.model.specs.Checksum.{byte_sum, byte_sum_from};
 ghost use Rattle.std.proofs.Common.{rules};
 ghost use Rattle.sums.specs.Terms.{byte-next, byte-end};
 
@@ -50,18 +50,4 @@ impl Check for ByteSum {
     fn sum(s: &[u8]) -> u32 {
         sum(s)
     }
-}
-
-// As `Check` has it.
-pub fn set(item: &mut [u8], n: usize)
-    requires { n + 4 ≡ length item.old }
-    ensures { item.new ≡ with_sum byte_sum (take n item.old) }
-{
-    ByteSum::set(item, n)
-}
-
-pub fn holds(item: &[u8], n: usize) -> bool
-    ensures { result ≡ sum_holds byte_sum n item.now }
-{
-    ByteSum::holds(item, n)
 }

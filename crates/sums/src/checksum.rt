@@ -1,7 +1,7 @@
 // The checksum of an item, over words: computed, set and compared.
 ghost use Rattle.std.specs.Prelude.{◌≡◌, ◌+◌, ◌≤◌, length};
 ghost use Rattle.model.specs.Bytes.{field};
-ghost use Rattle.model.specs.Checksum.{checksum, checksum_from, seal, sealed};
+ghost use Rattle.model.specs.Checksum.{checksum, checksum_from};
 ghost use Rattle.std.proofs.Common.{rules};
 ghost use Rattle.sums.specs.Sums.{Summed, Headed};
 ghost use Rattle.sums.specs.Terms.{word-next, word-end};
@@ -88,18 +88,4 @@ impl Check for WordSum {
     fn sum(s: &[u8]) -> u32 {
         sum(s)
     }
-}
-
-// As `Check` has it.
-pub fn set(item: &mut [u8], n: usize)
-    requires { n + 4 ≡ length item.old }
-    ensures { item.new ≡ seal n item.old }
-{
-    WordSum::set(item, n)
-}
-
-pub fn holds(item: &[u8], n: usize) -> bool
-    ensures { result ≡ sealed n item.now }
-{
-    WordSum::holds(item, n)
 }

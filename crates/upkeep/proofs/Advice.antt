@@ -11,7 +11,7 @@ use Rattle.laws.proofs.Tables.{when_true, when_false}
 use Rattle.laws.proofs.Parts.{part_at}
 use Rattle.laws.proofs.WellFormed.{ready}
 use Rattle.state.proofs.Fits.{refusal-first, refusal-last}
-use Rattle.upkeep.proofs.Refused.{refusal-some}
+use Rattle.laws.proofs.Refused.{refusal-some}
 use Rattle.model.specs.Tables.{Row, first_of, within}
 use Rattle.model.specs.Refused.{refusal_number}
 use Rattle.model.specs.Bytes.{byte_at}

@@ -1,5 +1,4 @@
 -- Laws that belong to no one function.
-pub mod Refused
 pub mod Search
 pub mod LogPositions
 pub mod NotePass

@@ -11,7 +11,7 @@ use item::note;
 use model::item::Note;
 use model::state::State;
 use room::notes;
-use sums::checksum;
+use sums::{check::Check, checksum::WordSum};
 use volume::{Volume, place, ring};
 
 // Whether the note is needed that the next one displaces, and the one that the note after that displaces: each may be
@@ -61,7 +61,7 @@ fn only(v: &Volume<'_>, k: u32) -> Oldest
 {
     let r = v.note(1);
     let e = note::read(r);
-    let whole = checksum::holds(r, 12);
+    let whole = WordSum::holds(r, 12);
     Oldest {
         first: whole & (e.number == k),
         second: whole & (u64::from(e.number) == u64::from(k) + 1),

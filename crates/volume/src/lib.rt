@@ -10,7 +10,6 @@ pub mod make;
 pub mod memory;
 pub mod place;
 pub mod ring;
-pub mod rows;
 
 use model::answer::Refusal;
 use model::geometry::Geometry;

@@ -2,7 +2,7 @@
 use mathlib.Core.Path.{refl, sym, ◌∙◌}
 use borrow.Author.Rules.{rules}
 use Rattle.std.proofs.lemmas.Result.{err_from_is_err_and}
-use Rattle.reports_laws.proofs.Refused.{refusal-some}
+use Rattle.laws.proofs.Refused.{refusal-some}
 use Rattle.archive_read.proofs.Outcomes.{none-area, none-archive, number_is, refused-area, done-area}
 use Rattle.archive_read.proofs.fill.Goals as goal
 

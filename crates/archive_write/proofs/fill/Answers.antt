@@ -1,6 +1,6 @@
 -- `archive_write::fill` meets its contract: the laws of Outcomes say what each case is.
 use Rattle.std.proofs.lemmas.Result.{err_from_is_err_and}
-use Rattle.reports_laws.proofs.Refused.{refusal-some}
+use Rattle.laws.proofs.Refused.{refusal-some}
 use Rattle.archive_write.proofs.Outcomes.{whole, write-refused, write-other, write-ready, write_done}
 use Rattle.archive_write.proofs.fill.Goals as goal
 

@@ -2,7 +2,7 @@
 use mathlib.Core.Path.{◌≡◌, sym, ◌∙◌}
 use native.Mathlib.Omega.{arith}
 use Rattle.std.proofs.lemmas.Result.{err_from_is_err_and}
-use Rattle.reports_laws.proofs.Refused.{refusal-some}
+use Rattle.laws.proofs.Refused.{refusal-some}
 use Rattle.archive_write.specs.Extent.{whole_refusal}
 use Rattle.archive_write.proofs.Fronts.{pages-few}
 use Rattle.archive_write.proofs.Outcomes.{scan-refused, scan-clean, whole, durable-few}

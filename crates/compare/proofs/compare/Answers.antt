@@ -1,6 +1,6 @@
 -- `compare::compare` is its definition.
 use mathlib.Core.Path.{sym, ◌∙◌}
-use Rattle.reports_laws.proofs.Refused.{refusal-some}
+use Rattle.laws.proofs.Refused.{refusal-some}
 use Rattle.compare.proofs.Outcomes.{refused}
 use Rattle.compare.proofs.compare.Goals as goal
 

@@ -1,6 +1,6 @@
 -- `compare::opened`: row 1, and behind it what `judged` gives.
 use Rattle.std.proofs.lemmas.Result.{err_from_is_err_and}
-use Rattle.reports_laws.proofs.Refused.{refusal-some}
+use Rattle.laws.proofs.Refused.{refusal-some}
 use Rattle.compare.proofs.Outcomes.{first-unopened, second-unopened}
 use Rattle.compare.proofs.opened.Goals as goal
 

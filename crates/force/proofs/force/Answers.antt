@@ -5,14 +5,14 @@ use mathlib.Core.List.{[]}
 use native.Mathlib.Omega.{arith}
 use Rattle.model.specs.Tables.{first_of}
 use Rattle.model.specs.Refusals.{state_rows}
-use Rattle.state.proofs.Fits.{number-some}
+use Rattle.laws.proofs.Refused.{refusal-some}
 use Rattle.force.proofs.Outcomes.{force-refused, force-idle, Room, room, lent_fits, finish}
 use Rattle.force.proofs.force.Goals.{After-geometry-g}
 use Rattle.force.proofs.force.Goals as goal
 
 pub returns-in-Err : goal.returns-in-Err
 returns-in-Err c =
-    let k = force-refused _ _ _ _ (sym (ap error_number c.in-Err.is) ∙ c.requires) (number-some _) in
+    let k = force-refused _ _ _ _ (sym (ap error_number c.in-Err.is) ∙ c.requires) (refusal-some _) in
     record { reply = c.refused.ensures ∙ k.0; volume = k.1 }
 
 pub returns-then-s-eq0 : goal.returns-then-s-eq0

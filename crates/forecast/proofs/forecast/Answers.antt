@@ -1,7 +1,7 @@
 -- `forecast::forecast` is its definition: the laws of Outcomes.antt say what each case is.
 use mathlib.Core.Path.{sym}
 use Rattle.reports_laws.proofs.Forecast.{scanned}
-use Rattle.repair.proofs.Rows.{refusal-some}
+use Rattle.laws.proofs.Refused.{refusal-some}
 use Rattle.forecast.proofs.Outcomes.{refused, restarts, indexed, done}
 use Rattle.forecast.proofs.forecast.Goals as goal
 

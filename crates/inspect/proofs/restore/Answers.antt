@@ -1,7 +1,7 @@
 -- `inspect::restore` does what the definition says: the laws of Outcomes.antt say what each case is.
 use Rattle.std.proofs.lemmas.Result.{err_from_is_err_and}
 use Rattle.repair.proofs.Replays.{answered}
-use Rattle.repair.proofs.Rows.{refusal-some}
+use Rattle.laws.proofs.Refused.{refusal-some}
 use Rattle.inspect.proofs.Outcomes.{invalid, wrong-size, no-page, known, scan-refused, ready, whole, blank, below, done}
 use Rattle.inspect.proofs.restore.Goals.{Else-not-page-v}
 use Rattle.inspect.proofs.restore.Goals as goal

@@ -8,7 +8,7 @@ use Rattle.state.proofs.Slots.{valid-volume}
 use Rattle.model.specs.Tables.{first_of}
 use Rattle.model.specs.Refusals.{walk_tail, load_rows}
 use Rattle.model.specs.declared.answer.Stop.{Stop}
-use Rattle.repair.proofs.Rows.{refusal-some}
+use Rattle.laws.proofs.Refused.{refusal-some}
 use Rattle.load.proofs.Rows.{early_rows, early-first, early-rows, early-refuses, walk-clean}
 use Rattle.load.proofs.Outcomes.{opened, target-ready, decides}
 use Rattle.load.proofs.find.Goals.{In_ok-own, After-walk-walked}

@@ -7,7 +7,7 @@ use Rattle.model.specs.Outcome.{reply_of}
 use Rattle.model.specs.Calls.{load_of}
 use Rattle.model.specs.declared.answer.Reply.{Reply}
 use Rattle.model.specs.declared.answer.Answer.TheVariants.{Repaired}
-use Rattle.repair.proofs.Rows.{refusal-some}
+use Rattle.laws.proofs.Refused.{refusal-some}
 use Rattle.load.proofs.Rows.{early-none}
 use Rattle.load.proofs.Outcomes.{Open, opened, refused, done}
 use Rattle.load.proofs.load.Goals.{In-Ok, After-loaded}

@@ -1,6 +1,6 @@
 -- `mend::advise`: refused by its rows, else the policy's.
 use mathlib.Core.Path.{refl}
-use Rattle.upkeep.proofs.Refused.{refusal-some}
+use Rattle.laws.proofs.Refused.{refusal-some}
 use Rattle.mend.proofs.Cases.{advise-refused, advise-open}
 use Rattle.mend.proofs.advise.Goals as goal
 

@@ -1,6 +1,6 @@
 -- `upkeep::advise`: refused by its rows, else the policy's.
 use mathlib.Core.Path.{refl, sym}
-use Rattle.upkeep.proofs.Refused.{refusal-some}
+use Rattle.laws.proofs.Refused.{refusal-some}
 use Rattle.upkeep.proofs.Advice.{advise-refused, advise-open, advise-valid}
 use Rattle.upkeep.proofs.advise.Goals as goal
 

@@ -4,7 +4,7 @@ use native.Mathlib.Omega.{arith}
 use Rattle.append.proofs.Outcomes.{clauses, begin-refused, begin-done}
 use Rattle.laws.proofs.Parts.{lent_length}
 use Rattle.state.proofs.Slots.{any_memory}
-use Rattle.state.proofs.Fits.{number-some}
+use Rattle.laws.proofs.Refused.{refusal-some}
 use Rattle.append.proofs.Parts.{format-fits, begun-is}
 use Rattle.append.proofs.Open.{Open, begin-open}
 use Rattle.model.specs.Tables.{first_of}
@@ -29,7 +29,7 @@ returns-in-Err c =
     let r =
     clauses
     (begin-refused c.args.volume.now c.args.memory.now c.args.s c.args.page c.args.frame c.args.fill _
-    (c.in-Err.ensures c.args.memory.now refl) (number-some _)) in
+    (c.in-Err.ensures c.args.memory.now refl) (refusal-some _)) in
     record { reply = c.refused.ensures ∙ r.0; memory = r.1 }
 
 pub pend-lsn-requires : goal.pend-lsn-requires

@@ -7,7 +7,7 @@ use Rattle.laws.proofs.Tabulated.{length-mapped}
 use Rattle.append.proofs.Outcomes.{clauses, change-refused, change-done}
 use Rattle.laws.proofs.Parts.{lent_length}
 use Rattle.state.proofs.Slots.{any_memory}
-use Rattle.state.proofs.Fits.{number-some}
+use Rattle.laws.proofs.Refused.{refusal-some}
 use Rattle.append.proofs.Parts.{altered-is}
 use Rattle.append.proofs.Open.{Open, change-open, change-fits}
 use Rattle.model.specs.Tables.{first_of}
@@ -41,7 +41,7 @@ returns-in-Err c =
     let r =
     clauses
     (change-refused c.args.volume.now c.args.memory.now c.args.s c.args.page c.args.change c.args.payload _
-    (c.in-Err.ensures c.args.memory.now refl) (number-some _)) in
+    (c.in-Err.ensures c.args.memory.now refl) (refusal-some _)) in
     record { reply = c.refused.ensures ∙ r.0; memory = r.1 }
 
 pub pend-lsn-requires : goal.pend-lsn-requires

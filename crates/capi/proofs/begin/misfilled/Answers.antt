@@ -1,9 +1,10 @@
 use Rattle.capi.proofs.ArgumentLaws.{misfilled-unknown, misfilled-unfit, misfilled-first, misfilled-last}
+use Rattle.laws.proofs.Refused.{refusal-some}
 use Rattle.numbers.proofs.FitLaws.{long}
 use Rattle.face_step.proofs.FaceLaws.{both}
 use Rattle.laws.proofs.Tables.{and_left}
 use lib.Dec.{eqb}
-use mathlib.Core.Path.{sym, ◌∙◌}
+use mathlib.Core.Path.{refl, sym, ◌∙◌}
 use Rattle.capi.proofs.begin.misfilled.Goals as goal
 
 pub returns-then-not-known : goal.returns-then-not-known
@@ -17,7 +18,7 @@ returns-then-fits-numbers c = λ m report em er.
     let a = c.args in
     let f = c.fits in
     misfilled-unfit a.page a.frame a.volume.now m a.state.now report a.numbers er f.result f.ensures
-    c.if-fits-numbers.true c.valid-valid.result c.first.result c.valid-valid.ensures c.first.ensures
+    c.if-fits-numbers.true _ _ refl c.bad_buffer.ensures
 
 pub decode-s-requires : goal.decode-s-requires
 decode-s-requires c =
@@ -25,24 +26,3 @@ decode-s-requires c =
     let a = c.args in
     long a.state.now (sym f.ensures ∙ and_left f.result (eqb a.numbers 5)
     (both f.result (eqb a.numbers 5) c.if-fits-numbers.false))
-
-pub returns-then-no-ne0 : goal.returns-then-no-ne0
-returns-then-no-ne0 c = λ m report em er.
-    let q = c.refusal-no in
-    let d = c.decode-s in
-    let f = c.fits in
-    let a = c.args in
-    misfilled-first a.page a.frame a.volume.now m a.state.now report a.numbers er f.result f.ensures
-    c.if-fits-numbers.false a.size em d.result d.ensures q.result q.ensures c.if-no-ne0.true
-
-pub returns : goal.returns
-returns c = λ m report em er.
-    let g = c.geometry-g in
-    let q = c.refusal-no in
-    let d = c.decode-s in
-    let f = c.fits in
-    let a = c.args in
-    misfilled-last a.page a.frame a.volume.now m a.state.now report a.numbers er f.result f.ensures
-    c.if-fits-numbers.false a.size em d.result d.ensures q.result q.ensures c.if-no-ne0.false g.result g.ensures
-    c.frames-count.result c.frames-count.ensures c.first-2.result c.first-3.result
-    c.first-2.ensures c.first-3.ensures

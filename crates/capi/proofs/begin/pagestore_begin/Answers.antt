@@ -1,5 +1,5 @@
 use Rattle.capi.proofs.ArgumentLaws.{begin-few, begin-many}
-use mathlib.Core.Path.{refl}
+use mathlib.Core.Path.{refl, ◌∙◌}
 use Rattle.capi.proofs.begin.pagestore_begin.Goals as goal
 
 pub returns-then-fill-le255 : goal.returns-then-fill-le255
@@ -13,5 +13,5 @@ pub returns : goal.returns
 returns c =
     let a = c.args in
     begin-many a.page a.frame a.fill a.volume.now a.memory.now a.state.now a.report.now
-    c.if-fill-le255.false c.misfilled.result
-    (c.misfilled.ensures a.memory.now a.report.now refl refl)
+    c.if-fill-le255.false c.from.result
+    (c.from.ensures ∙ c.misfilled-refusal.ensures a.memory.now a.report.now refl refl)

@@ -5,7 +5,4 @@ use lib.ListN.{length, take}
 use Rattle.capi.proofs.change.payload_from.Given as goal
 
 abbrev pub invariant-loop-i : goal.invariant-loop-i
-invariant-loop-i l = (l.i ≤ 44) × (length l.bytes ≡ 44) × (take l.i l.bytes ≡ take l.i (payload_from l.xs))
-
-abbrev pub decreases-loop-i : goal.decreases-loop-i
-decreases-loop-i l = 44 - l.i
+invariant-loop-i l = (length l.bytes ≡ 44) × (take l.i l.bytes ≡ take l.i (payload_from l.xs))

@@ -1,61 +1,9 @@
--- `capi::slots::pagestore_slot` meets its contract.
-use mathlib.Core.Path.{sym, ap, ◌∙◌}
-use native.Mathlib.Omega.{arith}
-use lib.ListN.{length}
-use Rattle.model.specs.Geometry.{slot_at, geometry_of}
-use Rattle.face.specs.Slots.{backup_numbers}
-use Rattle.capi.proofs.SlotLaws.{slot-unknown, slot-refused, slot-long, slot-fits, slot-done, told_under}
+-- `capi::slots::pagestore_slot` meets its contract: what is found is put where C reads it.
+use borrow.Author.Rules.{rules}
 use Rattle.capi.proofs.slots.pagestore_slot.Goals as goal
 
-pub returns-then-not-known : goal.returns-then-not-known
-returns-then-not-known c =
-    let a = c.args in
-    let k = c.known in
-    let e = slot-unknown a.volume.now a.fields.now (slot_at a.slot) (backup_numbers (geometry_of a.volume.now))
-    k.result k.ensures c.if-not-known.true in
-    record { answer = e.0; fields = e.1 }
-
-pub returns-then-no-ne0 : goal.returns-then-no-ne0
-returns-then-no-ne0 c =
-    let a = c.args in
-    let r = c.refusal-no in
-    let g = c.geometry-g in
-    let e = slot-refused a.volume.now a.fields.now g.result g.ensures (slot_at a.slot)
-    (backup_numbers (geometry_of a.volume.now)) r.result r.ensures
-    c.if-no-ne0.true in
-    record { answer = e.0; fields = e.1 }
-
-pub part-requires : goal.part-requires
-part-requires c =
-    let a = c.args in
-    let r = c.refusal-no in
-    let g = c.geometry-g in
-    let f = slot-fits a.volume.now a.fields.now g.result g.ensures (slot_at a.slot)
-    (backup_numbers (geometry_of a.volume.now)) r.result r.ensures
-    c.if-no-ne0.false in
-    omega (arith, c.slot_at.ensures, f)
-
-pub copy-requires : goal.copy-requires
-copy-requires c =
-    let a = c.args in
-    let r = c.refusal-no in
-    let g = c.geometry-g in
-    slot-long a.volume.now a.fields.now g.result g.ensures (slot_at a.slot)
-    (backup_numbers (geometry_of a.volume.now)) r.result r.ensures
-    c.if-no-ne0.false
-    ∙ sym (ap length c.backup_numbers-n.ensures)
+pub put-requires : goal.put-requires
+put-requires c = (search rules, c.backup.ensures.long)
 
 pub returns : goal.returns
-returns c =
-    let a = c.args in
-    let r = c.refusal-no in
-    let g = c.geometry-g in
-    let e = slot-done a.volume.now a.fields.now g.result g.ensures (slot_at a.slot)
-    (backup_numbers (geometry_of a.volume.now)) r.result r.ensures
-    c.if-no-ne0.false
-    c.slot_at.result _ _ _
-    c.slot_at.ensures
-    c.part.ensures
-    (told_under _ _ _ _ g.ensures c.backup_numbers-n.ensures)
-    c.copy.ensures in
-    record { answer = e.0; fields = e.1 }
+returns c = let e = c.put.ensures _ c.backup.ensures.found in record { answer = e.0; fields = e.1 }

@@ -1,6 +1,6 @@
 -- `compare::report::fill` is its definition: the laws of Reports.antt say what each case is.
 use Rattle.std.proofs.lemmas.Result.{err_from_is_err_and}
-use Rattle.reports_laws.proofs.Refused.{refusal-some}
+use Rattle.laws.proofs.Refused.{refusal-some}
 use Rattle.compare.proofs.Reports.{first-unread, second-unread, other-length, unjudged, filled}
 use Rattle.compare.proofs.report.fill.Goals as goal
 

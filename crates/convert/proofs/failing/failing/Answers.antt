@@ -2,7 +2,7 @@
 use mathlib.Core.Path.{◌∙◌}
 use Rattle.laws.proofs.Tables.{by_cases}
 use Rattle.model.specs.Geometry.{valid_volume}
-use Rattle.convert.proofs.Refused.{refusal-some}
+use Rattle.laws.proofs.Refused.{refusal-some}
 use Rattle.convert.proofs.Places.{failing-none, failing-some}
 use Rattle.convert.proofs.failing.failing.Goals as goal
 

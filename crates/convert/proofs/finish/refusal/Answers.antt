@@ -2,7 +2,7 @@
 use mathlib.Core.Path.{refl}
 use Rattle.std.proofs.lemmas.Result.{err_from_is_err_and}
 use Rattle.model.specs.Geometry.{carry_tag}
-use Rattle.convert.proofs.Refused.{refusal-some}
+use Rattle.laws.proofs.Refused.{refusal-some}
 use Rattle.convert.proofs.Rows.{head_rows, finish-first, finish-left, finish-none}
 use Rattle.convert.proofs.finish.refusal.Goals as goal
 

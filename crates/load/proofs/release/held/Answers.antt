@@ -1,6 +1,6 @@
 -- `load::release::held`: the rows 1 and 2, then Release's own.
 use Rattle.std.proofs.lemmas.Result.{err_from_is_err_and}
-use Rattle.repair.proofs.Rows.{refusal-some}
+use Rattle.laws.proofs.Refused.{refusal-some}
 use Rattle.load.proofs.Releases.{release-first, release-rows}
 use Rattle.load.proofs.release.held.Goals as goal
 

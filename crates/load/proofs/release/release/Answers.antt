@@ -4,7 +4,7 @@ use native.Mathlib.Omega.{arith}
 use lib.ListN.{length}
 use Rattle.laws.proofs.Tabulated.{length-mapped}
 use borrow.Author.Rules.{rules}
-use Rattle.repair.proofs.Rows.{refusal-some}
+use Rattle.laws.proofs.Refused.{refusal-some}
 use Rattle.load.proofs.Releases.{release-refused, release-held, release-done}
 use Rattle.load.proofs.release.release.Goals.{Start}
 use Rattle.load.proofs.release.release.Goals as goal

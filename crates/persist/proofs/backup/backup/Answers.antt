@@ -8,7 +8,7 @@ use Rattle.model.specs.Tables.{first_of}
 use Rattle.model.specs.Geometry.{slot_at}
 use Rattle.model.specs.Refusals.{backup_rows}
 use Rattle.persist.proofs.Outcomes.{backup-refused, backup-done}
-use Rattle.state.proofs.Fits.{number-some}
+use Rattle.laws.proofs.Refused.{refusal-some}
 use Rattle.persist.proofs.Room.{Room, backup-room}
 use borrow.Author.Rules.{rules}
 use Rattle.persist.proofs.backup.backup.Goals.{Start, In_default, After-geometry-g}
@@ -32,7 +32,7 @@ known c l n =
 
 pub returns-in-Err : goal.returns-in-Err
 returns-in-Err c =
-    let k = backup-refused _ _ _ _ _ _ c.in-Err.ensures (number-some _) in
+    let k = backup-refused _ _ _ _ _ _ c.in-Err.ensures (refusal-some _) in
     record { reply = c.refused.ensures ∙ k.0; volume = k.1 }
 
 pub store-requires : goal.store-requires

@@ -7,7 +7,7 @@ use Rattle.model.specs.Tables.{first_of}
 use Rattle.model.specs.Refusals.{state_rows}
 use Rattle.persist.proofs.Outcomes.{note-refused, note-idle, note-done}
 use Rattle.persist.proofs.Parts.{note-put}
-use Rattle.state.proofs.Fits.{number-some}
+use Rattle.laws.proofs.Refused.{refusal-some}
 use Rattle.persist.proofs.Room.{NoteRoom, note-room}
 use Rattle.persist.proofs.note.note.Goals.{After-geometry-g, In_default}
 use Rattle.persist.proofs.note.note.Goals as goal
@@ -23,7 +23,7 @@ known c e = note-room c.args.volume.now c.args.memory.now c.args.s _ _ c.geometr
 
 pub returns-in-Err : goal.returns-in-Err
 returns-in-Err c =
-    let k = note-refused c.args.volume.now c.args.memory.now c.args.s _ (sym (ap error_number c.in-Err.is) ∙ c.requires) (number-some _) in
+    let k = note-refused c.args.volume.now c.args.memory.now c.args.s _ (sym (ap error_number c.in-Err.is) ∙ c.requires) (refusal-some _) in
     record { reply = c.refused.ensures ∙ k.0; volume = k.1 }
 
 pub returns-in_default-note : goal.returns-in_default-note

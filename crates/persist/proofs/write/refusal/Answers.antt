@@ -2,7 +2,7 @@
 use mathlib.Core.Path.{◌≡◌, ◌∙◌}
 use borrow.Author.Rules.{rules}
 use Rattle.model.specs.Refused.{error_number, refusal_number}
-use Rattle.state.proofs.Fits.{number-some}
+use Rattle.laws.proofs.Refused.{refusal-some}
 use Rattle.persist.proofs.Rows.{write-first, write-rows}
 use Rattle.persist.proofs.write.refusal.Goals as goal
 
@@ -11,7 +11,7 @@ returns-in_err-checked c =
     let a = c.args in
     let r = c.in_err-checked.field-0.0 in
     let k : error_number c.from_residual.result ≡ refusal_number r = search rules in
-    k ∙ write-first a.volume.now a.memory.now a.s _ a.page (rw c.in_err-checked.was at c.requires) (number-some r)
+    k ∙ write-first a.volume.now a.memory.now a.s _ a.page (rw c.in_err-checked.was at c.requires) (refusal-some r)
 
 pub returns : goal.returns
 returns c =

@@ -8,7 +8,7 @@ use Rattle.model.specs.Tables.{first_of}
 use Rattle.model.specs.Geometry.{page_at}
 use Rattle.model.specs.Refusals.{page_dirty, write_rows}
 use Rattle.persist.proofs.Outcomes.{dirty-is, write-refused, write-idle, write_done}
-use Rattle.state.proofs.Fits.{number-some}
+use Rattle.laws.proofs.Refused.{refusal-some}
 use Rattle.persist.proofs.Room.{Room, write-room}
 use borrow.Author.Rules.{rules}
 use Rattle.persist.proofs.write.write.Goals.{Start, In_default, Else-not-dirty, After-geometry-g}
@@ -39,7 +39,7 @@ known c l n d =
 
 pub returns-in-Err : goal.returns-in-Err
 returns-in-Err c =
-    let k = write-refused _ _ _ _ _ c.in-Err.ensures (number-some _) in
+    let k = write-refused _ _ _ _ _ c.in-Err.ensures (refusal-some _) in
     record { reply = c.refused.ensures ∙ k.0; volume = k.1 }
 
 pub returns-then-not-dirty : goal.returns-then-not-dirty
