@@ -18,7 +18,7 @@ use model::answer::{Answer, Refusal};
 const MOST: u32 = 64;
 
 // The number of pages, for a program that has none: into how many segments the counts cut the archive; 0 where they do
-// not. Records are not judged.
+// not. Records are not judged. Each turn goes on where a segment ends, so no count bounds the loop.
 // Ruled out: bytes behind the last segment passed over; more than 64 pages (both tried).
 pub fn pages(archive: &[u8]) -> u32
     ensures { result ≡ archive_pages archive.now }

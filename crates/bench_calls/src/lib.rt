@@ -31,12 +31,7 @@ pub extern "C" fn pagestore_byte_sum(part: &[u8]) -> u32
 fn refused(a: Answer) -> u32
     ensures { (result ≡ is_refused a) × (result ≤ 1) }
 {
-    match a {
-        Answer::Refused(_) => 1,
-        Answer::Nothing => 0,
-        Answer::Done => 0,
-        Answer::Repaired(_) => 0,
-    }
+    u32::from(matches!(a, Answer::Refused(_)))
 }
 
 // Command j of the cycles, seven a cycle: page n + 1 is begun in frame 1, changed, forced twice, written and noted, and
@@ -99,13 +94,10 @@ pub extern "C" fn pagestore_cycles(volume: &mut [u8], memory: &mut [u8], count: 
     let mut store = restarted.store;
     let mut total = refused(answer);
     let most = 7 * cut(count);
-    let mut j: u32 = 0;
-    while j < most {
+    for j in 0..most {
         let o = store.perform(volume, memory, command(j), [9; 44]);
-        let answer = o.answer;
         store = o.store;
-        total += refused(answer);
-        j += 1;
+        total += refused(o.answer);
     }
     total
 }

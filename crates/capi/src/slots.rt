@@ -31,6 +31,7 @@ fn counts(volume: &[u8], old: &[u32]) -> Result<[u32; 5], u32>
     Ok([u32::from(g.tag), g.pages, g.slots, g.records, g.notes])
 }
 
+// These three differ in count, place and numbers at once: a shared function would take all of them as parameters.
 fn record(volume: &[u8], slot: u32, old: &[u32]) -> Result<[u32; 8], u32>
     ensures found { Gives result old.now (record_slot_of volume.now slot old.now) }
     ensures long { IfOk result (λ _. length old.now ≡ 8) }

@@ -40,7 +40,7 @@ fn tell(a: Answer, report: &mut [u32])
     }
 }
 
-// Inspection with its class, start and count as numbers: 0 or the refusal; an invalid volume first.
+// Inspection with its class, start and count as numbers: 0 or the refusal, for C; an invalid volume first.
 // Ruled out: a refusal that wrote to the report (tried); the numbers of two classes exchanged (tried).
 pub fn examine(volume: &[u8], page: u32, buffer: &mut [u8], report: &mut [u32]) -> u32
     ensures answer { result

@@ -16,7 +16,8 @@ pub fn lsn(x: &[u8]) -> u32
     field::u32_at(x, 4)
 }
 
-// The image's sum is right: by words under the first heading, by bytes under the second, else by either.
+// The image's sum is right: by words under the first heading, by bytes under the second, else by either. The tag is a
+// byte of any value, and no enum: the definitions read it from any volume (`image_sealed`).
 fn sealed(g: Geometry, x: &[u8]) -> bool
     ensures { result ≡ image_sealed g x.now }
 {

@@ -19,7 +19,7 @@ use section::{Extent, Run, Section, guess};
 use sums::products;
 use volume::{Volume, place, ring};
 
-// The log of a volume.
+// The log of a volume. (The notes' differs in start, size and count: a shared function would take all three.)
 fn locate<'a>(v: &Volume<'a>) -> Section<'a>
     ensures bytes { result.bytes.now ≡ v.now.bytes.now }
     ensures extent { result.extent ≡ log_section v.now.geometry }

@@ -69,7 +69,7 @@ impl fmt::Display for Repair {
     }
 }
 
-// The answer of a call.
+// The answer of a call. A refusal stands in it by its number, as the definitions' tables give it (`decided`).
 #[derive(Clone, Copy)]
 pub enum Answer {
     Refused(u32),

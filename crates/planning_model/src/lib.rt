@@ -13,7 +13,7 @@ pub mod step;
 use model::answer::{Answer, Refusal};
 use planning::rehearsal::{FrameUse, Rehearsal, Rehearsed, Settings, Victim};
 
-// Every event's page is 1 to 64.
+// Every event's page is 1 to 64. (By `all` the check did not find that the tests are the definition's.)
 fn pages_fit(events: &[u8]) -> bool
     ensures { result ≡ pages_fit events.now }
 {

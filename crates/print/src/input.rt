@@ -6,7 +6,7 @@ use std::io;
 use std::io::Read;
 
 // Reads until the buffer is full or the input ends, and says how many bytes it put at the buffer's front. On an empty
-// buffer it makes no call.
+// buffer it makes no call. A read decides how far a turn goes, so this is no loop over an index.
 pub fn fill(reader: &mut impl Read, buffer: &mut [u8]) -> io::Result<usize>
     ensures { ReadsAtMost result buffer.new }
 {

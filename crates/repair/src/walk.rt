@@ -25,7 +25,7 @@ pub struct Course {
     pub sure: bool,
 }
 
-// Where a walk stopped, and how many records are to be replayed.
+// Where a walk stopped, and how many records are to be replayed: what mending asks, which judges no image again.
 #[derive(Clone, Copy)]
 pub struct Traced {
     pub stop: Stop,

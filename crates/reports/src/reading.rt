@@ -17,8 +17,8 @@ pub struct Forecast {
     pub pages: [Figure; 64],
 }
 
-// How two durable logs compare: they agree, one is a beginning of the other and lacks so many records, or the first number at which they
-// differ.
+// How two durable logs compare: they agree, one is a beginning of the other and lacks so many records, or the first
+// number at which they differ.
 #[derive(Clone, Copy)]
 pub enum Comparison {
     Refused(u32),

@@ -8,7 +8,7 @@ ghost use Rattle.sums.specs.Quads as quads;
 use crate::lanes::{self, Lanes};
 use crate::partial::Sums;
 
-// Four bytes, k behind a place.
+// Four bytes, k behind a place. (Not one function with that of words: bounds, widths and reads differ.)
 fn step(l: Lanes<u16>, s: &[u8], at: usize, k: usize) -> Lanes<u16>
     requires k_in_bounds { (at + k + 4 ≤ length s.now) × (k ≤ 112) }
     requires bounded { quads.Bounded k l }

@@ -9,7 +9,7 @@ use borrow.Author.Rules.{rules}
 use Rattle.bench_calls.proofs.pagestore_cycles.Goals as goal
 
 pub loop-j-init : goal.loop-j-init
-loop-j-init c = (run_none _, search rules, search rules, search rules, search rules, search rules)
+loop-j-init c = (run_none _, search rules, search rules, search rules, search rules)
 
 pub loop-j-preserved : goal.loop-j-preserved
 loop-j-preserved c =
@@ -17,7 +17,6 @@ loop-j-preserved c =
       run_more _ _ _ _ _ c.loop-j.invariant.0 c.command.ensures
           (call-is c.loop-j.volume c.loop-j.memory _ _ (replicate 44 9) c.loop-j.store _ _ _ c.command.result e.outcome
           e.memory e.volume c.refused-total-in-loop-j.ensures.0),
-      search rules,
       search rules,
       search rules,
       search rules,

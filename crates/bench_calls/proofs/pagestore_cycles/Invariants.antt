@@ -8,8 +8,5 @@ use Rattle.bench_calls.proofs.pagestore_cycles.Given as goal
 
 abbrev pub invariant-loop-j : goal.invariant-loop-j
 invariant-loop-j l =
-    (run_at l.volume l.memory l.store l.total ≡ run_over (run_at l.initial.volume l.initial.memory l.initial.store l.initial.total) l.j) × (l.total ≤ 1 + l.j) × (l.j ≤ l.most) × (l.most ≤ 7168)
+    (run_at l.volume l.memory l.store l.total ≡ run_over (run_at l.initial.volume l.initial.memory l.initial.store l.initial.total) l.j) × (l.total ≤ 1 + l.j) × (l.most ≤ 7168)
     × (length l.volume ≡ length l.initial.volume) × (length l.memory ≡ length l.initial.memory)
-
-abbrev pub decreases-loop-j : goal.decreases-loop-j
-decreases-loop-j l = l.most - l.j
