@@ -6,7 +6,8 @@ ghost use Rattle.reports.specs.Archive.{last_number_in, segment_fits, segment_im
 
 use codec::field;
 use item::{image, record};
-use sums::{check::Check, checksum::WordSum};
+use sums::check::Check;
+use sums::checksum::WordSum;
 use volume::place;
 
 // A record may stand in the page's segment behind the number `last`; 0 is none.

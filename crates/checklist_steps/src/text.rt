@@ -6,7 +6,8 @@ ghost use Rattle.checklist_steps.specs.Text.{same_between};
 use crate::printed::Printed;
 use codec::{field, part};
 use std::io;
-use sums::{byte_sum::ByteSum, check::Check};
+use sums::byte_sum::ByteSum;
+use sums::check::Check;
 
 // Where an image's lines stand.
 const LINES: [usize; 5] = [8, 52, 96, 140, 184];

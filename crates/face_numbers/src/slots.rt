@@ -6,7 +6,8 @@ ghost use Rattle.face.specs.Slots.{record_numbers, stored_note_numbers, backup_n
 use codec::{field, part};
 use item::{image, note, record};
 use model::geometry::Geometry;
-use sums::{check::Check, checksum::WordSum};
+use sums::check::Check;
+use sums::checksum::WordSum;
 
 // What stands in a slot: zeros, an item that passes its check, or neither.
 fn standing(zero: bool, whole: bool) -> u32

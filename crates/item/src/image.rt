@@ -7,7 +7,9 @@ ghost use Rattle.model.specs.Item.{image_lsn, valid_image, frame_image};
 
 use codec::field;
 use model::geometry::{FIRST_TAG, Geometry, SECOND_TAG};
-use sums::{byte_sum::ByteSum, check::Check, checksum::WordSum};
+use sums::byte_sum::ByteSum;
+use sums::check::Check;
+use sums::checksum::WordSum;
 
 // The log sequence number of the last record in the image.
 pub fn lsn(x: &[u8]) -> u32

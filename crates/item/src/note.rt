@@ -4,7 +4,8 @@ ghost use Rattle.model.specs.Item.{note_of, note_layout, note_bytes};
 
 use codec::field;
 use model::item::Note;
-use sums::{check::Check, checksum::WordSum};
+use sums::check::Check;
+use sums::checksum::WordSum;
 
 // The kinds of note, by the numbers that they are stored with.
 pub const WRITTEN: u8 = 1;

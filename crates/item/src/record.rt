@@ -10,7 +10,8 @@ use crate::change::{self, FORMAT, PUT, SLIDE};
 use codec::{field, part};
 use model::change::Change;
 use model::item::LogRecord;
-use sums::{check::Check, checksum::WordSum};
+use sums::check::Check;
+use sums::checksum::WordSum;
 
 // A record has this many bytes of payload.
 const PAYLOAD: usize = 44;

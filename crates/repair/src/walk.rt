@@ -11,7 +11,8 @@ use item::{image, record};
 use model::answer::{Class, Stop};
 use model::geometry::Geometry;
 use model::item::LogRecord;
-use sums::{check::Check, checksum::WordSum};
+use sums::check::Check;
+use sums::checksum::WordSum;
 use volume::Volume;
 
 // What a walk goes by: the run start, the page, the numbers at which it may stop at the own image and at the backup (0

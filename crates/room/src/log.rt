@@ -6,7 +6,8 @@ ghost use Rattle.model.specs.State.{record_needed, log_full};
 use item::record;
 use model::state::State;
 use state::entries;
-use sums::{check::Check, checksum::WordSum};
+use sums::check::Check;
+use sums::checksum::WordSum;
 use volume::{Volume, ring};
 
 // Record j is not known to be spare: it is pending, or it stands whole in its slot and its page has no noted backup at

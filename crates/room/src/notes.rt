@@ -7,7 +7,8 @@ ghost use Rattle.model.specs.State.{note_whole, note_like, note_needed, notes_fu
 use item::note;
 use model::item::Note;
 use model::state::State;
-use sums::{check::Check, checksum::WordSum};
+use sums::check::Check;
+use sums::checksum::WordSum;
 use volume::{Volume, ring};
 
 // The note in the slot of number n.

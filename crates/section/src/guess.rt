@@ -7,7 +7,8 @@ ghost use Rattle.section.specs.Sweep.{Guessed, closed_of, begun_of};
 
 use crate::Section;
 use codec::field;
-use sums::{check::Check, checksum::WordSum};
+use sums::check::Check;
+use sums::checksum::WordSum;
 
 // A slot, counted from 0, and the number that it should hold.
 #[derive(Clone, Copy)]

@@ -10,7 +10,8 @@ ghost use Rattle.section.specs.Section.{Placed, slot_bytes, highest_at, front_at
 pub mod guess;
 
 use codec::{field, part};
-use sums::{check::Check, checksum::WordSum};
+use sums::check::Check;
+use sums::checksum::WordSum;
 use volume::ring;
 
 // Where a section lies: whether it is a ring, where its slots start, an item's bytes before its checksum, and how many

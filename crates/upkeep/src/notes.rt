@@ -11,7 +11,8 @@ use item::note;
 use model::item::Note;
 use model::state::State;
 use room::notes;
-use sums::{check::Check, checksum::WordSum};
+use sums::check::Check;
+use sums::checksum::WordSum;
 use volume::{Volume, place, ring};
 
 // Whether the note is needed that the next one displaces, and the one that the note after that displaces: each may be

@@ -6,7 +6,7 @@ ghost use Rattle.model.specs.declared.geometry.Heading.TheVariants.{First, Secon
 
 use crate::heading;
 use codec::{field, part};
-use model::answer::Answer;
+use model::answer::{Answer, Refusal};
 use model::geometry::Heading;
 
 // Writes headings and zeros: the zeros first, then each heading, from the last one down.
@@ -33,7 +33,7 @@ fn make_under(v: &mut [u8], h: Heading, p: u32, b: u32, l: u32, n: u32) -> Answe
 {
     let fits = heading::counts(p, b, l, n) & (v.len() == heading::size(p, b, l, n));
     if !fits {
-        return Answer::Refused(1);
+        return Answer::from(Refusal::BadVolume);
     }
     write(v, h, p, b, l, n);
     Answer::Done

@@ -9,8 +9,8 @@ returns-then-not-known c =
     let k = c.known in
     let z = c.clear in
     rw c.from.ensures (
-      restart-unknown a.volume.now a.memory.now a.state.now k.result k.ensures (ap not c.if-not-known.true) z.new.state
-          z.ensures
+    restart-unknown a.volume.now a.memory.now a.state.now k.result k.ensures (ap not c.if-not-known.true) z.new.state
+    z.ensures
     )
 
 pub returns-then-state-ne360 : goal.returns-then-state-ne360
