@@ -6,7 +6,7 @@ use Prim.Native.Nat.{ℕ, ◌+◌, ◌≤◌}
 use native.Mathlib.Omega.{arith}
 use lib.Dec.{eqb}
 use lib.ListN.{length}
-use borrow.Author.Tests.{eq-eqb, ne_eqb, eqb-true}
+use borrow.Author.Tests.{eq-eqb, ne_eqb}
 use Rattle.laws.proofs.Places.{in_item, place-fits, valid-facts, total}
 use Rattle.model.specs.Tables.{first_of}
 use Rattle.model.specs.Bytes.{part}
@@ -50,7 +50,7 @@ both-hold false b e = absurd (omega (arith, e))
 pub handed-on : {P : ℕ → Type 0} (r : Result (List ℕ) ℕ) (old : List ℕ) (l : Listed) (k : ℕ) → IsErr r → IsErrAnd r P
     → ((n : ℕ) → P n → n ≡ k)
     → (k ≡ l.refusal) × (old ≡ l.numbers) → Gives r old l
-handed-on (Ok xs) old l k f p h e = absurd (true-not-false (sym f) refl)
+handed-on (Ok xs) old l k f p h e = absurd (true-not-false f refl)
 handed-on (Err n) old l k f p h e = (h n p ∙ e.0, e.1)
 
 -- ---- the heading

@@ -1,5 +1,8 @@
 // Begin for C: a fill that is no byte is judged in its place.
-ghost use Rattle.std.specs.Prelude.{◌≡◌, List, ℕ, length};
+ghost use Rattle.std.specs.Prelude.{◌≡◌, List, ℕ, length, cond, not};
+ghost use Rattle.model.specs.Tables.{within};
+ghost use Rattle.model.specs.Geometry.{geometry_of};
+ghost use Rattle.model.specs.State.{frame_count};
 ghost use Rattle.model.specs.Refused.{refusal_number};
 ghost use Rattle.face.specs.Face.{faced};
 ghost use Rattle.face.specs.Arguments.{misfilled_of, begin_face};
@@ -8,6 +11,21 @@ use face_step::step;
 use model::answer::Refusal;
 use model::command::Command;
 use volume::{heading, memory};
+
+// The refusal by page and frame, or else by the fill.
+fn own(volume: &[u8], size: usize, page: u32, frame: u32) -> Refusal
+    ensures { refusal_number result
+        ≡ cond (not (within (geometry_of volume.now).pages page)) 3 (cond (not (within (frame_count size) frame)) 4 6) }
+{
+    let pages = heading::geometry(volume).pages;
+    if !((1 <= page) & (page <= pages)) {
+        return Refusal::NoSuchPage;
+    }
+    if !((1 <= frame) & (frame as usize <= memory::frames(size))) {
+        return Refusal::NoSuchFrame;
+    }
+    Refusal::BadChange
+}
 
 // The refusal of a Begin whose fill is above 255; size is the memory's, numbers the report's.
 fn misfilled(
@@ -28,16 +46,10 @@ fn misfilled(
         return heading::bad_buffer(volume);
     }
     let s = numbers::decode(state);
-    if let Err(refusal) = state::refusal::refusal(s, volume, size) {
-        return refusal;
+    match state::refusal::refusal(s, volume, size) {
+        Err(refused) => refused,
+        Ok(()) => own(volume, size, page, frame),
     }
-    if (page == 0) | (heading::geometry(volume).pages < page) {
-        return Refusal::NoSuchPage;
-    }
-    if (frame == 0) | (memory::frames(size) < frame as usize) {
-        return Refusal::NoSuchFrame;
-    }
-    Refusal::BadChange
 }
 
 pub fn pagestore_begin(

@@ -1,6 +1,5 @@
 use Rattle.face.specs.Arguments.{payload_from}
 use mathlib.Core.Path.{◌≡◌}
-use Prim.Native.Nat.{◌≤◌, ◌-◌}
 use lib.ListN.{length, take}
 use Rattle.capi.proofs.change.payload_from.Given as goal
 

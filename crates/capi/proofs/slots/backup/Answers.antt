@@ -1,6 +1,7 @@
 -- `capi::slots::backup`: the volume and the length are tested, then the slot.
 use mathlib.Core.Path.{ap, refl, ◌∙◌}
-use native.Mathlib.Omega.{arith}
+use mathlib.Core.List.{List}
+use Prim.Native.Nat.{ℕ}
 use Rattle.model.specs.Geometry.{geometry_of, slot_at, start, item}
 use Rattle.face.specs.Slots.{backup_numbers}
 use Rattle.capi.proofs.SlotLaws.{handed-on, slot-refused, slot-missing, slot-done, told_under}
@@ -29,4 +30,5 @@ returns-clause-found c =
     let eg = v.read ∙ rw c.in_ok-v.ensures.bytes in
     slot-done a.volume.now a.old.now (slot_at a.slot) (backup_numbers (geometry_of a.volume.now)) c.in_ok-v.ensures.refusal v.geometry
     eg c.if-not-there.false (start v.geometry (slot_at a.slot)) _ _ refl
-    (rw c.slot.ensures c.in_ok-v.ensures.bytes) (told_under a.volume.now _ _ v.geometry eg c.backup_numbers.ensures)
+    (c.slot.ensures ∙ ap (λ (b : List ℕ). item v.geometry b (slot_at a.slot)) c.in_ok-v.ensures.bytes)
+    (told_under a.volume.now _ _ v.geometry eg c.backup_numbers.ensures)

@@ -12,4 +12,6 @@ returns-in_err-g-clause-found c =
 pub returns-clause-found : goal.returns-clause-found
 returns-clause-found c =
     let a = c.args in
-    counts-done a.volume.now a.old.now c.in_ok-g.ensures.refusal c.in_ok-g.g.geometry (c.in_ok-g.g.read ∙ rw c.in_ok-g.ensures.bytes)
+    let v = c.in_ok-g.field-0 in
+    let e = counts-done a.volume.now a.old.now c.in_ok-g.ensures.refusal v.geometry (v.read ∙ rw c.in_ok-g.ensures.bytes) in
+    (e.0, rw c.from.ensures e.1)

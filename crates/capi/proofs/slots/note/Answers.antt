@@ -1,9 +1,6 @@
 -- `capi::slots::note`: the volume and the length are tested, then the slot.
-use mathlib.Core.Path.{ap, ◌∙◌}
-use mathlib.Core.Bool.{not}
-use lib.ListN.{length}
+use mathlib.Core.Path.{◌∙◌}
 use native.Mathlib.Omega.{arith}
-use borrow.Author.Rules.{rules}
 use Rattle.model.specs.Geometry.{note_at}
 use Rattle.face.specs.Slots.{stored_note_numbers}
 use Rattle.capi.proofs.SlotLaws.{handed-on, slot-refused, slot-missing, slot-fits, slot-done}

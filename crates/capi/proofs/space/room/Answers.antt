@@ -1,5 +1,5 @@
 -- `capi::space::room`: the heading, the report's length, and what the room of the volume is.
-use mathlib.Core.Path.{refl, ap, ◌∙◌}
+use mathlib.Core.Path.{refl, ◌∙◌}
 use Rattle.capi.proofs.SpaceLaws.{unknown, unlike, turned_down, told}
 use Rattle.capi.proofs.space.room.Goals as goal
 
