@@ -1,7 +1,7 @@
 // A section of a volume, its log or its notes: its whole slots, and the run of numbers that they hold.
 #![tactic(auto)]
 
-ghost use Rattle.std.specs.Prelude.{◌≡◌, true, cond, suc, ◌+◌, ◌-◌, ◌%◌, ◌≤◌, ◌<◌};
+ghost use Rattle.std.specs.Prelude.{◌≡◌, true, cond, suc, ◌+◌, ◌-◌, ◌*◌, ◌%◌, ◌≤◌, ◌<◌, length};
 ghost use Rattle.model.specs.Bytes as bytes;
 ghost use Rattle.model.specs.Checksum.{sealed};
 ghost use Rattle.model.specs.Scan as scans;
@@ -201,12 +201,7 @@ impl<'a> Section<'a> {
             self.now.extent.at n }
     {
         let s = self.extent;
-        if s.slots <= n {
-            return true;
-        }
-        let from = s.at + (s.size + 4) * (n as usize + 1);
-        let end = s.at + (s.size + 4) * (s.slots as usize);
-        part::zero(&self.bytes[from..end])
+        rest(self.bytes, s.at, s.size + 4, s.slots as usize, n as usize)
     }
 
     // What follows a run: past the turn nothing is asked; before it the next slot is not whole, the run starts at 1,
@@ -243,4 +238,17 @@ pub fn nth(first: u64, i: u32) -> u32
     ensures { result ≡ first + i }
 {
     (first + u64::from(i)) as u32
+}
+
+// The slots past slot n + 1 are zero, of `count` slots of `size` bytes that start at a place.
+pub fn rest(volume: &[u8], at: usize, size: usize, count: usize, n: usize) -> bool
+    requires { at + size * count ≤ length volume.now }
+    ensures { result ≡ scans.rest_zero size count volume.now at n }
+{
+    if count <= n {
+        return true;
+    }
+    let from = at + size * (n + 1);
+    let end = at + size * count;
+    part::zero(&volume[from..end])
 }

@@ -38,10 +38,14 @@ impl<'a> Volume<'a> {
         ensures refusal { error_number result ≡ cond (not (valid_volume bytes.now)) 1 0 }
         ensures bytes { IfOk result (λ v. v.bytes.now ≡ bytes.now) }
     {
-        if !heading::valid(bytes) {
+        if !heading::known(bytes) {
             return Err(Refusal::BadVolume);
         }
-        Ok(Volume::of(bytes))
+        let geometry = heading::geometry(bytes);
+        if !heading::sound(bytes, geometry) {
+            return Err(Refusal::BadVolume);
+        }
+        Ok(Volume { bytes, geometry })
     }
 
     // A page's image.
@@ -49,7 +53,7 @@ impl<'a> Volume<'a> {
         requires { (1 ≤ i) × (i ≤ self.now.geometry.pages) }
         ensures { result.now ≡ item self.now.geometry self.now.bytes.now (page_at i) }
     {
-        place::array(self.bytes, place::page_at(self.geometry, i))
+        place::page(self.bytes, self.geometry, i)
     }
 
     // A backup slot's image.
@@ -57,14 +61,14 @@ impl<'a> Volume<'a> {
         requires { (1 ≤ i) × (i ≤ self.now.geometry.slots) }
         ensures { result.now ≡ item self.now.geometry self.now.bytes.now (slot_at i) }
     {
-        place::array(self.bytes, place::slot_at(self.geometry, i))
+        place::slot(self.bytes, self.geometry, i)
     }
 
     // The bytes of log record n. A valid volume has a log.
     pub fn record(&self, n: u32) -> &'a [u8; 64]
         ensures { result.now ≡ item self.now.geometry self.now.bytes.now (log_slot self.now.geometry n) }
     {
-        place::array(self.bytes, place::log_slot(self.geometry, n))
+        place::record(self.bytes, self.geometry, n)
     }
 
     // The bytes of note n.
@@ -72,6 +76,6 @@ impl<'a> Volume<'a> {
         requires { 1 ≤ self.now.geometry.notes }
         ensures { result.now ≡ item self.now.geometry self.now.bytes.now (note_slot self.now.geometry n) }
     {
-        place::array(self.bytes, place::note_slot(self.geometry, n))
+        place::note(self.bytes, self.geometry, n)
     }
 }

@@ -1,8 +1,8 @@
-// The place of each item of a volume. Slots are counted from 1; 0 has the place of 1. A log record and a
+// The place of each item of a volume, and its bytes. Slots are counted from 1; 0 has the place of 1. A log record and a
 // note are found by their number, through the slot that they go to.
 ghost use Rattle.std.specs.Prelude.{◌≡◌, ◌+◌, ◌-◌, ◌≤◌, length};
 ghost use Rattle.model.specs.Bytes as bytes;
-ghost use Rattle.model.specs.Geometry.{page_at, slot_at, record_at, note_at, log_slot, note_slot, start};
+ghost use Rattle.model.specs.Geometry.{page_at, slot_at, record_at, note_at, log_slot, note_slot, start, item};
 
 use crate::ring;
 use model::geometry::Geometry;
@@ -76,4 +76,36 @@ pub fn array<const N: usize>(v: &[u8], at: usize) -> &[u8; N]
     ensures { result.now ≡ bytes.part v.now at N }
 {
     part(v, at, N).as_array().unwrap()
+}
+
+// A page's image.
+pub fn page(v: &[u8], g: Geometry, i: u32) -> &[u8; 256]
+    requires { start g (page_at i) + 256 ≤ length v.now }
+    ensures { result.now ≡ item g v.now (page_at i) }
+{
+    array(v, page_at(g, i))
+}
+
+// A backup slot's image.
+pub fn slot(v: &[u8], g: Geometry, i: u32) -> &[u8; 256]
+    requires { start g (slot_at i) + 256 ≤ length v.now }
+    ensures { result.now ≡ item g v.now (slot_at i) }
+{
+    array(v, slot_at(g, i))
+}
+
+// The bytes of log record n.
+pub fn record(v: &[u8], g: Geometry, n: u32) -> &[u8; 64]
+    requires { (1 ≤ g.records) × (start g (log_slot g n) + 64 ≤ length v.now) }
+    ensures { result.now ≡ item g v.now (log_slot g n) }
+{
+    array(v, log_slot(g, n))
+}
+
+// The bytes of note n.
+pub fn note(v: &[u8], g: Geometry, n: u32) -> &[u8; 16]
+    requires { (1 ≤ g.notes) × (start g (note_slot g n) + 16 ≤ length v.now) }
+    ensures { result.now ≡ item g v.now (note_slot g n) }
+{
+    array(v, note_slot(g, n))
 }
