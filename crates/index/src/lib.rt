@@ -10,7 +10,7 @@ ghost use Rattle.index.specs.Scanned.{scan_refusal, found_of, counts_of, gone_in
 pub mod notes;
 
 use index_rows::columns::Columns;
-use log_scan::Swept;
+use log_scan::{Measured, Swept};
 use model::answer::Refusal;
 use model::geometry::Geometry;
 use model::state::Entry;
@@ -67,8 +67,9 @@ fn fast(v: &Volume<'_>, c: &mut Columns) -> Option<Result<Counts, Refusal>>
     requires { c.old ≡ Columns.BLANK }
     ensures { IfSome result (λ r. Filled v.now.bytes.now r c.new) }
 {
-    let records = log_scan::sweep(v, &mut c.last)?;
-    let behind = notes::sweep(v, records, c)?;
+    let m = Measured::of(v);
+    let records = log_scan::sweep(&m, &mut c.last)?;
+    let behind = notes::sweep(&m, records, c)?;
     if !c.ordered(v.geometry.pages as usize) {
         return Some(Err(Refusal::BadNotes));
     }
@@ -80,12 +81,13 @@ fn slow(v: &Volume<'_>, c: &mut Columns) -> Result<Counts, Refusal>
     requires { c.old ≡ Columns.BLANK }
     ensures { Filled v.now.bytes.now result c.new }
 {
-    let records = log_scan::run(v);
-    if !log_scan::scan(v, records, &mut c.last) {
+    let m = Measured::of(v);
+    let records = log_scan::run(&m);
+    if !log_scan::scan(&m, records, &mut c.last) {
         return Err(Refusal::BadLog);
     }
-    let numbers = notes::run(v);
-    let fit = notes::scan(v, records, numbers, c);
+    let numbers = notes::run(&m);
+    let fit = notes::scan(&m, records, numbers, c);
     if !(fit & c.ordered(v.geometry.pages as usize)) {
         return Err(Refusal::BadNotes);
     }

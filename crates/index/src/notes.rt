@@ -17,16 +17,16 @@ use entering::Reach;
 use index_rows::columns::Columns;
 use index_rows::entries;
 use item::note;
-use log_scan::Swept;
+use log_scan::{Measured, Swept};
 use model::item::Note;
 use model::state::Entry;
 use section::guess::Guess;
 use section::{Extent, Run, Section, guess};
 use sums::products;
-use volume::{Volume, place, ring};
+use volume::{place, ring};
 
 // Where the notes lie.
-fn locate<'a>(v: &Volume<'a>) -> Section<'a>
+fn locate<'a>(v: &Measured<'a>) -> Section<'a>
     ensures bytes { result.bytes.now ≡ v.now.bytes.now }
     ensures extent { result.extent ≡ note_section v.now.geometry }
 {
@@ -43,17 +43,17 @@ fn locate<'a>(v: &Volume<'a>) -> Section<'a>
 }
 
 // The numbers that the notes hold.
-pub fn run(v: &Volume<'_>) -> Run
+pub fn run(v: &Measured<'_>) -> Run
     ensures { result ≡ note_run v.now.geometry v.now.bytes.now }
 {
     locate(v).held()
 }
 
 // The page of record n.
-fn page(v: &Volume<'_>, n: u32) -> u16
+fn page(v: &Measured<'_>, n: u32) -> u16
     ensures { result ≡ (log_record v.now.geometry v.now.bytes.now n).page }
 {
-    field::u16_at(v.record(n), 8)
+    field::u16_at(place::record(v.bytes, v.geometry, n), 8)
 }
 
 // A note may follow those that gave its page's entry; `used`: its slot is in the index.
@@ -68,7 +68,7 @@ fn follows(e: Entry, n: Note, slots: u32, used: bool) -> bool
 }
 
 // The note's number is below a log's run from `first` on, where it is not looked up, or that of a record of its page.
-fn agrees(v: &Volume<'_>, first: u64, n: Note) -> bool
+fn agrees(v: &Measured<'_>, first: u64, n: Note) -> bool
     ensures { result
         ≡ (ltb n.lsn first || eqb (log_record v.now.geometry v.now.bytes.now n.lsn).page n.page) }
 {
@@ -89,7 +89,7 @@ fn fits(whole: bool, n: Note, k: u32, pages: u32, durable: u32, named: bool, fol
 
 // Scans the notes after the log's run into the columns that they fill: whether they keep the restart rule, but for what
 // is judged at the end.
-pub fn scan(v: &Volume<'_>, log: Run, run: Run, c: &mut Columns) -> bool
+pub fn scan(v: &Measured<'_>, log: Run, run: Run, c: &mut Columns) -> bool
     requires log_value { log ≡ log_run v.now.geometry v.now.bytes.now }
     requires run_value { run ≡ note_run v.now.geometry v.now.bytes.now }
     requires blank { Blank c.old }
@@ -121,7 +121,7 @@ pub fn scan(v: &Volume<'_>, log: Run, run: Run, c: &mut Columns) -> bool
 
 // Passes over the notes from a guessed start on, after a log that a sweep found, into the columns, as far as they are
 // whole: the number behind the last; none where one does not fit. It goes by place: a step takes no division.
-fn pass(v: &Volume<'_>, log: Swept, u: Guess, c: &mut Columns) -> Option<u32>
+fn pass(v: &Measured<'_>, log: Swept, u: Guess, c: &mut Columns) -> Option<u32>
     requires log_counts { LogCounts v.now.geometry v.now.bytes.now log.first log.next }
     requires guessed { Guessed (note_section v.now.geometry) u }
     requires blank { Blank c.old }
@@ -154,7 +154,7 @@ fn pass(v: &Volume<'_>, log: Swept, u: Guess, c: &mut Columns) -> Option<u32>
 
 // Sweeps the notes after a log that a sweep found, in one pass, into the columns: the number behind the last where
 // these are all notes and keep the restart rule, but for what is judged at the end. Else nothing is known of them.
-pub fn sweep(v: &Volume<'_>, log: Swept, c: &mut Columns) -> Option<u32>
+pub fn sweep(v: &Measured<'_>, log: Swept, c: &mut Columns) -> Option<u32>
     requires log_counts { LogCounts v.now.geometry v.now.bytes.now log.first log.next }
     requires blank { Blank c.old }
     ensures swept { IfSome result (λ next. NotesSwept v.now.geometry v.now.bytes.now next c.new) }

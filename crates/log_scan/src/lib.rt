@@ -6,21 +6,44 @@ ghost use Rattle.model.specs.Item.{record_of};
 ghost use Rattle.model.specs.Scan as scans;
 ghost use Rattle.section.specs.Sweep.{Guessed};
 ghost use Rattle.log_scan.specs.LogPassed.{LogPassed, right_of, links_to};
-ghost use Rattle.log_scan.specs.LogSection.{log_section, log_run, record_follows};
+ghost use Rattle.log_scan.specs.LogSection.{Sized, log_section, log_run, record_follows};
 ghost use Rattle.log_scan.specs.LogSwept.{LogSwept};
 ghost use Rattle.log_scan.specs.Rows.{row_of, lasts};
 
 use codec::field;
 use item::change::FORMAT;
 use item::record;
+use model::geometry::Geometry;
 use model::item::LogRecord;
 use section::guess::Guess;
 use section::{Extent, Run, Section, guess};
 use sums::products;
 use volume::{Volume, place, ring};
 
+// What a scan asks of a volume: counts in range and a length by them. A valid volume has both; its heading is not asked,
+// nor that the counts are those that the bytes give.
+#[derive(Clone, Copy)]
+pub struct Measured<'a> {
+    pub bytes: &'a [u8],
+    pub geometry: Geometry,
+    pub ghost sized: { Sized geometry bytes.now },
+}
+
+impl<'a> Measured<'a> {
+    // A valid volume is measured.
+    pub fn of(v: &Volume<'a>) -> Measured<'a>
+        ensures bytes { result.bytes.now ≡ v.now.bytes.now }
+        ensures geometry { result.geometry ≡ v.now.geometry }
+    {
+        Measured {
+            bytes: v.bytes,
+            geometry: v.geometry,
+        }
+    }
+}
+
 // The log of a volume. (The notes' differs in start, size and count: a shared function would take all three.)
-fn locate<'a>(v: &Volume<'a>) -> Section<'a>
+fn locate<'a>(v: &Measured<'a>) -> Section<'a>
     ensures bytes { result.bytes.now ≡ v.now.bytes.now }
     ensures extent { result.extent ≡ log_section v.now.geometry }
 {
@@ -37,14 +60,14 @@ fn locate<'a>(v: &Volume<'a>) -> Section<'a>
 }
 
 // The run start, with n records.
-pub fn first(v: &Volume<'_>, n: u32) -> u64
+pub fn first(v: &Measured<'_>, n: u32) -> u64
     ensures { result ≡ scans.first_held v.now.geometry v.now.bytes.now n }
 {
     locate(v).first(n, 0)
 }
 
 // The numbers that the log holds.
-pub fn run(v: &Volume<'_>) -> Run
+pub fn run(v: &Measured<'_>) -> Run
     ensures { result ≡ log_run v.now.geometry v.now.bytes.now }
 {
     locate(v).held()
@@ -75,7 +98,7 @@ fn fits(whole: bool, layout: bool, e: LogRecord, pages: u32, below: u64, last: u
 }
 
 // Scans the log into the column of last numbers: whether it keeps the restart rule.
-pub fn scan(v: &Volume<'_>, run: Run, last: &mut [u32; 64]) -> bool
+pub fn scan(v: &Measured<'_>, run: Run, last: &mut [u32; 64]) -> bool
     requires run_value { run ≡ log_run v.now.geometry v.now.bytes.now }
     requires last_value { last.old ≡ replicate 64 0 }
     ensures valid { result ≡ scans.valid_log v.now.geometry v.now.bytes.now }
@@ -135,7 +158,7 @@ fn links(prev: u32, last: u32, below: u32, kind: u32) -> bool
 // The records from a guessed slot on, each whole, right and of the number that follows, into the column of last
 // numbers: sum and fields in one pass. The number at which it stopped, since the slot there is not whole, or there is
 // none; nothing where another test failed. It goes by place and number: a step takes no product.
-fn pass(v: &Volume<'_>, u: Guess, last: &mut [u32; 64]) -> Option<u32>
+fn pass(v: &Measured<'_>, u: Guess, last: &mut [u32; 64]) -> Option<u32>
     requires guessed { Guessed (log_section v.now.geometry) u }
     requires last_value { last.old ≡ replicate 64 0 }
     ensures { IfSome result (λ next. LogPassed v.now.geometry v.now.bytes.now u.first next last.new) }
@@ -176,7 +199,7 @@ pub struct Swept {
 
 // Reads the log in one pass into the column of last numbers, from where its run is guessed to start. Where it gives
 // nothing, nothing is known of the log.
-pub fn sweep(v: &Volume<'_>, last: &mut [u32; 64]) -> Option<Swept>
+pub fn sweep(v: &Measured<'_>, last: &mut [u32; 64]) -> Option<Swept>
     requires { last.old ≡ replicate 64 0 }
     ensures { IfSome result (λ s. LogSwept v.now.geometry v.now.bytes.now s.first s.next last.new) }
 {

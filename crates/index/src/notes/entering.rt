@@ -9,15 +9,15 @@ ghost use Rattle.log_scan.specs.LogSwept.{LogCounts};
 use codec::field;
 use index_rows::columns::Columns;
 use item::note;
-use log_scan::Swept;
+use log_scan::{Measured, Swept};
 use model::item::Note;
-use volume::{Volume, place};
+use volume::place;
 
 // Where the log's run lies, for a pass over the notes: its first number and where that is, the number behind its last,
 // and where the log's slots start and end.
 #[derive(Clone, Copy)]
 pub struct Reach<'a> {
-    pub volume: Volume<'a>,
+    pub volume: Measured<'a>,
     pub first: u32,
     pub next: u32,
     pub from: usize,
@@ -31,7 +31,7 @@ pub struct Reach<'a> {
 
 impl<'a> Reach<'a> {
     // The place of the log's run is computed once, so that no note takes a division.
-    pub fn of(v: &Volume<'a>, log: Swept) -> Reach<'a>
+    pub fn of(v: &Measured<'a>, log: Swept) -> Reach<'a>
         requires { LogCounts v.now.geometry v.now.bytes.now log.first log.next }
         ensures { result.volume ≡ v.now }
     {

@@ -4,7 +4,6 @@ use Prim.Native.Nat.{◌+◌, ◌-◌, ◌≤◌, ◌<◌}
 use native.Mathlib.Omega.{arith}
 use lib.ListN.{length, take, drop}
 use Rattle.log_scan.specs.LogSection.{Sized}
-use Rattle.log_scan.proofs.Located.{sized}
 use Rattle.log_scan.proofs.LogSweep.{right-page, going-none, going-room, going-here}
 use Rattle.log_scan.proofs.LogSweep.{going-stops, going_on}
 use Rattle.log_scan.proofs.pass.Goals.{Start, At-loop-n, Else-not-right}
@@ -12,18 +11,18 @@ use Rattle.log_scan.proofs.pass.Goals as goal
 
 -- the counts
 sizes : (c : Start) → Sized c.args.v.now.geometry c.args.v.now.bytes.now
-sizes c = sized _ _ c.args.v.now.valid c.args.v.now.read
+sizes c = c.args.v.now.sized
 
 -- the slice that is read is in the volume
 room : (c : At-loop-n) → c.loop-n.from + 64 ≤ length c.args.v.now.bytes.now
-room c = going-room _ _ (sized _ _ c.args.v.now.valid c.args.v.now.read) _ _ _ _ c.loop-n.invariant
+room c = going-room _ _ c.args.v.now.sized _ _ _ _ c.loop-n.invariant
 
 -- the page has a row
 page-in : (c : Else-not-right) → c.named-page.result.0 - 1 < 64
 page-in c =
     let h = right-page (take (c.loop-n.from + 64 - c.loop-n.from) (drop c.loop-n.from c.args.v.now.bytes.now)) c.loop-n.n
     (c.named-page.result.0) c.args.v.now.geometry.pages (sym c.right.ensures ∙ c.if-not-right.false) in
-    omega (arith, h.0, h.1, (sized _ _ c.args.v.now.valid c.args.v.now.read).pages)
+    omega (arith, h.0, h.1, c.args.v.now.sized.pages)
 
 pub overflow_add-past : goal.overflow_add-past
 overflow_add-past c = omega (arith, (sizes (goal.at.overflow_add-past c).Start).records, c.requires.guessed.low)

@@ -8,7 +8,7 @@ use Rattle.model.specs.Geometry.{log_slot, item}
 use Rattle.model.specs.Scan.{log_index, record_fits}
 use Rattle.log_scan.specs.LogSection.{Sized}
 use Rattle.log_scan.proofs.RowLaws.{row_below}
-use Rattle.log_scan.proofs.Located.{sized, record-here, record-length}
+use Rattle.log_scan.proofs.Located.{record-here, record-length}
 use Rattle.log_scan.proofs.LogPass.{log-known, judged-none, judged-more, run-low, log-judged, log-breaks}
 use Rattle.log_scan.proofs.LogPass.{log-ends, log-columns}
 use Rattle.section.proofs.SectionLaws.{slot-starts, slot-low, slot_next, slot-of}
@@ -17,7 +17,7 @@ use Rattle.log_scan.proofs.scan.Goals as goal
 
 -- the counts
 sizes : (c : Start) → Sized c.args.v.now.geometry c.args.v.now.bytes.now
-sizes c = sized _ _ c.args.v.now.valid c.args.v.now.read
+sizes c = c.args.v.now.sized
 
 pub overflow_sub-below : goal.overflow_sub-below
 overflow_sub-below c = omega (arith, run-low _ _ _ c.requires.run_value)
@@ -34,7 +34,7 @@ loop-i-init c =
 
 -- the slot that is looked at is one of the log's, and that of the record
 low : (c : At-loop-i) → c.loop-i.slot < c.args.v.now.geometry.records
-low c = slot-low _ _ _ refl _ _ c.loop-i.invariant.1 (sized _ _ c.args.v.now.valid c.args.v.now.read).some
+low c = slot-low _ _ _ refl _ _ c.loop-i.invariant.1 c.args.v.now.sized.some
 
 slot_is : (c : After-nth-n) → c.loop-i.slot ≡ (c.nth-n.result - 1) % c.args.v.now.geometry.records
 slot_is c = slot-of _ _ _ refl _ _ c.loop-i.invariant.1 _ c.nth-n.ensures
@@ -76,7 +76,7 @@ judged : (c : After-fits)
     let v = c.args.v.now.bytes.now in
     c.fits.result ≡ record_fits g v f (log_index g v f c.loop-i.i) (f + c.loop-i.i)
 judged c =
-    log-judged _ _ (sized _ _ c.args.v.now.valid c.args.v.now.read).pages _ _ _
+    log-judged _ _ c.args.v.now.sized.pages _ _ _
     c.loop-i.invariant.0.same _ c.nth-n.ensures _ refl _
     (record-here _ _ _ _ _ _ (rw c.locate-log.ensures.bytes at c.item-r.ensures) c.locate-log.ensures.extent
     (slot-of _ _ _ refl _ _ c.loop-i.invariant.1 _ c.nth-n.ensures)) _

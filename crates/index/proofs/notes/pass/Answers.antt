@@ -9,7 +9,6 @@ use Rattle.laws.proofs.Tables.{within-bounds}
 use Rattle.model.specs.Checksum.{sealed}
 use Rattle.model.specs.Geometry.{note_at, note_slot, start, item}
 use Rattle.log_scan.specs.LogSection.{Sized}
-use Rattle.log_scan.proofs.Located.{sized}
 use Rattle.index.specs.NotesPassed.{Belongs}
 use Rattle.index.proofs.NotePass.{entered-none}
 use Rattle.index.proofs.NoteSweep.{next-is, note-read, passed-more}
@@ -17,7 +16,7 @@ use Rattle.index.proofs.notes.pass.Goals.{Start, In-loop-n, After-array-r, Else-
 use Rattle.index.proofs.notes.pass.Goals as goal
 
 sizes : (c : Start) → Sized c.args.v.now.geometry c.args.v.now.bytes.now
-sizes c = sized _ _ c.args.v.now.valid c.args.v.now.read
+sizes c = c.args.v.now.sized
 
 -- the next note is looked for at its number's place, which is in the volume
 here : (c : In-loop-n) → let g = c.args.v.now.geometry in c.loop-n.from ≡ start g (note_at 1) + 16 * ((c.loop-n.n - 1) % g.notes)
@@ -26,7 +25,7 @@ here c = c.loop-n.invariant.place (omega arith)
 room : (c : In-loop-n) → c.loop-n.from + 16 ≤ length c.args.v.now.bytes.now
 room c =
     let g = c.args.v.now.geometry in
-    let z = sized _ _ c.args.v.now.valid c.args.v.now.read in
+    let z = c.args.v.now.sized in
     let m : (c.loop-n.n - 1) % g.notes < g.notes = mod-lt (c.loop-n.n - 1) (omega arith) in
     omega (arith, here c, z.size)
 

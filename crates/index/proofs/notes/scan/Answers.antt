@@ -6,7 +6,6 @@ use Rattle.model.specs.Geometry.{note_slot, item}
 use Rattle.model.specs.Scan.{note_index, note_fits}
 use Rattle.section.specs.declared.Run.{Run}
 use Rattle.log_scan.proofs.RowLaws.{row_below}
-use Rattle.log_scan.proofs.Located.{sized}
 use Rattle.index.proofs.Located.{note-here}
 use Rattle.index.proofs.NotePass.{note-whole, entered-none, entered-more, run-low, run-some}
 use Rattle.index.proofs.NotePass.{note-judged, notes-break, notes-end, notes-columns}
@@ -40,7 +39,7 @@ judged : (c : After-fits) → c.item-r.result.now ≡ item c.args.v.now.geometry
     let v = c.args.v.now.bytes.now in
     c.fits.result ≡ note_fits g v (note_index g v f c.loop-i.i) (f + c.loop-i.i)
 judged c h =
-    note-judged _ _ (sized _ _ c.args.v.now.valid c.args.v.now.read).pages _ _ _ c.loop-i.invariant.entered.same _ c.nth-k.ensures
+    note-judged _ _ c.args.v.now.sized.pages _ _ _ c.loop-i.invariant.entered.same _ c.nth-k.ensures
     _ h _ c.read-n.ensures _ (rw c.from.ensures at c.row-j.ensures) _ c.earlier-was.ensures _ _
     (ap (λ (r : Run). r.count) c.requires.log_value) (ap (λ (r : Run). r.first) c.requires.log_value) _ _ _ _ _
     c.whole-whole.ensures (rw c.from-in-loop-i.ensures at c.taken.ensures) c.follows-follows.ensures c.agrees-named.ensures c.fits.ensures
@@ -92,7 +91,7 @@ loop-i-preserved c =
     let p = goal.at.loop-i-preserved c in
     let h = c.requires in
     record {
-      entered = rw c.enter.ensures (entered-more _ _ (sized _ _ c.args.v.now.valid c.args.v.now.read).pages _ _ _
+      entered = rw c.enter.ensures (entered-more _ _ c.args.v.now.sized.pages _ _ _
           c.loop-i.invariant.entered.same _ c.nth-k.ensures _ (here p.After-item-r (slot_is p.After-nth-k)) _ c.read-n.ensures
           _ (rw c.from.ensures at c.row-j.ensures) _ c.earlier-was.ensures _ _
           (ap (λ (r : Run). r.count) h.log_value) (ap (λ (r : Run). r.first) h.log_value) _ _ _ _ _

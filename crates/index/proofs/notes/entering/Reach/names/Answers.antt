@@ -4,7 +4,7 @@ use native.Mathlib.Omega.{arith}
 use borrow.Author.Tests.{eqb-true, leb-true}
 use Rattle.laws.proofs.Fields.{field-part}
 use Rattle.model.specs.Bytes.{field}
-use Rattle.log_scan.proofs.Located.{sized, record-fits}
+use Rattle.log_scan.proofs.Located.{record-fits}
 use Rattle.index.proofs.NoteSweep.{names-below, names_in}
 use Rattle.index.proofs.notes.entering.Reach.names.Goals as goal
 
@@ -16,7 +16,7 @@ returns-then-n-self c = λ t.
 pub array-r-requires : goal.array-r-requires
 array-r-requires c =
     let v = c.args.self.now.volume in
-    omega (arith, c.near.ensures, record-fits _ _ (sized _ _ v.valid v.read) c.args.e.lsn)
+    omega (arith, c.near.ensures, record-fits _ _ v.sized c.args.e.lsn)
 
 pub returns : goal.returns
 returns c = λ t.
