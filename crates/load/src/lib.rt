@@ -17,6 +17,7 @@ ghost use Rattle.model.specs.Outcome.{reply_of};
 ghost use Rattle.model.specs.Calls.{load_of};
 ghost use Rattle.repair.specs.Walked.{view_for, walked_for};
 
+use log_scan::Measured;
 use model::answer::{Answer, Class, Refusal, Repair, Reply, Stop};
 use model::geometry::Geometry;
 use model::state::State;
@@ -67,7 +68,7 @@ fn find<'a>(
     own(v.geometry, memory::frames(size), s, page, frame)?;
     let t = Target {
         volume: v,
-        first: log_scan::first(&v, s.durable),
+        first: log_scan::first(&Measured::of(&v), s.durable),
         entry: entries::entry(s, page),
         page,
     };

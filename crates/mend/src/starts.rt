@@ -7,6 +7,7 @@ ghost use Rattle.mend.specs.Parts.{start_at};
 
 use crate::Target;
 use item::image;
+use log_scan::Measured;
 use model::answer::{Class, Stop};
 use model::geometry::Geometry;
 use model::state::Entry;
@@ -56,7 +57,7 @@ pub fn after(v: &Volume<'_>, d: u32) -> u64
     let records = u64::from(v.geometry.records);
     let margin = records / 4;
     let later = u64::from(d) + margin + 1;
-    log_scan::first(v, d).max(later.saturating_sub(records))
+    log_scan::first(&Measured::of(v), d).max(later.saturating_sub(records))
 }
 
 // The walk that takes no backup, on a run that starts there, does not go below it.

@@ -44,7 +44,7 @@ invariant_of-t c =
     let m = replicate a.size 0 in
     let o = opened a.volume.now m a.s a.page a.frame (none (goal.at.invariant_of-t c).In_ok-own m (length-replicate a.size 0)) in
     let r = target-ready a.volume.now a.s a.page c.of-v.result c.first.result c.entry.result a.page c.of-v.ensures
-    (rw (c.of-v.result.read, c.of-v.ensures) at c.first.ensures) c.entry.ensures refl o.ready in
+    (rw (c.of.ensures.bytes, c.of.ensures.geometry, c.of-v.result.read, c.of-v.ensures) at c.first.ensures) c.entry.ensures refl o.ready in
     record { low = r.low; high = r.high; durable = r.durable; slot = r.slot }
 
 -- the walk decides
@@ -53,7 +53,7 @@ walked : (c : After-walk-walked) (m : List ℕ) → first_of (early_rows c.args.
 walked c m e =
     let a = c.args in
     decides a.volume.now a.s a.page c.of-v.result c.first.result c.entry.result a.page c.of-v.ensures
-    (rw (c.of-v.result.read, c.of-v.ensures) at c.first.ensures) c.entry.ensures refl _ c.walk-walked.ensures m a.frame e
+    (rw (c.of.ensures.bytes, c.of.ensures.geometry, c.of-v.result.read, c.of-v.ensures) at c.first.ensures) c.entry.ensures refl _ c.walk-walked.ensures m a.frame e
 
 pub returns-in-Broken-clause-refusal : goal.returns-in-Broken-clause-refusal
 returns-in-Broken-clause-refusal c = λ m e.
@@ -70,7 +70,7 @@ returns-in_default c =
           ∙ walk-clean _ c.in_default.not-Broken c.in_default.not-Below);
       found = record {
         volume = c.of-v.ensures;
-        first = rw (c.of-v.result.read, c.of-v.ensures) at c.first.ensures;
+        first = rw (c.of.ensures.bytes, c.of.ensures.geometry, c.of-v.result.read, c.of-v.ensures) at c.first.ensures;
         entry = c.entry.ensures;
         number = refl;
         walked = c.walk-walked.ensures;
