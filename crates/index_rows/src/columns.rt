@@ -29,6 +29,16 @@ fn used(slots: &[u8; 64], slot: u32) -> bool
     n != 0
 }
 
+// The slot, if it is one, is in the column: a written note, which names none, takes no search.
+pub fn taken(slots: &[u8; 64], slot: u32) -> bool
+    ensures { result ≡ (leb 1 slot && slot_in slot slots.now) }
+{
+    if slot == 0 {
+        return false;
+    }
+    used(slots, slot)
+}
+
 // The last number of a page, of its last record in the run (0: none) and its noted backup.
 fn standing(last: u32, backup: u32) -> u32
     ensures { result ≡ cond (eqb last 0) backup last }
@@ -45,14 +55,11 @@ impl Columns {
         backup: [0; 64],
     };
 
-    // The slot, if it is one, is in the column: a written note, which names none, takes no search.
+    // The same of these columns.
     pub fn taken(&self, slot: u32) -> bool
         ensures { result ≡ (leb 1 slot && slot_in slot self.now.slots) }
     {
-        if slot == 0 {
-            return false;
-        }
-        used(&self.slots, slot)
+        taken(&self.slots, slot)
     }
 
     // Row i as earlier notes left it; no note reads or changes the numbers of its records.
