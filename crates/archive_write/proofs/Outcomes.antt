@@ -6,7 +6,7 @@ use Prim.Native.Nat.{ℕ, zero, suc, ◌≤◌}
 use native.Mathlib.Omega.{arith}
 use lib.Dec.{eqb}
 use lib.ListN.{length}
-use Rattle.std.specs.Prelude.{Ok}
+use Rattle.std.specs.Prelude.{Ok, Err}
 use borrow.Author.Tests.{eq-eqb, ne_eqb, eqb-true, not-false}
 use Rattle.laws.proofs.Tables.{by_cases, none-at}
 use Rattle.laws.proofs.Places.{valid-facts}
@@ -96,6 +96,10 @@ module _ (v : List ℕ) where
 
     pub size-measured : (e : Extent) → e ≡ extent_of v → size_of v ≡ Ok e.size
     size-measured e ee = size-told ∙ sym (ap (λ (x : Extent). Ok x.size) ee)
+
+  pub size-none : (n : ℕ) → n ≡ whole_refusal v → (n ≡ 0 → ⊥) → Err n ≡ size_of v
+  unfolding size_of
+  size-none n e ne = rw (ne_eqb (whole_refusal v) 0 (λ z. ne (e ∙ z))) (ap Err e)
 
   pub size-refused : size_refusal (size_of v) ≡ whole_refusal v
   unfolding size_of

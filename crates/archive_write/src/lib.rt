@@ -5,7 +5,7 @@ ghost use Rattle.std.specs.Prelude.{◌≡◌, Ok, IfOk};
 ghost use Rattle.model.specs.Refused.{error_number};
 ghost use Rattle.model.specs.Outcome.{refusal_of};
 ghost use Rattle.reports.specs.Archive.{size_of, size_refusal, archive_of};
-ghost use Rattle.archive_write.specs.Extent.{whole_refusal, extent_of, size_number};
+ghost use Rattle.archive_write.specs.Extent.{whole_refusal, extent_of, size_told, size_number};
 
 mod segment;
 
@@ -36,6 +36,7 @@ fn measure(volume: &[u8]) -> Result<Extent, Refusal>
 // The length of a volume's archive.
 // Ruled out: a length without the segments' counts (tried); a length for a log whose record 1 has left it (tried).
 pub fn length(volume: &[u8]) -> Result<u32, Refusal>
+    ensures told { size_told result ≡ size_of volume.now }
     ensures refusal { error_number result ≡ size_refusal (size_of volume.now) }
     ensures size { IfOk result (λ n. size_of volume.now ≡ Ok n) }
 {
