@@ -41,7 +41,7 @@ def declared(crate, indent=""):
     functions and modules."""
     rattle = {**sources(crate, "specs"), **sources(crate, "proofs")}
     claims = (re.findall(r"^pub [\w-]+ : (\w+)$", text, re.M) for text in rattle.values())
-    types = re.findall(r"\b(?:struct|enum|fn|mod) (\w+)|^    ([A-Z]\w*)[,({]", "".join(sources(crate, "src").values()), re.M)
+    types = re.findall(r"\b(?:struct|enum|trait|fn|mod) (\w+)|^    ([A-Z]\w*)[,({]", "".join(sources(crate, "src").values()), re.M)
     names = (declarations(text, indent) for text in rattle.values())
     return {path.stem for path in rattle}.union(*names, *claims, *types)
 
@@ -77,7 +77,7 @@ def check_functions(document, text):
     for path, front, name in named_functions(text):
         files = sources(front[0], "src")
         inside = [text for p, text in files.items() if p.stem == front[-1]] if len(front) > 1 else list(files.values())
-        word = re.compile(rf"\b(?:fn|struct|enum|const|mod) {name}\b")
+        word = re.compile(rf"\b(?:fn|struct|enum|trait|const|mod) {name}\b")
         if files and not (name == "*" and inside) and not any(map(word.search, inside or files.values())):
             yield f"{document}: `{path}`: there is no {name} in crates/{front[0]}/src"
 
