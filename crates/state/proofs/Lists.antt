@@ -1,10 +1,11 @@
 -- The library's searches of a list come to the tests of the model.
 use Prim.Native.Nat.{ℕ, zero, suc, ◌+◌, ◌<◌, ◌≤◌}
 use mathlib.Core.Path.{◌≡◌, refl, sym, ap, ◌∙◌}
-use mathlib.Core.Bool.{Bool, true, false}
+use mathlib.Core.Bool.{Bool, true, false, ◌&&◌, ◌||◌}
 use mathlib.Core.List.{List, [], ◌∷◌}
 use native.Mathlib.Omega.{arith}
-use lib.Dec.{eqb}
+use lib.Dec.{eqb, leb}
+use borrow.Author.Tests.{leb-false, lt-leb}
 use lib.ListN.{length, get_or}
 use Rattle.std.specs.Bool.{MatchBool}
 use lib.ListN.{take}
@@ -12,7 +13,7 @@ use lib.Seq.{get_or-take, length-take-le}
 use Rattle.laws.proofs.Tables.{every-same}
 use Rattle.std.specs.List.{range_with_len, AllWithin, HoldsAt}
 use Rattle.std.proofs.lemmas.List.FromFn.{length-range_with_len, get_or-range_with_len}
-use Rattle.laws.proofs.Tables.{every-all, every-fails}
+use Rattle.laws.proofs.Tables.{every-all, every-at, every-fails, by_cases, or_left, or_right, true-not-false}
 use Rattle.model.specs.Tables.{every}
 use Rattle.model.specs.State.{holder_from}
 use Rattle.model.specs.declared.state.Frame.{Frame}
@@ -59,3 +60,31 @@ holder-some i p (suc k) (f ∷ fs) l at h =
     let e : i + suc k + 1 ≡ suc i + k + 1 = omega arith in
     rw (h 0 f (omega arith) (omega arith)) (e ∙ holder-some (suc i) p k fs (omega arith) (λ d. at d) (λ j d a b. h (suc j) d (omega arith) (omega arith)))
 holder-some i p k [] l at h = absurd (omega arith)
+
+-- two tests of every number in one loop, the first of those below n alone
+turned : (a b c d : Bool) → ((a && b) && (c && d)) ≡ ((a && c) && (b && d))
+turned true true c d = refl
+turned true false true d = refl
+turned true false false d = refl
+turned false b c d = refl
+
+every-both : (p q : ℕ → Bool) (m : ℕ) → every m (λ i. p i && q i) ≡ (every m p && every m q)
+unfolding every
+every-both p q zero = refl
+every-both p q (suc m) = rw (every-both p q m) (turned (every m p) (every m q) (p m) (q m))
+
+-- from n on nothing is tested
+every-less : (p : ℕ → Bool) (n m : ℕ) → n ≤ m → every m (λ i. leb n i || p i) ≡ every n p
+every-less p n m l =
+    let t = λ (i : ℕ). leb n i || p i in
+    let same : every n t ≡ every n p = every-same t p n (λ i k. rw (lt-leb n i k)) in
+    by_cases (every n p)
+    (λ e. every-all t m (λ i k. by_cases (leb n i) (λ h. or_left (p i) h)
+    (λ h. or_right (leb n i) (every-at p n e i (leb-false n i h)))) ∙ sym e)
+    (λ e. by_cases (every m t)
+    (λ h. absurd (true-not-false (every-all t n (λ i k. every-at t m h i (omega arith))) (same ∙ e)))
+    (λ h. h ∙ sym e))
+
+pub every-two : (p q : ℕ → Bool) (n m : ℕ) → n ≤ m → every m (λ i. (leb n i || p i) && q i) ≡ (every n p && every m q)
+every-two p q n m l =
+    every-both (λ i. leb n i || p i) q m ∙ ap (λ (b : Bool). b && every m q) (every-less p n m l)

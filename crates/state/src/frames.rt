@@ -23,7 +23,7 @@ pub fn frame(s: State, f: u32) -> Frame
 
 // The row of a frame table that holds the page, counted from 1; 0 if none does, as in the definitions, whose tails of
 // refusal rows take it so.
-pub(crate) fn search(table: &[Frame; 16], page: u32) -> u32
+pub fn search(table: &[Frame; 16], page: u32) -> u32
     ensures { result ≡ holder_from 0 page table.now }
 {
     match table.iter().position(|f| u32::from(f.page) == page) {

@@ -1,6 +1,6 @@
 // Whether a state is well formed (document 01: sound), clause by clause, for any state: no sum of two of its numbers
 // wraps.
-ghost use Rattle.std.specs.Prelude.{◌≡◌, ◌<◌};
+ghost use Rattle.std.specs.Prelude.{◌≡◌, ◌<◌, ◌||◌, ◌&&◌, leb};
 ghost use Rattle.model.specs.Tables.{every};
 ghost use Rattle.model.specs.State.{pending_note_fits, entry_zero, well_formed};
 ghost use Rattle.state.specs.Clauses.{sole_in, frame_clauses, frame_in};
@@ -80,13 +80,6 @@ fn row_fits(s: &State, g: Geometry, count: usize, i: usize) -> bool
     true
 }
 
-// Each row of the frames may be so.
-fn frames_fit(s: &State, g: Geometry, count: usize) -> bool
-    ensures { result ≡ every 16 (frame_in g count s.now.frames s.now.index) }
-{
-    (0..16).all(|i| row_fits(s, g, count, i))
-}
-
 // The entry may be that of one of the volume's pages, which is in a frame or not.
 fn entry_fits(s: &State, g: Geometry, in_frame: bool, e: Entry) -> bool
     ensures { result ≡ entry_clauses g s.now.durable s.now.pending in_frame e }
@@ -131,11 +124,23 @@ fn page_fits(s: &State, g: Geometry, i: usize) -> bool
     entry_fits(s, g, 0 < f, e)
 }
 
-// Each entry may be so.
-fn pages_fit(s: &State, g: Geometry) -> bool
-    ensures { result ≡ every 64 (page_in g s.now.durable s.now.pending s.now.frames s.now.index) }
+// Row i of the frames, where there is one, and the entry of page i + 1 may be so.
+fn both_fit(s: &State, g: Geometry, count: usize, i: usize) -> bool
+    requires { i < 64 }
+    ensures { result
+        ≡ ((leb 16 i || frame_in g count s.now.frames s.now.index i)
+        && page_in g s.now.durable s.now.pending s.now.frames s.now.index i) }
 {
-    (0..64).all(|i| page_fits(s, g, i))
+    (16 <= i || row_fits(s, g, count, i)) && page_fits(s, g, i)
+}
+
+// Each row of the frames and each entry may be so. One loop goes through both together.
+fn rows_fit(s: &State, g: Geometry, count: usize) -> bool
+    ensures { result
+        ≡ (every 16 (frame_in g count s.now.frames s.now.index)
+        && every 64 (page_in g s.now.durable s.now.pending s.now.frames s.now.index)) }
+{
+    (0..64).all(|i| both_fit(s, g, count, i))
 }
 
 // The state is well formed for the geometry and a number of frames. Its parts are judged where it lies, by a reference:
@@ -143,5 +148,5 @@ fn pages_fit(s: &State, g: Geometry) -> bool
 pub fn well_formed(s: State, g: Geometry, count: usize) -> bool
     ensures { result ≡ well_formed g count s }
 {
-    counts_fit(&s, g) && (frames_fit(&s, g, count) && pages_fit(&s, g))
+    counts_fit(&s, g) && rows_fit(&s, g, count)
 }

@@ -100,19 +100,29 @@ impl Store {
             ≡ volume_after volume.old (performed self volume.old
             memory.old command payload).stored }
     {
-        match command {
-            Command::Begin { page, frame, fill } => self.begin(volume, memory, page, frame, fill),
-            Command::Load { page, frame } => self.load(volume, memory, page, frame),
-            Command::Change { page, change } => self.change(volume, memory, page, change, payload),
-            Command::Force => self.force(volume, memory),
-            Command::Write { page } => self.write(volume, memory, page),
-            Command::Backup { page, slot } => self.backup(volume, memory, page, slot),
-            Command::Release { page } => self.release(volume, memory, page),
-            Command::Note => self.note(volume, memory),
-            Command::StartCarry => self.start_carry(volume, memory),
-            Command::Restamp => self.restamp(volume, memory),
-            Command::FinishCarry => self.finish_carry(volume, memory),
-        }
+        // The rows 1 and 2 are tested once, before the call is chosen.
+        let checked = self.checked(volume, memory);
+        let s = self.state;
+        let reply = match command {
+            Command::Begin { page, frame, fill } => {
+                append::begin::begin(s, checked, volume, memory, page, frame, fill)
+            }
+            Command::Load { page, frame } => load::load(s, checked, volume, memory, page, frame),
+            Command::Change { page, change } => {
+                append::change::change(s, checked, volume, memory, page, change, payload)
+            }
+            Command::Force => force::force(s, checked, volume, memory),
+            Command::Write { page } => persist::write::write(s, checked, volume, memory, page),
+            Command::Backup { page, slot } => {
+                backup::backup(s, checked, volume, memory, page, slot)
+            }
+            Command::Release { page } => load::release::release(s, checked, volume, memory, page),
+            Command::Note => persist::note::note(s, checked, volume, memory),
+            Command::StartCarry => convert::start::start(s, checked, volume, memory),
+            Command::Restamp => convert::restamp::restamp(s, checked, volume, memory),
+            Command::FinishCarry => convert::finish::finish(s, checked, volume, memory),
+        };
+        Returned::from(reply)
     }
 
     // Begins a blank page in a frame. Ruled out: 12 on an empty log; a record given that will displace one that is
