@@ -7,8 +7,8 @@ use lib.Dec.{eqb}
 use lib.ListN.{length}
 use borrow.Author.Tests.{eq-eqb}
 use Rattle.laws.proofs.Tables.{by_cases}
-use Rattle.model.specs.Tables.{first_of}
 use Rattle.volume.proofs.Readings.{unknown-read}
+use Rattle.model.specs.Tables.{first_of}
 use Rattle.model.specs.Geometry.{known_magic, valid_volume}
 use Rattle.model.specs.Refusals.{inspect_rows}
 use Rattle.model.specs.Outcome.{refusal_of}
