@@ -8,9 +8,10 @@ use lib.Dec.{eqb}
 use lib.ListN.{length}
 use borrow.Author.Tests.{eq-eqb, ne_eqb}
 use Rattle.laws.proofs.Places.{in_item, place-fits, valid-facts, total}
+use Rattle.volume.proofs.Readings.{unknown-read}
 use Rattle.model.specs.Tables.{first_of}
 use Rattle.model.specs.Bytes.{part}
-use Rattle.model.specs.Geometry.{Place, item_of, width, start, item, geometry_of, valid_volume}
+use Rattle.model.specs.Geometry.{known_magic, Place, item_of, width, start, item, geometry_of, valid_volume}
 use Rattle.model.specs.declared.{geometry.Geometry.Geometry}
 use Rattle.std.specs.Prelude.{Result, Ok, Err}
 use Rattle.std.specs.Result.{IsErr, IsErrAnd}
@@ -74,6 +75,12 @@ module _ (v xs : List ℕ) where
 pub told_under : (v x ns : List ℕ) (g : Geometry) → g ≡ geometry_of v → ns ≡ backup_numbers g x
     → ns ≡ backup_numbers (geometry_of v) x
 told_under v x ns g eg en = en ∙ ap (λ (k : Geometry). backup_numbers k x) eg
+
+-- a heading that is not known: row 1, whatever follows it
+pub slot-unknown : (v xs : List ℕ) (at : Place) (tell : List ℕ → List ℕ) (b : Bool) → b ≡ known_magic v → b ≡ false
+    → (1 ≡ (listed_at at tell v xs).refusal) × (xs ≡ (listed_at at tell v xs).numbers)
+unfolding listed_at
+slot-unknown v xs at tell b eb t = rw (unknown-read v (sym eb ∙ t)) (refl, refl)
 
 module _ (v xs : List ℕ) (at : Place) (tell : List ℕ → List ℕ) where
   pub slot-refused : (r : Refusal) → refusal_number r ≡ cond (not (valid_volume v)) 1 (cond (not (eqb (length xs) 8)) 2 0)

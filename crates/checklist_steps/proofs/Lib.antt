@@ -1,3 +1,4 @@
 pub mod Damage
 pub mod Outcomes
 pub mod Same
+pub mod Verdicts

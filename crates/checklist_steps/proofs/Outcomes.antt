@@ -14,12 +14,13 @@ use Rattle.model.specs.Bytes.{splice}
 use Rattle.model.specs.Tables.{first_of}
 use Rattle.model.specs.Refusals.{restart_rows}
 use Rattle.model.specs.Outcome.{Outcome, reply_of, volume_after, decided}
-use Rattle.model.specs.Restart.{restart_of}
-use Rattle.model.specs.declared.command.Command.{Command}
+use Rattle.model.specs.Restart.{make_of, restart_of}
+use Rattle.model.specs.declared.{command.Command.Command, geometry.Heading.TheVariants.Second}
 use Rattle.store.specs.Store.{wrapped, performed}
 use Rattle.store.specs.declared.Store.{Store}
 use Rattle.store.specs.declared.Returned.{Returned}
-use Rattle.checklist_steps.specs.Steps.{live, applied, made, restarted, row_of}
+use Rattle.checklist_steps.specs.declared.steps.Live.{Live}
+use Rattle.checklist_steps.specs.Steps.{live, applied, made, restarted, begun, put_in, row_of, first_line, opening}
 
 pub applied-is : (v v' m' : List ℕ) (o : Outcome) (r : Returned) (t : Store) → r ≡ wrapped (reply_of o) → t ≡ r.store
     → m' ≡ o.memory
@@ -56,3 +57,9 @@ take-min n s =
 pub row_is : (s r : List ℕ) (n : ℕ) → n ≡ min (length s) 44 → r ≡ splice (replicate 44 0) 0 (take (n - 0) s) → r ≡ row_of s
 unfolding row_of
 row_is s r n en er = er ∙ ap (λ (x : List ℕ). splice (replicate 44 0) 0 x) (rw (sub-zero n, en) (take-min 44 s))
+
+-- the start of every check: a volume made, page 1 begun, and its first line
+pub opened-is : (w a b : Live) (v v' m : List ℕ) → w ≡ put_in a 1 0 first_line → a ≡ begun b 1 → b ≡ restarted v' m
+    → v' ≡ (make_of Second v 2 1 16 8).volume
+    → w ≡ opening v m
+opened-is w a b v v' m ew ea eb ev = rw (ew, ea, eb, ev)

@@ -7,14 +7,15 @@ use mir.Val.{bool_byte}
 use Prim.Native.Nat.{ℕ, suc, ◌+◌, ◌-◌, ◌≤◌, ◌<◌}
 use native.Mathlib.Numerals.{add-one}
 use native.Mathlib.Omega.{arith}
-use lib.Dec.{eqb}
+use lib.Dec.{eqb, ltb}
 use lib.ListN.{length, drop, get_or, drop_of_length-le}
 use lib.Seq.{drop-cons}
+use borrow.Author.Tests.{lt-ltb, ltb-true}
 use Rattle.laws.proofs.Tables.{by_cases}
 use Rattle.laws.proofs.Places.{valid-facts, place-fits, total}
 use Rattle.laws.proofs.Carry.{image-in, image-place}
 use Rattle.model.specs.Bytes.{part}
-use Rattle.model.specs.Geometry.{tag_of, with_tag, start, item, geometry_of, valid_volume}
+use Rattle.model.specs.Geometry.{tag_of, with_tag, Place, page_at, slot_at, start, item, geometry_of, valid_volume}
 use Rattle.model.specs.Item.{valid_image}
 use Rattle.model.specs.Index.{empty_entry}
 use Rattle.model.specs.Passes.{valid_as_noted, passes_at, only_old, image_count, image_place, old_at, first_from, first_old}
@@ -24,6 +25,23 @@ use Rattle.model.specs.declared.geometry.Heading.TheVariants.{First, Second}
 use Rattle.convert.specs.Failing.{failing_in, failing_count}
 
 -- ---- places
+
+pub page-place : (g : Geometry) (i : ℕ) → i < g.pages → image_place g i ≡ page_at (i + 1)
+page-place g i h = rw (lt-ltb i g.pages h, add-one)
+
+pub slot-place : (g : Geometry) (i : ℕ) → g.pages ≤ i → image_place g i ≡ slot_at (i - g.pages + 1)
+slot-place g i h =
+    let n : ltb i g.pages ≡ false =
+    by_cases (ltb i g.pages) (λ t. absurd (let l : i < g.pages = ltb-true i g.pages t in omega arith)) (λ t. t) in
+    rw (n, add-one)
+
+pub page-passes : (g : Geometry) (index : List Entry) (i : ℕ) (x : List ℕ) (r : Bool) → i < g.pages → r ≡ valid_image g (i + 1) x
+    → r ≡ passes_at g index (image_place g i) x
+page-passes g index i x r h e = e ∙ ap (λ (at : Place). passes_at g index at x) (sym (page-place g i h))
+
+pub slot-passes : (g : Geometry) (index : List Entry) (i : ℕ) (x : List ℕ) (r : Bool) → g.pages ≤ i
+    → r ≡ passes_at g index (slot_at (i - g.pages + 1)) x → r ≡ passes_at g index (image_place g i) x
+slot-passes g index i x r h e = e ∙ ap (λ (at : Place). passes_at g index at x) (sym (slot-place g i h))
 
 pub few : (v : List ℕ) (g : Geometry) → valid_volume v ≡ true → g ≡ geometry_of v → g.pages + g.slots ≤ 192
 few v g ok eg = rw eg (let f = valid-facts v ok in omega (arith, f.p-high, f.b-high))

@@ -3,5 +3,6 @@ pub mod Changes
 pub mod Records
 pub mod Covers
 pub mod Builds
+pub mod Slides
 pub mod Tails
 pub mod Words

@@ -1,17 +1,17 @@
 -- Laws of a record's payload looked at by eights: what is left from a place on, of the 60 bytes before the checksum.
 use mathlib.Core.Path.{◌≡◌, sym, ap, ◌∙◌}
-use mathlib.Core.Bool.{false}
+use mathlib.Core.Bool.{true, false}
 use mathlib.Core.List.{List}
-use Prim.Native.Nat.{ℕ, ◌+◌, ◌-◌, ◌≤◌}
+use Prim.Native.Nat.{ℕ, ◌+◌, ◌-◌, ◌≤◌, ◌<◌}
 use native.Mathlib.Omega.{arith}
 use lib.Dec.{eqb}
-use lib.ListN.{length, take, drop, length-drop}
-use lib.Seq.{drop-drop, length-take-le}
+use lib.ListN.{length, take, drop, get_or, length-drop}
+use lib.Seq.{drop-drop, get_or-take, length-take-le}
 use Rattle.laws.proofs.Fields.{field-take}
 use Rattle.laws.proofs.Parts.{drop-take}
 use Rattle.laws.proofs.Tables.{by_cases}
 use Rattle.laws.proofs.Zeros.{zero_is, drop-zeros, le-zeros}
-use Rattle.codec.proofs.Runs.{zero_field, last-is}
+use Rattle.codec.proofs.Runs.{zero-on, zero-not, zero-end, zero_field, last-is}
 use Rattle.model.specs.Bytes.{le, field, part, all_zero}
 
 -- ---- what is left of a list from place i on, where all from place a on is asked for
@@ -48,6 +48,16 @@ module _ (r : List ℕ) (len : 60 ≤ length r) where
   pub left-part : (i n : ℕ) → i + n ≡ 60 → all_zero (drop i (take 60 r)) ≡ all_zero (part r i n)
   unfolding part
   left-part i n e = let k : 60 - i ≡ n = omega arith in ap all_zero (drop-take i 60 r) ∙ rw k
+
+  -- one byte
+  pub byte-on : (i : ℕ) → i < 60 → get_or r i 0 ≡ 0 → all_zero (drop i (take 60 r)) ≡ all_zero (drop (i + 1) (take 60 r))
+  byte-on i h e = zero-on (take 60 r) i (omega (arith, cut)) (get_or-take 60 r i 0 h ∙ e)
+
+  pub byte-not : (i : ℕ) → i < 60 → (get_or r i 0 ≡ 0 → ⊥) → all_zero (drop i (take 60 r)) ≡ false
+  byte-not i h e = zero-not (take 60 r) i (omega (arith, cut)) (λ z. e (sym (get_or-take 60 r i 0 h) ∙ z))
+
+  pub none_left : (i : ℕ) → 60 ≤ i → all_zero (drop i (take 60 r)) ≡ true
+  none_left i h = zero-end (take 60 r) i (omega (arith, cut))
 
   -- eight bytes
   pub eight-on : (i : ℕ) → i + 8 ≤ 60 → field 8 i r ≡ 0 → all_zero (drop i (take 60 r)) ≡ all_zero (drop (i + 8) (take 60 r))

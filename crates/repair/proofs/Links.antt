@@ -5,6 +5,7 @@ use mathlib.Core.Bool.{Bool, true, false, cond, ◌||◌}
 use mathlib.Core.List.{List, [], ◌∷◌}
 use native.Mathlib.Omega.{arith}
 use lib.Dec.{eqb, ltb, leb}
+use lib.ListN.{length, get_or}
 use borrow.Author.Tests.{eqb-true, eq-eqb, ne_eqb, ltb-true, lt-ltb, le-ltb, leb-true}
 use Rattle.laws.proofs.Tables.{all-at, by_cases, or-other}
 use Rattle.model.specs.Checksum.{sealed}
@@ -65,6 +66,12 @@ module _ (log : ℕ → List ℕ) (p : ℕ) where
   abbrev pub Linked : ℕ → List ℕ → Type 0
   Linked top [] = Unit {0}
   Linked top (n ∷ ns) = (chain_record p n (log n) ≡ true) × (1 ≤ n) × (n ≤ top) × Linked top ns
+
+  pub linked-at : (top : ℕ) (l : List ℕ) → Linked top l → (j : ℕ) → j < length l
+      → (chain_record p (get_or l j 0) (log (get_or l j 0)) ≡ true) × (1 ≤ get_or l j 0) × (get_or l j 0 ≤ top)
+  linked-at top [] k j h = absurd (omega arith)
+  linked-at top (n ∷ ns) k zero h = (k.0, k.1, k.2)
+  linked-at top (n ∷ ns) k (suc j) h = linked-at top ns k.3 j (omega arith)
 
 module _ (log : ℕ → List ℕ) (first p own backup : ℕ) where
   -- a step that reads, reads a link

@@ -3,3 +3,4 @@ pub mod Lists
 pub mod Forced
 pub mod Fits
 pub mod Slots
+pub mod Tables

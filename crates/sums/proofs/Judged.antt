@@ -16,6 +16,11 @@ use Rattle.sums.proofs.Pairs.{Pair, Raised}
 use Rattle.sums.proofs.Weighed.{word-most, weights-most, weighed-most, low-most, high-most, weights-apart}
 use Rattle.sums.proofs.Weighed.{weighed-split, sealed-words}
 
+-- the weights of two products of n words and two
+pub record Weights (n : ℕ) : Type 0 where
+  pub few : n ≤ 30
+  pub apart : weights (65 + suc (suc n)) (suc (suc n)) ≡ weights (64 + suc (suc n)) (suc (suc n)) + suc (suc n)
+
 -- a test of multiples that failed, and one that was passed
 pub failed : {t : Bool} {z x : ℕ} → t ≡ false → t ≡ eqb (z % 65535) 0 → z ≡ x → eqb (x % 65535) 0 ≡ false
 failed h e f = sym (e ∙ ap (λ (k : ℕ). eqb (k % 65535) 0) f) ∙ h
@@ -167,6 +172,14 @@ pair_of m s p q few b e f =
       most = omega (arith, g, weighed-most (65 + m) s m b);
       low-most = low-most s m b;
     }
+
+pub record-weights : Weights 30
+unfolding weights
+record-weights = record { few = omega arith; apart = refl }
+
+pub note-weights : Weights 6
+unfolding weights
+note-weights = record { few = omega arith; apart = refl }
 
 -- what is added for a record's words, and for a note's
 pub record-constants : Constants 32 (pos 30539834) (pos 1245182)

@@ -18,17 +18,17 @@ use Rattle.model.specs.Bytes.{byte_at}
 use Rattle.model.specs.Geometry.{ring, geometry_of, valid_volume}
 use Rattle.model.specs.Scan.{log_record, note_record}
 use Rattle.model.specs.State.{frame_count, frame_at, frame_bytes, frame_of, log_full, note_pending, holder, held}
-use Rattle.model.specs.Refusals.{state_rows}
+use Rattle.model.specs.Refusals.{state_rows, load_rows}
 use Rattle.model.specs.Calls.{no_payload}
 use Rattle.upkeep_policy.specs.Upkeep.{Advice, make, note_position, log_position, first_needed_note, first_needed_log}
 use Rattle.upkeep_policy.specs.Upkeep.{bring_in, back_up, write_out, renew, upkeep_of, advised_by, advise_rows, advise_of}
 use Rattle.model.specs.declared.{change.Change.TheVariants.Put, geometry.Geometry.Geometry, state.Frame.Frame}
 use Rattle.model.specs.declared.{answer.Refusal.Refusal, state.State.State}
-use Rattle.model.specs.declared.command.Command.TheVariants.{Force}
+use Rattle.model.specs.declared.command.Command.TheVariants.{Load, Force}
 use Rattle.model.specs.declared.command.Command.TheVariants.{Change, Note}
 use Rattle.upkeep_policy.specs.declared.upkeep.Advised.{Advised}
 use Rattle.upkeep_policy.specs.declared.upkeep.Upkeep.{Upkeep}
-use Rattle.upkeep_policy.specs.declared.upkeep.Upkeep.TheVariants.{Refused, Idle, Make}
+use Rattle.upkeep_policy.specs.declared.upkeep.Upkeep.TheVariants.{Refused, Idle, Stuck, Make}
 use Rattle.upkeep.specs.Parts.{ring_advice}
 use Rattle.model.specs.declared.item.Note.{Note as NoteFields}
 
@@ -42,6 +42,14 @@ chosen t a b x h e = e ∙ sym (ap advised_by (when_true a b h))
 
 other : (t : Bool) (a b : Advice) (x : Advised) → t ≡ false → x ≡ advised_by b → x ≡ advised_by (cond t a b)
 other t a b x h e = e ∙ sym (ap advised_by (when_false a b h))
+
+-- R1
+module _ (v m : List ℕ) (s : State) (r p : ℕ) (x : Advised) (n : ℕ) (en : n ≡ first_of (load_rows v m s p r)) where
+  pub bring-stuck : n ≡ 23 → x ≡ bare (Stuck p) → x ≡ advised_by (bring_in v m s r p)
+  bring-stuck h e = chosen _ _ _ x (eq-eqb _ 23 (sym en ∙ h)) e
+
+  pub bring-load : (n ≡ 23 → ⊥) → x ≡ bare (Make (Load p r)) → x ≡ advised_by (bring_in v m s r p)
+  bring-load h e = other _ _ _ x (ne_eqb _ 23 (λ z. h (en ∙ z))) e
 
 -- R3 and R4
 module _ (v m : List ℕ) (s : State) (p : ℕ) (x : Advised) (g : Geometry) (eg : g ≡ geometry_of v) (f : ℕ) (row : Frame)
