@@ -1,5 +1,5 @@
 // A change of a page's body: its kind's rule, and the change made in place.
-ghost use Rattle.std.specs.Prelude.{◌≡◌, true, ◌≤◌, length};
+ghost use Rattle.std.specs.Prelude.{◌≡◌, true, ◌++◌, ◌+◌, ◌-◌, ◌≤◌, length, take, drop};
 ghost use Rattle.model.specs.Change.{change_fits, fits, kind_of, length_of, offset_of, fill_of, apply_change};
 
 use codec::part;
@@ -53,6 +53,18 @@ pub fn obeys(c: Change) -> bool
     )
 }
 
+// Moves the bytes from a place on up by n, the last one first; the last n drop off. (Not the library's `copy_within`: the
+// archive for C would want `memmove` from outside.)
+fn raise(s: &mut [u8], at: usize, n: usize)
+    requires { at + n ≤ length s.old }
+    ensures { s.new
+        ≡ take (at + n) s.old ++ take (length s.old - (at + n)) (drop at s.old) }
+{
+    for i in (at + n..s.len()).rev() {
+        s[i] = s[i - n];
+    }
+}
+
 // Makes a change on a body, with the bytes that a put or a slide brings at the front of the payload.
 pub fn apply(c: Change, payload: &[u8], body: &mut [u8])
     requires { (fits c ≡ true) × (length_of c ≤ length payload.now) × (length body.old ≡ 244) }
@@ -67,7 +79,7 @@ pub fn apply(c: Change, payload: &[u8], body: &mut [u8])
         Change::Slide { offset, length } => {
             let at = usize::from(offset);
             let n = usize::from(length);
-            body.copy_within(at..244 - n, at + n);
+            raise(body, at, n);
             part::put(body, at, &payload[0..n])
         }
     }

@@ -2,7 +2,7 @@
 use native.Mathlib.Omega.{arith}
 use native.Mathlib.Nat.{sub-zero}
 use lib.ListN.{length-take}
-use Rattle.item.proofs.Changes.{Ready, put-ready, slide-ready, format-is, put_is, slide-is, moved-up}
+use Rattle.item.proofs.Changes.{Ready, put-ready, slide-ready, format-is, put_is, slide-is}
 use Rattle.item.proofs.change.apply.Goals.{In-Put, In-Slide}
 use Rattle.item.proofs.change.apply.Goals as goal
 
@@ -18,22 +18,15 @@ put-requires c =
     let z = put-known (goal.at.put-requires c).In-Put in
     simp (sub-zero, length-take) (omega (arith, z.room, z.held, z.body))
 
-pub overflow_sub-n : goal.overflow_sub-n
-overflow_sub-n c = omega (arith, (slide-known (goal.at.overflow_sub-n c).In-Slide).room)
-
-pub copy_within-requires-clause-start_le_end : goal.copy_within-requires-clause-start_le_end
-copy_within-requires-clause-start_le_end c =
-    omega (arith, (slide-known (goal.at.copy_within-requires-clause-start_le_end c).In-Slide).room)
-
-pub copy_within-requires-clause-dest_in_bounds : goal.copy_within-requires-clause-dest_in_bounds
-copy_within-requires-clause-dest_in_bounds c =
-    let z = slide-known (goal.at.copy_within-requires-clause-dest_in_bounds c).In-Slide in
+pub raise-requires : goal.raise-requires
+raise-requires c =
+    let z = slide-known (goal.at.raise-requires c).In-Slide in
     omega (arith, z.room, z.body)
 
 pub put-requires-in-Slide : goal.put-requires-in-Slide
 put-requires-in-Slide c =
     let z = slide-known (goal.at.put-requires-in-Slide c).In-Slide in
-    simp (sub-zero, length-take) (omega (arith, z.room, z.held, z.body, c.copy_within.ensures.len))
+    simp (sub-zero, length-take) (omega (arith, z.room, z.held, z.body, c.raise.auto))
 
 pub returns-in-Format : goal.returns-in-Format
 returns-in-Format c = format-is _ _ _ _ _ c.in-Format.is c.requires.2 (c.fill.ensures.after (λ y e. e))
@@ -45,7 +38,6 @@ returns-in-Put c =
 
 pub returns-in-Slide : goal.returns-in-Slide
 returns-in-Slide c =
-    let z = slide-known (goal.at.returns-in-Slide c).In-Slide in
-    slide-is _ _ _ _ _ _ _ c.in-Slide.is z
-    (moved-up _ _ _ _ z.room z.body (rw (c.from-at.ensures, c.from-n-in-Slide.ensures) at c.copy_within.ensures.after))
+    slide-is _ _ _ _ _ _ _ c.in-Slide.is (slide-known (goal.at.returns-in-Slide c).In-Slide)
+    (rw (c.from-at.ensures, c.from-n-in-Slide.ensures) at c.raise.ensures)
     (simp (c.from-at.ensures, c.from-n-in-Slide.ensures, sub-zero) at c.put-in-Slide.ensures)
