@@ -1,6 +1,6 @@
 -- What the definition of the forecast says in each of its cases.
 use mathlib.Core.Path.{◌≡◌, refl, sym, ap, ◌∙◌, subst}
-use mathlib.Core.Bool.{cond, not}
+use mathlib.Core.Bool.{Bool, false, cond, not}
 use mathlib.Core.List.{List}
 use Prim.Native.Nat.{ℕ, suc, ◌+◌, ◌-◌, ◌<◌}
 use native.Mathlib.Omega.{arith}
@@ -8,11 +8,12 @@ use lib.Dec.{eqb}
 use lib.ListN.{length, replicate}
 use borrow.Author.Tests.{eq-eqb, ne_eqb, eqb-true}
 use Rattle.laws.proofs.Tables.{by_cases}
+use Rattle.volume.proofs.Readings.{unknown-read}
 use Rattle.reports_laws.proofs.Forecast.{scanned}
 use Rattle.repair.proofs.Scanned.{scanned-ready}
 use Rattle.repair.proofs.Unbroken.{scanned-whole}
 use Rattle.model.specs.Tables.{first_of, tabulate}
-use Rattle.model.specs.Geometry.{geometry_of, valid_volume}
+use Rattle.model.specs.Geometry.{known_magic, geometry_of, valid_volume}
 use Rattle.model.specs.Index.{entry_row, entry_of}
 use Rattle.model.specs.Repair.{view_of, walk_of}
 use Rattle.reports.specs.Reading.{Restarts}
@@ -89,6 +90,12 @@ module _ (v : List ℕ) where
         ∙ ap (λ (x : Scanned). tabulate 64 (λ i. figure_in (geometry_of v) v x.first x.index i)) s-is))
 
   -- ---- for C
+
+  -- a heading that is not known: row 1, whatever follows it
+  pub unknown : (xs : List ℕ) (b : Bool) → b ≡ known_magic v → b ≡ false
+      → (1 ≡ (tell_forecast v xs).refusal) × (xs ≡ (tell_forecast v xs).figures)
+  unfolding tell_forecast
+  unknown xs b eb t = rw (unknown-read v (sym eb ∙ t)) (refl, refl)
 
   -- an array of another length
   pub unlike : (xs : List ℕ) → (length xs ≡ 128 → ⊥) → (n : ℕ) → n ≡ cond (not (valid_volume v)) 1 2

@@ -1,20 +1,27 @@
 -- A report of three numbers, and the outcome of an inspection that fills one.
 use Prim.Native.Nat.{ℕ}
-use mathlib.Core.Path.{◌≡◌, refl, ap, ◌∙◌}
-use mathlib.Core.Bool.{true, false, cond, not}
+use mathlib.Core.Path.{◌≡◌, refl, sym, ap, ◌∙◌}
+use mathlib.Core.Bool.{Bool, true, false, cond, not}
 use mathlib.Core.List.{List}
 use lib.Dec.{eqb}
 use lib.ListN.{length}
 use borrow.Author.Tests.{eq-eqb}
 use Rattle.laws.proofs.Tables.{by_cases}
+use Rattle.volume.proofs.Readings.{unknown-read}
 use Rattle.model.specs.Tables.{first_of}
-use Rattle.model.specs.Geometry.{valid_volume}
+use Rattle.model.specs.Geometry.{known_magic, valid_volume}
 use Rattle.model.specs.Refusals.{inspect_rows}
 use Rattle.model.specs.Outcome.{refusal_of}
 use Rattle.model.specs.Restart.{inspect_of}
 use Rattle.reports.specs.Examine.{reported, examine_rows, examine_of}
 use Rattle.model.specs.declared.{answer.Answer.Answer}
 use Rattle.model.specs.declared.answer.Answer.TheVariants.{Refused}
+
+-- a heading that is not known: row 1, whatever follows it
+pub unknown : (v : List ℕ) (p : ℕ) (b r : List ℕ) (k : Bool) → k ≡ known_magic v → k ≡ false
+    → (1 ≡ (examine_of v p b r).refusal) × (b ≡ (examine_of v p b r).buffer) × (r ≡ (examine_of v p b r).report)
+unfolding examine_of examine_rows
+unknown v p b r k ek t = rw (unknown-read v (sym ek ∙ t)) (refl, refl, refl)
 
 -- a report of another length
 pub unlike : (v : List ℕ) (p : ℕ) (b r : List ℕ) → eqb (length r) 3 ≡ false → (n : ℕ) → n ≡ cond (not (valid_volume v)) 1 2
