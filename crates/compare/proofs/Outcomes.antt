@@ -199,11 +199,17 @@ module _ (v w : List ℕ) where
   unfolding mirror_of
   refused n e z = rw (ne_eqb (first_of (mirror_rows v w)) 0 (λ q. z (e ∙ q)), e)
 
-  -- a heading that is not known makes no two valid volumes
-  pub unknown : (a b : Bool) → a ≡ known_magic v → b ≡ known_magic w → (not a || not b) ≡ true → (valid_volume v && valid_volume w) ≡ false
-  unknown false b ea eb t = rw (unknown-read v (sym ea)) refl
-  unknown true false ea eb t = rw (unknown-read w (sym eb)) (and-false (valid_volume v))
-  unknown true true ea eb t = let z : ◌≡◌ {A = ℕ} 0 1 = cc in absurd (omega arith)
+  -- where a heading is not known, the two are not both valid
+  pub not-both : (a b : Bool) → a ≡ known_magic v → b ≡ known_magic w → (not a || not b) ≡ true
+      → (valid_volume v && valid_volume w) ≡ false
+  not-both false b ea eb t = rw (unknown-read v (sym ea)) refl
+  not-both true false ea eb t = rw (unknown-read w (sym eb)) (and-false (valid_volume v))
+  not-both true true ea eb t = let z : ◌≡◌ {A = ℕ} 0 1 = cc in absurd (omega arith)
+
+  -- a heading that is not known is refused, whatever follows it
+  pub unknown : (a b : Bool) → a ≡ known_magic v → b ≡ known_magic w → (not a || not b) ≡ true → 1 ≡ first_of (mirror_rows v w)
+  unfolding mirror_rows
+  unknown a b ea eb t = rw (not-both a b ea eb t) refl
 
   -- two volumes that are not both valid are refused before anything else, whatever the rows behind that
   module _ (n : ℕ) (some : n ≡ 0 → ⊥) (e : n ≡ cond (not (valid_volume v && valid_volume w)) 1 0) where

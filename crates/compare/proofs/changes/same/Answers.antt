@@ -1,5 +1,5 @@
--- `compare::changes::same` meets its contract. The loop keeps: what was the same so far and the test of what is left come to the test of the
--- whole.
+-- `compare::changes::same` meets its contract. The loop keeps: what was the same so far and the test of what is left
+-- come to the test of the whole.
 use mathlib.Core.Path.{◌≡◌, sym, ◌∙◌}
 use lib.ListN.{length}
 use borrow.Author.Rules.{rules}

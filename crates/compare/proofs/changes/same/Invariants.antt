@@ -1,5 +1,5 @@
--- `compare::changes::same` meets its contract. The loop keeps: what was the same so far and the test of what is left come to the test of the
--- whole.
+-- `compare::changes::same` meets its contract. The loop keeps: what was the same so far and the test of what is left
+-- come to the test of the whole.
 use mathlib.Core.Path.{◌≡◌}
 use mathlib.Core.Bool.{◌&&◌}
 use Rattle.reports.specs.Mirror.{same_change}
