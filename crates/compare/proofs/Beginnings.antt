@@ -1,25 +1,39 @@
 -- Laws of the common beginning: two records' changes, and the records passed.
-use mathlib.Core.Path.{◌≡◌, refl, sym, ◌∙◌}
-use mathlib.Core.Bool.{Bool, true, false}
-use mathlib.Core.List.{List, [], ◌∷◌}
+use mathlib.Core.Path.{◌≡◌, sym, ◌∙◌}
+use mathlib.Core.Bool.{Bool, true, false, ◌&&◌, and-true, and_assoc}
+use mathlib.Core.List.{List}
 use Prim.Native.Nat.{ℕ, suc, ◌+◌, ◌-◌, ◌≤◌, ◌<◌}
 use native.Mathlib.Numerals.{add-one}
 use native.Mathlib.Omega.{arith}
 use lib.Dec.{eqb}
-use lib.Pointwise.{pointwise}
-use Rattle.model.specs.Bytes.{equal_bytes}
+use lib.ListN.{length, get_or}
+use lib.Seq.{drop-cons}
+use Rattle.model.specs.Bytes.{part, equal_bytes}
 use Rattle.model.specs.Geometry.{geometry_of, item, log_slot}
 use Rattle.reports.specs.Mirror.{same_change, record_in, common_from}
 use Rattle.model.specs.declared.geometry.Geometry.{Geometry}
 
 -- ---- one record
 
-pub same-bytes : (xs ys : List ℕ) → pointwise eqb xs ys ≡ equal_bytes xs ys
-unfolding equal_bytes
-same-bytes [] [] = refl
-same-bytes [] (y ∷ ys) = refl
-same-bytes (x ∷ xs) [] = refl
-same-bytes (x ∷ xs) (y ∷ ys) = rw (same-bytes xs ys)
+-- what is left of two records' changes, from byte i on
+abbrev pub same_from : List ℕ → List ℕ → ℕ → Bool
+same_from r t i = equal_bytes (part r i (60 - i)) (part t i (60 - i))
+
+module _ (r t : List ℕ) (i : ℕ) where
+  -- one more byte, with what was the same before it
+  pub same-next : (same : Bool) → length r ≡ 64 → length t ≡ 64 → i < 60
+      → (same && same_from r t i) ≡ ((same && eqb (get_or r i 0) (get_or t i 0)) && same_from r t (i + 1))
+  unfolding part equal_bytes
+  same-next same er et h =
+      let e : 60 - i ≡ suc (60 - (i + 1)) = omega arith in
+      let in-r : i < length r = omega arith in
+      let in-t : i < length t = omega arith in
+      rw (e, drop-cons r i 0, drop-cons t i 0, add-one i) (sym (and_assoc same (eqb (get_or r i 0) (get_or t i 0)) _))
+
+  -- nothing is left
+  pub same-end : (same : Bool) → 60 ≤ i → (same && same_from r t i) ≡ same
+  unfolding part equal_bytes
+  same-end same h = let e : 60 - i ≡ 0 = omega arith in rw e (and-true same)
 
 -- ---- the records passed
 

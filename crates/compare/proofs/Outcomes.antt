@@ -1,6 +1,6 @@
 -- What the comparison's definition says in each of its cases.
 use mathlib.Core.Path.{◌≡◌, refl, sym, ap, ◌∙◌}
-use mathlib.Core.Bool.{Bool, true, false, ◌&&◌, ◌||◌, not, cond}
+use mathlib.Core.Bool.{Bool, true, false, ◌&&◌, ◌||◌, not, cond, and-false}
 use mathlib.Core.List.{List, [], ◌∷◌}
 use Prim.Native.Nat.{ℕ, ◌+◌, ◌-◌, ◌≤◌, min}
 use native.Mathlib.Numerals.{add-one}
@@ -12,9 +12,10 @@ use Rattle.laws.proofs.Tables.{by_cases}
 use Rattle.std.specs.Prelude.{Result, Ok, Err, IfOk}
 use Rattle.reports_laws.proofs.Mirror.{common}
 use Rattle.laws.proofs.Refused.{refusal-some}
+use Rattle.volume.proofs.Readings.{unknown-read}
 use Rattle.model.specs.Tables.{Row, first_of, smaller}
 use Rattle.model.specs.Refused.{refusal_number, error_number}
-use Rattle.model.specs.Geometry.{geometry_of, valid_volume}
+use Rattle.model.specs.Geometry.{known_magic, geometry_of, valid_volume}
 use Rattle.model.specs.Scan.{valid_log, valid_notes, gone}
 use Rattle.reports.specs.Mirror.{durable_in, common_from, common_of, either_rows, later_rows, mirror_rows, comparison}
 use Rattle.reports.specs.Mirror.{mirror_of}
@@ -108,14 +109,10 @@ gone-is : (v : List ℕ) (c : Counts) → c ≡ counts_of v → gone_in c ≡ go
 unfolding gone
 gone-is v c e = ap gone_in e
 
-not-first : (a b : Bool) (n k : ℕ) → n ≡ cond (not a) 1 0 → (n ≡ 0 → ⊥) → n ≡ cond (not (a && b)) 1 k
-not-first true b n k e h = absurd (h e)
-not-first false b n k e h = e
-
-not-second : (a b : Bool) (n k : ℕ) → n ≡ cond (not b) 1 0 → (n ≡ 0 → ⊥) → n ≡ cond (not (a && b)) 1 k
-not-second a true n k e h = absurd (h e)
-not-second true false n k e h = e
-not-second false false n k e h = e
+-- one of two that is not right, whatever follows
+not-either : (a : Bool) (n k : ℕ) → n ≡ cond (not a) 1 0 → (n ≡ 0 → ⊥) → n ≡ cond (not a) 1 k
+not-either true n k e h = absurd (h e)
+not-either false n k e h = e
 
 pub smaller-is : (x y : ℕ) → min x y ≡ smaller x y
 smaller-is x y = by_cases (leb x y) (λ t. rw t (omega (arith, leb-true x y t))) (λ t. rw t (omega (arith, leb-false x y t)))
@@ -202,18 +199,23 @@ module _ (v w : List ℕ) where
   unfolding mirror_of
   refused n e z = rw (ne_eqb (first_of (mirror_rows v w)) 0 (λ q. z (e ∙ q)), e)
 
-  -- a volume that is not valid is refused before anything else, whatever the rows behind that
-  module _ (n : ℕ) (some : n ≡ 0 → ⊥) where
-    pub first-row : n ≡ cond (not (valid_volume v)) 1 0 → (rows : List Row) → n ≡ first_of (either_rows v w rows)
-    first-row e rows = not-first (valid_volume v) (valid_volume w) n (first_of rows) e some
+  -- where a heading is not known, the two are not both valid
+  pub not-both : (a b : Bool) → a ≡ known_magic v → b ≡ known_magic w → (not a || not b) ≡ true
+      → (valid_volume v && valid_volume w) ≡ false
+  not-both false b ea eb t = rw (unknown-read v (sym ea)) refl
+  not-both true false ea eb t = rw (unknown-read w (sym eb)) (and-false (valid_volume v))
+  not-both true true ea eb t = let z : ◌≡◌ {A = ℕ} 0 1 = cc in absurd (omega arith)
 
-    pub second-row : n ≡ cond (not (valid_volume w)) 1 0 → (rows : List Row) → n ≡ first_of (either_rows v w rows)
-    second-row e rows = not-second (valid_volume v) (valid_volume w) n (first_of rows) e some
+  -- a heading that is not known is refused, whatever follows it
+  pub unknown : (a b : Bool) → a ≡ known_magic v → b ≡ known_magic w → (not a || not b) ≡ true → 1 ≡ first_of (mirror_rows v w)
+  unfolding mirror_rows
+  unknown a b ea eb t = rw (not-both a b ea eb t) refl
 
-    pub first-unopened : n ≡ cond (not (valid_volume v)) 1 0 → n ≡ first_of (mirror_rows v w)
+  -- two volumes that are not both valid are refused before anything else, whatever the rows behind that
+  module _ (n : ℕ) (some : n ≡ 0 → ⊥) (e : n ≡ cond (not (valid_volume v && valid_volume w)) 1 0) where
+    pub either-row : (rows : List Row) → n ≡ first_of (either_rows v w rows)
+    either-row rows = not-either (valid_volume v && valid_volume w) n (first_of rows) e some
+
+    pub unopened : n ≡ first_of (mirror_rows v w)
     unfolding mirror_rows
-    first-unopened e = first-row e (later_rows v w)
-
-    pub second-unopened : n ≡ cond (not (valid_volume w)) 1 0 → n ≡ first_of (mirror_rows v w)
-    unfolding mirror_rows
-    second-unopened e = second-row e (later_rows v w)
+    unopened = either-row (later_rows v w)

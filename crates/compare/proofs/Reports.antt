@@ -1,6 +1,6 @@
 -- The report of 66 numbers: the numbers written so far, and the outcome of a comparison that fills one.
 use mathlib.Core.Path.{◌≡◌, refl, sym, ap, ◌∙◌}
-use mathlib.Core.Bool.{Bool, true, false, cond, not}
+use mathlib.Core.Bool.{Bool, true, false, cond, not, ◌&&◌}
 use mathlib.Core.List.{List, [], ◌∷◌, ◌++◌, map, append_assoc, append-nil}
 use Prim.Native.Nat.{ℕ, suc, ◌+◌, ◌≤◌, ◌<◌}
 use native.Mathlib.Numerals.{add-one}
@@ -14,7 +14,7 @@ use Rattle.model.specs.Tables.{first_of}
 use Rattle.model.specs.Geometry.{valid_volume}
 use Rattle.reports.specs.Mirror.{kind_number, count_number, flag, numbers_of, later_rows, mirror_rows, mirror_of, compare_rows, compare_of}
 use Rattle.reports.specs.declared.reading.Compared.{Compared}
-use Rattle.compare.proofs.Outcomes.{first-row, second-row}
+use Rattle.compare.proofs.Outcomes.{either-row}
 
 -- ---- the numbers
 
@@ -70,14 +70,10 @@ module _ (v w report : List ℕ) where
   unfolding compare_of
   left n e z = rw (ne_eqb (first_of (compare_rows v w (length report))) 0 (λ q. z (e ∙ q))) (e, refl)
 
-  module _ (n : ℕ) (some : n ≡ 0 → ⊥) where
-    pub first-unread : n ≡ cond (not (valid_volume v)) 1 0 → (n ≡ (compare_of v w report).refusal) × (report ≡ (compare_of v w report).report)
-    unfolding compare_rows
-    first-unread e = left n (first-row v w n some e ((not (eqb (length report) 66), 2) ∷ later_rows v w)) some
-
-    pub second-unread : n ≡ cond (not (valid_volume w)) 1 0 → (n ≡ (compare_of v w report).refusal) × (report ≡ (compare_of v w report).report)
-    unfolding compare_rows
-    second-unread e = left n (second-row v w n some e ((not (eqb (length report) 66), 2) ∷ later_rows v w)) some
+  pub unread : (n : ℕ) → (n ≡ 0 → ⊥) → n ≡ cond (not (valid_volume v && valid_volume w)) 1 0
+      → (n ≡ (compare_of v w report).refusal) × (report ≡ (compare_of v w report).report)
+  unfolding compare_rows
+  unread n some e = left n (either-row v w n some e ((not (eqb (length report) 66), 2) ∷ later_rows v w)) some
 
   -- of volumes that are valid
   module _ (x y : List ℕ) (ex : x ≡ v) (ey : y ≡ w) (ok : valid_volume x ≡ true) (ok₂ : valid_volume y ≡ true) where

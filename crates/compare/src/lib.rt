@@ -1,7 +1,8 @@
 // Compare: two volumes' durable logs held against each other, without memory or state.
 #![tactic(auto)]
 
-ghost use Rattle.std.specs.Prelude.{◌≡◌, ◌≤◌, Ok, IfOk};
+ghost use Rattle.std.specs.Prelude.{◌≡◌, ◌≤◌, cond, not, ◌&&◌, Ok, IfOk};
+ghost use Rattle.model.specs.Geometry.{valid_volume};
 ghost use Rattle.model.specs.Tables.{first_of};
 ghost use Rattle.model.specs.Refused.{error_number};
 ghost use Rattle.reports.specs.Mirror as mirrors;
@@ -14,7 +15,20 @@ pub mod report;
 use index::Counts;
 use model::answer::Refusal;
 use reports::reading::{Compared, Comparison};
-use volume::Volume;
+use volume::{Volume, heading};
+
+// Two volumes, where both are valid. Both headings are compared before anything else is read.
+fn open_both<'a, 'b>(first: &'a [u8], second: &'b [u8]) -> Result<(Volume<'a>, Volume<'b>), Refusal>
+    ensures refusal { error_number result ≡ cond (not (valid_volume first.now && valid_volume second.now)) 1 0 }
+    ensures bytes { IfOk result (λ p. (p.0.bytes.now ≡ first.now) × (p.1.bytes.now ≡ second.now)) }
+{
+    if !heading::known(first) | !heading::known(second) {
+        return Err(Refusal::BadVolume);
+    }
+    let v = Volume::open(first)?;
+    let w = Volume::open(second)?;
+    Ok((v, w))
+}
 
 // What two scans count, or the refusal: by number, whichever of the two gives it.
 fn both(a: Result<Counts, Refusal>, b: Result<Counts, Refusal>) -> Result<(Counts, Counts), Refusal>
@@ -68,12 +82,11 @@ fn opened(first: &[u8], second: &[u8]) -> Result<Compared, Refusal>
     ensures refusal { error_number result ≡ first_of (mirrors.mirror_rows first.now second.now) }
     ensures compared { IfOk result (λ c. c ≡ mirrors.mirror_of first.now second.now) }
 {
-    let v = Volume::open(first)?;
-    let w = Volume::open(second)?;
+    let (v, w) = open_both(first, second)?;
     judged(&v, &w)
 }
 
-// Compares two volumes' logs.
+// Compares two volumes' logs. Both headings are compared before anything else is read.
 // Ruled out: that logs agree where a payload differs (tried); a page that only the second log touches left out (tried);
 // a shorter log taken as a beginning (tried); the refusal of the first volume before a lower one of the second (tried).
 pub fn compare(first: &[u8], second: &[u8]) -> Compared

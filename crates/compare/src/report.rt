@@ -5,7 +5,6 @@ ghost use Rattle.reports.specs.Mirror as mirrors;
 
 use model::answer::Refusal;
 use reports::reading::{Compared, Comparison};
-use volume::Volume;
 
 // The kind's number, and the count.
 fn numbers(a: Comparison) -> (u32, u32)
@@ -34,15 +33,15 @@ fn tell(c: Compared, report: &mut [u32])
     }
 }
 
-// Compares two volumes' logs into a lent report. A report of another length is refused behind row 1.
+// Compares two volumes' logs into a lent report. Both headings are compared before the length is looked at; a report of
+// another length is refused behind row 1.
 fn fill(first: &[u8], second: &[u8], report: &mut [u32]) -> Result<(), Refusal>
     ensures answer { error_number result
         ≡ (mirrors.compare_of first.now second.now report.old).refusal }
     ensures report { report.new
         ≡ (mirrors.compare_of first.now second.now report.old).report }
 {
-    let v = Volume::open(first)?;
-    let w = Volume::open(second)?;
+    let (v, w) = crate::open_both(first, second)?;
     if report.len() != 66 {
         return Err(Refusal::BadBuffer);
     }

@@ -17,7 +17,7 @@ fn tell(pages: [Figure; 64], figures: &mut [u32])
     }
 }
 
-// Forecasts a volume into lent numbers: 0 or the refusal. A volume that is not valid is told before another length.
+// Forecasts a volume into lent numbers: 0 or the refusal. The heading is compared before a length is looked at.
 // Ruled out: refusal and count exchanged (tried); 2 for a volume that is not valid (tried); a refusal that wrote to the
 // figures.
 pub fn tell_forecast(volume: &[u8], figures: &mut [u32]) -> u32
@@ -25,6 +25,9 @@ pub fn tell_forecast(volume: &[u8], figures: &mut [u32]) -> u32
     ensures figures { figures.new
         ≡ (tell_forecast volume.now figures.old).figures }
 {
+    if !heading::known(volume) {
+        return u32::from(Refusal::BadVolume);
+    }
     if figures.len() != 128 {
         let refusal = if heading::valid(volume) {
             Refusal::BadBuffer

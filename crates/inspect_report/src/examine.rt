@@ -40,7 +40,7 @@ fn tell(a: Answer, report: &mut [u32])
     }
 }
 
-// Inspection with its class, start and count as numbers: 0 or the refusal, for C; an invalid volume first.
+// Inspection with its class, start and count as numbers: 0 or the refusal, for C. The heading is compared first.
 // Ruled out: a refusal that wrote to the report (tried); the numbers of two classes exchanged (tried).
 pub fn examine(volume: &[u8], page: u32, buffer: &mut [u8], report: &mut [u32]) -> u32
     ensures answer { result
@@ -50,6 +50,9 @@ pub fn examine(volume: &[u8], page: u32, buffer: &mut [u8], report: &mut [u32]) 
     ensures report { report.new
         ≡ (examine_of volume.now page buffer.old report.old).report }
 {
+    if !heading::known(volume) {
+        return u32::from(Refusal::BadVolume);
+    }
     if report.len() != 3 {
         let refusal = if heading::valid(volume) {
             Refusal::BadBuffer
