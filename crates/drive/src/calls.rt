@@ -16,8 +16,9 @@ pub fn make(w: &mut Workspace<'_>, c: &Cell, heading: Heading) -> Said {
 }
 
 pub fn inspect(w: &mut Workspace<'_>, c: &Cell) -> Said {
-    let volume = w.volume.lent(w.session.volume);
-    Said::Answer(Store::inspect(volume, c.page(), w.lent.lent_mut(w.session.lent)))
+    let s = &w.session;
+    let volume = w.volume.lent(s.volume);
+    Said::Answer(Store::inspect(volume, c.page(), w.lent.lent_mut(s.lent)))
 }
 
 // Keeps the store that a call gave back, and tells its answer.
@@ -27,13 +28,15 @@ fn told(w: &mut Workspace<'_>, r: Returned) -> Said {
 }
 
 pub fn restart(w: &mut Workspace<'_>) -> Said {
-    let r = Store::restart(w.volume.lent(w.session.volume), w.memory.lent_mut(w.session.memory));
+    let s = &w.session;
+    let r = Store::restart(w.volume.lent(s.volume), w.memory.lent_mut(s.memory));
     told(w, r)
 }
 
 pub fn perform(w: &mut Workspace<'_>, c: &Cell, command: Command) -> Said {
-    let volume = w.volume.lent_mut(w.session.volume);
-    let memory = w.memory.lent_mut(w.session.memory);
-    let r = w.session.store.perform(volume, memory, command, c.payload());
+    let s = &w.session;
+    let volume = w.volume.lent_mut(s.volume);
+    let memory = w.memory.lent_mut(s.memory);
+    let r = s.store.perform(volume, memory, command, c.payload());
     told(w, r)
 }

@@ -35,7 +35,7 @@ pub fn empty() -> Store {
     }
 }
 
-// A buffer; of it so many bytes, at most all, are lent to a call.
+// A buffer; a call is lent its first bytes, as many as the session says.
 #[derive(Drop)]
 pub struct Buffer<'a> {
     bytes: &'a mut [u8],
@@ -46,8 +46,8 @@ impl<'a> Buffer<'a> {
         Buffer { bytes }
     }
 
-    // So much, at most all.
-    pub fn room(&self, size: u32) -> usize {
+    // How much of it is lent where so much is asked for: at most all.
+    pub fn lend(&self, size: u32) -> usize {
         self.bytes.len().min(size as usize)
     }
 
@@ -73,6 +73,11 @@ impl<'a> Buffer<'a> {
         let n = src.len().min(rest.len());
         rest[..n].copy_from_slice(&src[..n]);
         n
+    }
+
+    // Holds as much of a slice as it has room for, and says how much.
+    pub fn take(&mut self, src: &[u8]) -> usize {
+        self.put(0, src)
     }
 
     fn hash(&self, size: usize) -> u32 {

@@ -7,9 +7,9 @@ use store::Store;
 // How much of each buffer is lent, at most all of it.
 pub fn sizes(w: &mut Workspace<'_>, c: &Cell) -> Said {
     let [lent, ..] = c.counts();
-    w.session.volume = w.volume.room(c.first());
-    w.session.memory = w.memory.room(c.second());
-    w.session.lent = w.lent.room(lent);
+    w.session.volume = w.volume.lend(c.first());
+    w.session.memory = w.memory.lend(c.second());
+    w.session.lent = w.lent.lend(lent);
     Said::OK
 }
 
@@ -17,9 +17,9 @@ pub fn sizes(w: &mut Workspace<'_>, c: &Cell) -> Said {
 // own bytes.
 pub fn second(w: &mut Workspace<'_>, c: &Cell) -> Option<Said> {
     w.session.second = match c.kind() {
-        0 => w.second.put(0, w.volume.lent(w.session.volume)),
-        1 => w.second.put(0, w.lent.lent(w.session.lent)),
-        2 => w.second.room(c.first()),
+        0 => w.second.take(w.volume.lent(w.session.volume)),
+        1 => w.second.take(w.lent.lent(w.session.lent)),
+        2 => w.second.lend(c.first()),
         _ => return None,
     };
     Some(Said::OK)

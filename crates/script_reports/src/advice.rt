@@ -23,7 +23,9 @@ fn call(c: Command, first: u8) -> Said {
 }
 
 pub fn advise(w: &Workspace<'_>, c: &Cell) -> Said {
-    let advised = upkeep::advise(w.session.store.state, w.volume.lent(w.session.volume), w.memory.lent(w.session.memory), c.place());
+    let s = &w.session;
+    let volume = w.volume.lent(s.volume);
+    let advised = upkeep::advise(s.store.state, volume, w.memory.lent(s.memory), c.place());
     match advised.upkeep {
         Upkeep::Refused(n) => Said::Answer(Answer::Refused(n)),
         Upkeep::Idle => Said::Idle,

@@ -11,13 +11,18 @@ pub fn length(w: &Workspace<'_>) -> Said {
 }
 
 pub fn write(w: &mut Workspace<'_>) -> Said {
-    Said::Answer(archive_write::write(w.volume.lent(w.session.volume), w.lent.lent_mut(w.session.lent)))
+    let s = &w.session;
+    let volume = w.volume.lent(s.volume);
+    Said::Answer(archive_write::write(volume, w.lent.lent_mut(s.lent)))
 }
 
 pub fn read(w: &mut Workspace<'_>) -> Said {
-    Said::Answer(archive_read::read(w.second.lent(w.session.second), w.lent.lent_mut(w.session.lent)))
+    let s = &w.session;
+    let archive = w.second.lent(s.second);
+    Said::Answer(archive_read::read(archive, w.lent.lent_mut(s.lent)))
 }
 
 pub fn pages(w: &Workspace<'_>) -> Said {
-    Said::Number("PAGES", archive_read::pages(w.second.lent(w.session.second)))
+    let archive = w.second.lent(w.session.second);
+    Said::Number("PAGES", archive_read::pages(archive))
 }

@@ -6,7 +6,8 @@ use script::hash;
 use script::session::{Said, Workspace};
 
 pub fn compare(w: &Workspace<'_>) -> Said {
-    let c = compare::compare(w.volume.lent(w.session.volume), w.second.lent(w.session.second));
+    let s = &w.session;
+    let c = compare::compare(w.volume.lent(s.volume), w.second.lent(s.second));
     let h = c
         .touched
         .iter()

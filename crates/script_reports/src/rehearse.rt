@@ -24,7 +24,8 @@ fn victim(kind: u8) -> Option<Victim> {
 
 pub fn rehearse(w: &Workspace<'_>, c: &Cell) -> Option<Said> {
     let victim = victim(c.kind())?;
-    let r = planning_model::rehearse(w.second.lent(w.session.second), c.page(), c.first(), victim);
+    let events = w.second.lent(w.session.second);
+    let r = planning_model::rehearse(events, c.page(), c.first(), victim);
     Some(match r.answer {
         Answer::Refused(_) => Said::Answer(r.answer),
         _ => Said::Number("REHEARSED", r.pages.iter().fold(hash::START, figures)),
