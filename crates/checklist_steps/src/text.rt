@@ -78,7 +78,7 @@ pub fn newest(image: &[u8]) -> [u8; 44] {
 }
 
 // The bytes from a place to another are the same in both.
-fn same(a: &[u8], b: &[u8], from: usize, to: usize) -> bool
+pub fn same(a: &[u8], b: &[u8], from: usize, to: usize) -> bool
     ensures { result ≡ same_between a.now b.now from to }
 {
     (from..to).all(|i| field::byte(a, i) == field::byte(b, i))

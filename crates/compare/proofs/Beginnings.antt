@@ -63,7 +63,7 @@ module _ (v w : List ℕ) (most k : ℕ) (h : k < most) where
     pub stops : b ≡ false → common_from (most - k) v w k ≡ k
     stops y = common-ends (sym compared ∙ y)
 
-common-none : (v w : List ℕ) (most k : ℕ) → most ≤ k → common_from (most - k) v w k ≡ k
+pub common-none : (v w : List ℕ) (most k : ℕ) → most ≤ k → common_from (most - k) v w k ≡ k
 unfolding common_from
 common-none v w most k h = let e : most - k ≡ 0 = omega arith in rw e
 

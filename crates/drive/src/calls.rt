@@ -2,38 +2,41 @@
 use model::command::Command;
 use model::geometry::Heading;
 use script::cell::Cell;
-use script::session::{Said, Session};
+use script::session::{Said, Workspace};
 use store::{Returned, Store};
 
 // Make under either heading, with the cell's four counts.
-pub fn make(s: &mut Session<'_>, c: &Cell, heading: Heading) -> Said {
+pub fn make(w: &mut Workspace<'_>, c: &Cell, heading: Heading) -> Said {
     let [p, b, l, n] = c.counts();
-    let volume = s.volume.lent_mut();
+    let volume = w.volume.lent_mut(w.session.volume);
     Said::Answer(match heading {
         Heading::First => Store::make_first(volume, p, b, l, n),
         Heading::Second => Store::make(volume, p, b, l, n),
     })
 }
 
-pub fn inspect(s: &mut Session<'_>, c: &Cell) -> Said {
-    let volume = s.volume.lent();
-    Said::Answer(Store::inspect(volume, c.page(), s.lent.lent_mut()))
+pub fn inspect(w: &mut Workspace<'_>, c: &Cell) -> Said {
+    let s = &w.session;
+    let volume = w.volume.lent(s.volume);
+    Said::Answer(Store::inspect(volume, c.page(), w.lent.lent_mut(s.lent)))
 }
 
 // Keeps the store that a call gave back, and tells its answer.
-fn told(s: &mut Session<'_>, r: Returned) -> Said {
-    s.store = r.store;
+fn told(w: &mut Workspace<'_>, r: Returned) -> Said {
+    w.session.store = r.store;
     Said::Answer(r.answer)
 }
 
-pub fn restart(s: &mut Session<'_>) -> Said {
-    let r = Store::restart(s.volume.lent(), s.memory.lent_mut());
-    told(s, r)
+pub fn restart(w: &mut Workspace<'_>) -> Said {
+    let s = &w.session;
+    let r = Store::restart(w.volume.lent(s.volume), w.memory.lent_mut(s.memory));
+    told(w, r)
 }
 
-pub fn perform(s: &mut Session<'_>, c: &Cell, command: Command) -> Said {
-    let volume = s.volume.lent_mut();
-    let memory = s.memory.lent_mut();
+pub fn perform(w: &mut Workspace<'_>, c: &Cell, command: Command) -> Said {
+    let s = &w.session;
+    let volume = w.volume.lent_mut(s.volume);
+    let memory = w.memory.lent_mut(s.memory);
     let r = s.store.perform(volume, memory, command, c.payload());
-    told(s, r)
+    told(w, r)
 }

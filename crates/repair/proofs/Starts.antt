@@ -45,7 +45,7 @@ valid-other g p x k e ne =
 -- ---- the backup's number
 
 -- the backup that counts, where the slot is 0
-slot-none : (v : List ℕ) (g : Geometry) (f : ℕ) (e : Entry) (p : ℕ) → e.slot ≡ 0 → 0 ≡ backup_start g p (view_of g v f e p)
+pub slot-none : (v : List ℕ) (g : Geometry) (f : ℕ) (e : Entry) (p : ℕ) → e.slot ≡ 0 → 0 ≡ backup_start g p (view_of g v f e p)
 slot-none v g f e p z =
     let b : eqb e.slot 0 ≡ true = eq-eqb e.slot 0 z in
     rw b (sym (cond_same (valid_image g p (item g v (slot_at e.slot)) && eqb (image_lsn (item g v (slot_at e.slot))) 0) 0))

@@ -73,7 +73,7 @@ impl Cell {
         })
     }
 
-    fn command(&self) -> Option<Command> {
+    pub fn command(&self) -> Option<Command> {
         let page = self.page();
         let place = self.place();
         let fill = self.fill();
@@ -136,11 +136,11 @@ impl Cell {
     }
 
     // The length of a change, or the count of bytes that a poke writes.
-    fn length(&self) -> u8 {
+    pub fn length(&self) -> u8 {
         self.bytes[8]
     }
 
-    fn fill(&self) -> u8 {
+    pub fn fill(&self) -> u8 {
         self.bytes[9]
     }
 

@@ -16,7 +16,7 @@ fn most(at: u32) -> u32 {
 }
 
 // Whether the number at a position may become x. A note's fields are there only with a note.
-fn settable(s: &State, at: u32, x: u32) -> bool {
+pub fn settable(s: &State, at: u32, x: u32) -> bool {
     let is_field = (4..=7).contains(&at);
     (at < 360) & (x <= most(at)) & (!is_field | s.note.is_some())
 }

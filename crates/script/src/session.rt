@@ -1,4 +1,4 @@
-// What a script works on, the store and four buffers, and what is printed of a cell.
+// What a script works on, a session and four buffers, and what is printed of a cell.
 use crate::cell::Place;
 use crate::hash;
 use model::answer::Answer;
@@ -7,30 +7,57 @@ use state::next;
 use std::{fmt, io};
 use store::Store;
 
-// A buffer, and how much of it is lent to a call.
+// The store, and how much of each buffer is lent to a call.
+#[derive(Clone, Copy)]
+pub struct Session {
+    pub store: Store,
+    pub volume: usize,
+    pub memory: usize,
+    pub lent: usize,
+    pub second: usize,
+}
+
+// The session at the start: a state of zeros, the smallest memory and a buffer for a page.
+pub fn start() -> Session {
+    Session {
+        store: empty(),
+        volume: 0,
+        memory: 1280,
+        lent: 256,
+        second: 0,
+    }
+}
+
+// The store at the start: its state is all zero.
+pub fn empty() -> Store {
+    Store {
+        state: next::zero(),
+    }
+}
+
+// A buffer; a call is lent its first bytes, as many as the session says.
 #[derive(Drop)]
 pub struct Buffer<'a> {
     bytes: &'a mut [u8],
-    size: usize,
 }
 
 impl<'a> Buffer<'a> {
-    pub fn new(bytes: &'a mut [u8], size: usize) -> Buffer<'a> {
-        Buffer { bytes, size }
+    pub fn new(bytes: &'a mut [u8]) -> Buffer<'a> {
+        Buffer { bytes }
     }
 
-    // Lends so much, at most all.
-    pub fn lend(&mut self, size: u32) {
-        self.size = self.bytes.len().min(size as usize);
+    // How much of it is lent where so much is asked for: at most all.
+    pub fn lend(&self, size: u32) -> usize {
+        self.bytes.len().min(size as usize)
     }
 
-    pub fn lent(&self) -> &[u8] {
-        let end = self.bytes.len().min(self.size);
+    pub fn lent(&self, size: usize) -> &[u8] {
+        let end = self.bytes.len().min(size);
         &self.bytes[..end]
     }
 
-    pub fn lent_mut(&mut self) -> &mut [u8] {
-        let end = self.bytes.len().min(self.size);
+    pub fn lent_mut(&mut self, size: usize) -> &mut [u8] {
+        let end = self.bytes.len().min(size);
         &mut self.bytes[..end]
     }
 
@@ -48,46 +75,40 @@ impl<'a> Buffer<'a> {
         n
     }
 
-    // Holds and lends as much of a slice as it has room for.
-    pub fn take(&mut self, src: &[u8]) {
-        self.size = self.put(0, src);
+    // Holds as much of a slice as it has room for, and says how much.
+    pub fn take(&mut self, src: &[u8]) -> usize {
+        self.put(0, src)
     }
 
-    fn hash(&self) -> u32 {
-        hash::bytes(self.lent())
+    fn hash(&self, size: usize) -> u32 {
+        hash::bytes(self.lent(size))
     }
 }
 
+// A session beside the buffers that it lends.
 #[derive(Drop)]
-pub struct Session<'a> {
-    pub store: Store,
+pub struct Workspace<'a> {
+    pub session: Session,
     pub volume: Buffer<'a>,
     pub memory: Buffer<'a>,
     pub lent: Buffer<'a>,
     pub second: Buffer<'a>,
 }
 
-// The store at the start: its state is all zero.
-pub fn empty() -> Store {
-    Store {
-        state: next::zero(),
-    }
-}
-
-impl<'a> Session<'a> {
-    // The session at the start: a state of zeros, the smallest memory and a buffer for a page.
+impl<'a> Workspace<'a> {
+    // The session at the start, over these buffers.
     pub fn new(
         volume: &'a mut [u8],
         memory: &'a mut [u8],
         lent: &'a mut [u8],
         second: &'a mut [u8],
-    ) -> Session<'a> {
-        Session {
-            store: empty(),
-            volume: Buffer::new(volume, 0),
-            memory: Buffer::new(memory, 1280),
-            lent: Buffer::new(lent, 256),
-            second: Buffer::new(second, 0),
+    ) -> Workspace<'a> {
+        Workspace {
+            session: start(),
+            volume: Buffer::new(volume),
+            memory: Buffer::new(memory),
+            lent: Buffer::new(lent),
+            second: Buffer::new(second),
         }
     }
 
@@ -105,10 +126,10 @@ impl<'a> Session<'a> {
         let Some(said) = said else {
             return println!(rt; "SKIP");
         };
-        let v = self.volume.hash();
-        let m = self.memory.hash();
-        let u = self.lent.hash();
-        let s = hash::state(&self.store.state);
+        let v = self.volume.hash(self.session.volume);
+        let m = self.memory.hash(self.session.memory);
+        let u = self.lent.hash(self.session.lent);
+        let s = hash::state(&self.session.store.state);
         println!(rt; "{said} v={v} m={m} u={u} s={s}")
     }
 }

@@ -2,7 +2,7 @@
 use model::answer::Answer;
 use model::command::Command;
 use script::cell::Cell;
-use script::session::{Said, Session};
+use script::session::{Said, Workspace};
 use upkeep_policy::upkeep::Upkeep;
 
 // A call as it is told: its op in a script, its page, its frame or slot, and the first byte that a change puts.
@@ -22,8 +22,10 @@ fn call(c: Command, first: u8) -> Said {
     }
 }
 
-pub fn advise(s: &Session<'_>, c: &Cell) -> Said {
-    let advised = upkeep::advise(s.store.state, s.volume.lent(), s.memory.lent(), c.place());
+pub fn advise(w: &Workspace<'_>, c: &Cell) -> Said {
+    let s = &w.session;
+    let volume = w.volume.lent(s.volume);
+    let advised = upkeep::advise(s.store.state, volume, w.memory.lent(s.memory), c.place());
     match advised.upkeep {
         Upkeep::Refused(n) => Said::Answer(Answer::Refused(n)),
         Upkeep::Idle => Said::Idle,

@@ -1,10 +1,10 @@
 // The forecast of the volume, op 22: a hash of the figure, refusal and count, of each of 64 pages.
 use model::answer::Answer;
 use script::hash;
-use script::session::{Said, Session};
+use script::session::{Said, Workspace};
 
-pub fn forecast(s: &Session<'_>) -> Said {
-    let f = forecast::forecast(s.volume.lent());
+pub fn forecast(w: &Workspace<'_>) -> Said {
+    let f = forecast::forecast(w.volume.lent(w.session.volume));
     if f.refusal != 0 {
         return Said::Answer(Answer::Refused(f.refusal));
     }

@@ -3,10 +3,11 @@
 use model::answer::Answer;
 use reports::reading::Comparison;
 use script::hash;
-use script::session::{Said, Session};
+use script::session::{Said, Workspace};
 
-pub fn compare(s: &Session<'_>) -> Said {
-    let c = compare::compare(s.volume.lent(), s.second.lent());
+pub fn compare(w: &Workspace<'_>) -> Said {
+    let s = &w.session;
+    let c = compare::compare(w.volume.lent(s.volume), w.second.lent(s.second));
     let h = c
         .touched
         .iter()

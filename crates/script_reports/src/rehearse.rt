@@ -3,7 +3,7 @@ use model::answer::Answer;
 use planning::rehearsal::{Figures, Victim};
 use script::cell::Cell;
 use script::hash;
-use script::session::{Said, Session};
+use script::session::{Said, Workspace};
 
 // Loads, then stores by sort, then log records replayed.
 fn figures(h: u32, f: &Figures) -> u32 {
@@ -22,9 +22,10 @@ fn victim(kind: u8) -> Option<Victim> {
     }
 }
 
-pub fn rehearse(s: &Session<'_>, c: &Cell) -> Option<Said> {
+pub fn rehearse(w: &Workspace<'_>, c: &Cell) -> Option<Said> {
     let victim = victim(c.kind())?;
-    let r = planning_model::rehearse(s.second.lent(), c.page(), c.first(), victim);
+    let events = w.second.lent(w.session.second);
+    let r = planning_model::rehearse(events, c.page(), c.first(), victim);
     Some(match r.answer {
         Answer::Refused(_) => Said::Answer(r.answer),
         _ => Said::Number("REHEARSED", r.pages.iter().fold(hash::START, figures)),
