@@ -3,14 +3,10 @@ use Prim.Native.Nat.{ℕ}
 use mathlib.Core.Path.{◌≡◌, refl}
 use mathlib.Core.Bool.{Bool, true, false, cond}
 use mathlib.Core.List.{List, [], ◌∷◌, ◌++◌}
-use native.Mathlib.Omega.{arith}
 use lib.Dec.{eqb}
 use borrow.Author.Tests.{ne_eqb}
 use Rattle.laws.proofs.Tables.{Numbered}
 use Rattle.model.specs.Tables.{Row, first_of}
-use Rattle.model.specs.Refused.{refusal_number}
-use Rattle.model.specs.declared.answer.Refusal.{Refusal}
-use Rattle.model.specs.declared.answer.Refusal.TheVariants as no
 
 picked : (t : Bool) (k j r rest : ℕ) → (k ≡ 0 → ⊥) → j ≡ cond (eqb r 0) rest r → cond t k j ≡ cond (eqb (cond t k r) 0) rest (cond t k r)
 picked true k j r rest ne e = rw (ne_eqb k 0 ne)

@@ -7,7 +7,7 @@ use lib.Dec.{eqb, leb, ltb}
 use lib.ListN.{length, get_or, get_or-eq_default}
 use native.Mathlib.Numerals.{add-one}
 use native.Mathlib.Omega.{arith}
-use borrow.Author.Tests.{leb-true, le-leb, eqb-true, eq-eqb, ne_eqb, eqb-false}
+use borrow.Author.Tests.{leb-true, le-leb, eqb-true, eq-eqb, ne_eqb}
 use Rattle.laws.proofs.Tables.{true-not-false, every-same, when_true, when_false}
 use Rattle.model.specs.Tables.{Row, all, every, first_of}
 use Rattle.model.specs.Geometry.{geometry_of, valid_volume, most, most_notes}
@@ -20,9 +20,6 @@ use Rattle.model.specs.declared.geometry.Geometry.{Geometry}
 use Rattle.model.specs.declared.state.Entry.{Entry}
 use Rattle.model.specs.declared.state.Frame.{Frame}
 use Rattle.model.specs.declared.state.State.{State}
-use Rattle.model.specs.Refused.{refusal_number}
-use Rattle.model.specs.declared.answer.Refusal.{Refusal}
-use Rattle.model.specs.declared.answer.Refusal.TheVariants as no
 
 pub or-second : (a b : Bool) → a ≡ false → b ≡ (a || b)
 or-second a b t = sym (rw t)
