@@ -25,7 +25,7 @@ DOCUMENTS = ["README.md", "CONTRIBUTING.md", "CHANGELOG.md", "crates/README.md"]
 DOCUMENTS += sorted(str(p.relative_to(ROOT)) for p in (ROOT / "docs").glob("*.md"))
 TRACE = "docs/TRACE.md"
 # of the past, where a name may be no more: what its definitions and theorems were called stays
-PAST = ("docs/LANDINGS.md", "docs/PORT.md", "docs/DESIGN-PASS.md", "CHANGELOG.md")
+PAST = ("docs/LANDINGS.md", "docs/PORT.md", "docs/DESIGN-PASS.md", "docs/LOOK-BACK.md", "CHANGELOG.md")
 # whose table of functions that went is the list of those that the past may name
 WENT = "docs/DESIGN-PASS.md"
 CHECKS = (names.check_functions, names.check_edits, names.check_files, names.check_c, names.check_cited,
