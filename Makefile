@@ -270,6 +270,12 @@ vectors-check: library
 	@found=$$(objdump -d $(LIBRARY) | grep -c pmaddwd); test $$found -ge $(PRODUCTS) || \
 	    { echo "of $(PRODUCTS) products by pmaddwd the library has $$found: see docs/PERFORMANCE.md"; exit 1; }
 
+# make needs-check        what the proved functions for C need from outside: memcpy and memset, nothing else
+.PHONY: needs-check
+needs-check: library
+	@needs="$$(nm -u target/staticlib/libcapi.a | awk '$$1 == "U" {print $$2}' | sort -u | xargs)"; \
+	    test "$$needs" = "memcpy memset" || { echo "the proved functions for C need from outside: $$needs"; exit 1; }
+
 # make reference-test     the second implementation: its tests, and its own histories against its own abstract log
 .PHONY: reference-test
 reference-test:

@@ -31,6 +31,7 @@ AFTER = [
     ("the second implementation: tests and abstract log", make("reference-test")),
     ("the C functions against the second implementation", make("against")),
     ("the sums by products are vectors in the library", make("vectors-check")),
+    ("what the proved functions for C need from outside", make("needs-check")),
     ("inspection and cycles of calls against the peers in C", make("bench-check")),
     ("scripts through both implementations, 20 seconds", make("fuzz", "FUZZ_SECONDS=20", "FUZZ_SEED=1")),
 ]

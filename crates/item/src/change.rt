@@ -53,8 +53,7 @@ pub fn obeys(c: Change) -> bool
     )
 }
 
-// Moves the bytes from a place on up by n, the last one first; the last n drop off. (The compiler makes a call of
-// `memmove` of this loop, as of the library's `copy_within`: docs/LOOK-BACK.md, c.)
+// Moves the bytes from a place on up by n, the last one first; the last n drop off.
 fn raise(s: &mut [u8], at: usize, n: usize)
     requires { at + n ≤ length s.old }
     ensures { s.new

@@ -5,7 +5,7 @@ ghost use Rattle.model.specs.Bytes.{part};
 ghost use Rattle.model.specs.Checksum.{seal_image, image_sealed};
 ghost use Rattle.model.specs.Item.{image_lsn, valid_image, frame_image};
 
-use codec::field;
+use codec::{field, part};
 use model::geometry::{FIRST_TAG, Geometry, SECOND_TAG};
 use sums::byte_sum::ByteSum;
 use sums::check::Check;
@@ -69,6 +69,6 @@ pub fn store(dst: &mut [u8], frame: &[u8], g: Geometry)
     requires { (length dst.old ≡ 256) × (length frame.now ≡ 256) }
     ensures { dst.new ≡ seal_image g frame.now }
 {
-    dst.copy_from_slice(frame);
+    part::copy(dst, frame);
     seal(dst, g);
 }

@@ -7,7 +7,7 @@ ghost use Rattle.repair.specs.Walked.{view_for, log_of, walk_for, walked_for, ch
 
 use crate::Target;
 use crate::walk::Walked;
-use codec::field;
+use codec::{field, part};
 use item::{image, record};
 use model::answer::Stop;
 use volume::Volume;
@@ -17,7 +17,7 @@ fn copy_body(x: &[u8; 256], body: &mut [u8])
     requires { length body.old ≡ 244 }
     ensures { body.new ≡ image_body x.now }
 {
-    body.copy_from_slice(&x[8..252]);
+    part::copy(body, &x[8..252]);
 }
 
 // Sets the body on which a replay starts; a format replaces all of it.

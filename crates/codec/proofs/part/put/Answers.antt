@@ -10,4 +10,4 @@ pub returns : goal.returns
 returns c =
     let a = c.args in
     let e : length a.src.now ≡ a.at + length a.src.now - a.at = omega arith in
-    rw c.copy_from_slice.ensures.after (put-splice a.dst.now a.at _ a.src.now e)
+    rw c.copy.ensures (put-splice a.dst.now a.at _ a.src.now e)

@@ -4,4 +4,4 @@ use Rattle.model.specs.Checksum.{seal_image}
 use Rattle.item.proofs.image.store.Goals as goal
 
 pub returns : goal.returns
-returns c = c.seal.ensures ∙ ap (seal_image _) c.copy_from_slice.ensures.after
+returns c = c.seal.ensures ∙ ap (seal_image _) c.copy.ensures

@@ -4,4 +4,4 @@ use Rattle.repair.proofs.rebuild.copy_body.Goals as goal
 
 pub returns : goal.returns
 unfolding part
-returns c = c.copy_from_slice.ensures.after
+returns c = c.copy.ensures
