@@ -43,10 +43,12 @@ fn previous(v: &Volume<'_>, n: u32) -> u32
 fn collect(v: &Volume<'_>, top: u32, lsns: &mut [u32])
     ensures { lsns.new ≡ chain_from (length lsns.old) (log_of v.now.geometry v.now.bytes.now) top }
 {
+    // A copy, which the compiler keeps in registers.
+    let v = *v;
     let mut n = top;
     for lsn in lsns.iter_mut() {
         *lsn = n;
-        n = previous(v, n);
+        n = previous(&v, n);
     }
 }
 
@@ -57,6 +59,8 @@ fn apply(t: &Target<'_>, lsns: &[u32], body: &mut [u8])
     ensures { body.new
         ≡ replay_chain (log_of t.now.volume.geometry t.now.volume.bytes.now) lsns.now body.old }
 {
+    // A copy, which the compiler keeps in registers.
+    let t = *t;
     for n in lsns.iter().rev() {
         record::replay(t.volume.record(*n), body);
     }

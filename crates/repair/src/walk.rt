@@ -125,10 +125,12 @@ pub fn trace(v: &Volume<'_>, c: Course, from: u32) -> Traced
     ensures { result
         ≡ counted (walk_from from (log_of v.now.geometry v.now.bytes.now) c.first c.page c.own c.backup from) }
 {
+    // A copy, which the compiler keeps in registers.
+    let v = *v;
     let mut n = from;
     let mut count: u32 = 0;
     let stop = loop {
-        match look(v, c, n) {
+        match look(&v, c, n) {
             Err(stop) => break stop,
             Ok(e) => {
                 count += 1;

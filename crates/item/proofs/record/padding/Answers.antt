@@ -3,7 +3,6 @@ use mathlib.Core.Path.{◌≡◌, sym, ap, ◌∙◌}
 use Prim.Native.Nat.{ℕ, ◌+◌, ◌-◌}
 use native.Mathlib.Omega.{arith}
 use lib.Dec.{eqb}
-use Rattle.laws.proofs.Parts.{part-lent}
 use Rattle.model.specs.Bytes.{part, all_zero}
 use Rattle.item.proofs.Tails.{left-part, eight-on, eight-not, eight-last}
 use Rattle.item.proofs.record.padding.Goals as goal
@@ -15,8 +14,7 @@ returns-then-n-ge-PAYLOAD c =
     rw z
 
 pub returns-then-i-gt52 : goal.returns-then-i-gt52
-returns-then-i-gt52 c =
-    c.zero.ensures ∙ ap all_zero (part-lent c.args.r.now (16 + c.args.n) (44 - c.args.n) 60 (omega arith))
+returns-then-i-gt52 c = c.short.ensures ∙ ap (λ (k : ℕ). all_zero (part c.args.r.now (16 + c.args.n) k)) (omega arith)
 
 pub returns-then-eight-ne0 : goal.returns-then-eight-ne0
 returns-then-eight-ne0 c =
