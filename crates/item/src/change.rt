@@ -53,7 +53,8 @@ pub fn obeys(c: Change) -> bool
     )
 }
 
-// Moves the bytes from a place on up by n, the last one first; the last n drop off.
+// Moves the bytes from a place on up by n, the last one first; the last n drop off. No `copy_within`: the library writes
+// it so that the compiler finds `memmove` in it (see `codec::part::copy`).
 fn raise(s: &mut [u8], at: usize, n: usize)
     requires { at + n ≤ length s.old }
     ensures { s.new

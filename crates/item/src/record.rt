@@ -31,8 +31,8 @@ pub fn read(r: &[u8]) -> LogRecord
     }
 }
 
-// The bytes of the payload from a place on are zero, one by one: fewer than eight, for which a call of `part::zero` takes
-// twice as many instructions.
+// The payload from a place on is zero, tested byte by byte. It is called for fewer than eight bytes, where a call of
+// `part::zero` takes more than twice the instructions.
 fn short(r: &[u8], from: usize) -> bool
     requires { (60 ≤ length r.now) × (from ≤ 60) }
     ensures { result ≡ all_zero (part r.now from (60 - from)) }

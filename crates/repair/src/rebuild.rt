@@ -43,7 +43,7 @@ fn previous(v: &Volume<'_>, n: u32) -> u32
 fn collect(v: &Volume<'_>, top: u32, lsns: &mut [u32])
     ensures { lsns.new ≡ chain_from (length lsns.old) (log_of v.now.geometry v.now.bytes.now) top }
 {
-    // A copy, which the compiler keeps in registers.
+    // A copy: fields behind a reference would be read anew each turn, since the loop writes.
     let v = *v;
     let mut n = top;
     for lsn in lsns.iter_mut() {
@@ -59,7 +59,7 @@ fn apply(t: &Target<'_>, lsns: &[u32], body: &mut [u8])
     ensures { body.new
         ≡ replay_chain (log_of t.now.volume.geometry t.now.volume.bytes.now) lsns.now body.old }
 {
-    // A copy, which the compiler keeps in registers.
+    // A copy: fields behind a reference would be read anew each turn, since the loop writes.
     let t = *t;
     for n in lsns.iter().rev() {
         record::replay(t.volume.record(*n), body);

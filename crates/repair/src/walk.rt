@@ -125,7 +125,7 @@ pub fn trace(v: &Volume<'_>, c: Course, from: u32) -> Traced
     ensures { result
         ≡ counted (walk_from from (log_of v.now.geometry v.now.bytes.now) c.first c.page c.own c.backup from) }
 {
-    // A copy, which the compiler keeps in registers.
+    // A copy: fields behind the reference would be read anew each turn.
     let v = *v;
     let mut n = from;
     let mut count: u32 = 0;
