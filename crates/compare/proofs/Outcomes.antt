@@ -114,6 +114,16 @@ not-either : (a : Bool) (n k : ℕ) → n ≡ cond (not a) 1 0 → (n ≡ 0 → 
 not-either true n k e h = absurd (h e)
 not-either false n k e h = e
 
+-- where the first of two is not right, or the second is not, not both are, whatever follows
+not-first : (a b : Bool) (n k : ℕ) → n ≡ cond (not a) 1 0 → (n ≡ 0 → ⊥) → n ≡ cond (not (a && b)) 1 k
+not-first true b n k e h = absurd (h e)
+not-first false b n k e h = e
+
+not-second : (a b : Bool) (n k : ℕ) → n ≡ cond (not b) 1 0 → (n ≡ 0 → ⊥) → n ≡ cond (not (a && b)) 1 k
+not-second a true n k e h = absurd (h e)
+not-second true false n k e h = e
+not-second false false n k e h = e
+
 pub smaller-is : (x y : ℕ) → min x y ≡ smaller x y
 smaller-is x y = by_cases (leb x y) (λ t. rw t (omega (arith, leb-true x y t))) (λ t. rw t (omega (arith, leb-false x y t)))
 
@@ -219,3 +229,19 @@ module _ (v w : List ℕ) where
     pub unopened : n ≡ first_of (mirror_rows v w)
     unfolding mirror_rows
     unopened = either-row (later_rows v w)
+
+  -- a volume that is not valid is refused before anything else, whatever the rows behind that
+  module _ (n : ℕ) (some : n ≡ 0 → ⊥) where
+    pub first-row : n ≡ cond (not (valid_volume v)) 1 0 → (rows : List Row) → n ≡ first_of (either_rows v w rows)
+    first-row e rows = not-first (valid_volume v) (valid_volume w) n (first_of rows) e some
+
+    pub second-row : n ≡ cond (not (valid_volume w)) 1 0 → (rows : List Row) → n ≡ first_of (either_rows v w rows)
+    second-row e rows = not-second (valid_volume v) (valid_volume w) n (first_of rows) e some
+
+    pub first-unopened : n ≡ cond (not (valid_volume v)) 1 0 → n ≡ first_of (mirror_rows v w)
+    unfolding mirror_rows
+    first-unopened e = first-row e (later_rows v w)
+
+    pub second-unopened : n ≡ cond (not (valid_volume w)) 1 0 → n ≡ first_of (mirror_rows v w)
+    unfolding mirror_rows
+    second-unopened e = second-row e (later_rows v w)

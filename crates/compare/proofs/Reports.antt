@@ -14,7 +14,7 @@ use Rattle.model.specs.Tables.{first_of}
 use Rattle.model.specs.Geometry.{valid_volume}
 use Rattle.reports.specs.Mirror.{kind_number, count_number, flag, numbers_of, later_rows, mirror_rows, mirror_of, compare_rows, compare_of}
 use Rattle.reports.specs.declared.reading.Compared.{Compared}
-use Rattle.compare.proofs.Outcomes.{either-row}
+use Rattle.compare.proofs.Outcomes.{either-row, first-row, second-row}
 
 -- ---- the numbers
 
@@ -74,6 +74,15 @@ module _ (v w report : List ℕ) where
       → (n ≡ (compare_of v w report).refusal) × (report ≡ (compare_of v w report).report)
   unfolding compare_rows
   unread n some e = left n (either-row v w n some e ((not (eqb (length report) 66), 2) ∷ later_rows v w)) some
+
+  module _ (n : ℕ) (some : n ≡ 0 → ⊥) where
+    pub first-unread : n ≡ cond (not (valid_volume v)) 1 0 → (n ≡ (compare_of v w report).refusal) × (report ≡ (compare_of v w report).report)
+    unfolding compare_rows
+    first-unread e = left n (first-row v w n some e ((not (eqb (length report) 66), 2) ∷ later_rows v w)) some
+
+    pub second-unread : n ≡ cond (not (valid_volume w)) 1 0 → (n ≡ (compare_of v w report).refusal) × (report ≡ (compare_of v w report).report)
+    unfolding compare_rows
+    second-unread e = left n (second-row v w n some e ((not (eqb (length report) 66), 2) ∷ later_rows v w)) some
 
   -- of volumes that are valid
   module _ (x y : List ℕ) (ex : x ≡ v) (ey : y ≡ w) (ok : valid_volume x ≡ true) (ok₂ : valid_volume y ≡ true) where
