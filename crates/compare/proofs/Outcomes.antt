@@ -114,7 +114,7 @@ not-either : (a : Bool) (n k : ℕ) → n ≡ cond (not a) 1 0 → (n ≡ 0 → 
 not-either true n k e h = absurd (h e)
 not-either false n k e h = e
 
--- where the first of two is not right, or the second is not, not both are, whatever follows
+-- the refusal of the first of two, or of the second, is that of the pair, whatever follows
 not-first : (a b : Bool) (n k : ℕ) → n ≡ cond (not a) 1 0 → (n ≡ 0 → ⊥) → n ≡ cond (not (a && b)) 1 k
 not-first true b n k e h = absurd (h e)
 not-first false b n k e h = e
